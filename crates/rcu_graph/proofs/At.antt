@@ -1,14 +1,14 @@
 -- The same steps where a section is open, at a view that reads, and at one that keeps the nodes.
-use Rattle.std.proofs.Common.{◌≡◌, ℕ, suc, ◌+◌, ◌<◌, ◌≤◌, List, length, Some, None, Option, sym}
-use Rattle.std.proofs.Common.{subst}
+use Rattle.std.proofs.Common.{◌≡◌, ℕ, suc, ◌+◌, ◌<◌, ◌≤◌, List, ◌∷◌, length, Some, None, Option}
+use Rattle.std.proofs.Common.{inl, inr, sym, subst}
 use Rattle.std.specs.Prelude.{IsSome}
 use Rattle.rcu_live.specs.Client.{AllowsNumber, AllowsWord}
-use Rattle.rcu_graph.specs.Keeper.{CanLink, IsReady}
-use Rattle.rcu_graph.specs.Nodes.{IsKeeping, IsOn, IsReader, IsUnlinked, node_at, nodes_in}
-use Rattle.rcu_graph.specs.Nodes.{place_of, state_at}
+use Rattle.rcu_graph.specs.Keeper.{IsReady}
+use Rattle.rcu_graph.specs.Nodes.{IsKeeping, IsOn, IsReader, IsTarget, IsUnlinked, node_at}
+use Rattle.rcu_graph.specs.Nodes.{nodes_in, place_of, state_at}
 use Rattle.rcu_graph.specs.Rule.{IsKept}
-use Rattle.rcu_graph.specs.Steps.{IsAged, IsClaimed, IsFollowed, IsLeft, IsLinked, IsPublished}
-use Rattle.rcu_graph.specs.Steps.{IsRead, IsWritten}
+use Rattle.rcu_graph.specs.Steps.{IsAged, IsClaimed, IsFollowed, IsLeft, IsLinkWritten, IsLinked}
+use Rattle.rcu_graph.specs.Steps.{IsPublished, IsRead, IsWritten}
 use Rattle.rcu_graph.specs.declared.known.Known.{Known}
 use Rattle.rcu_graph.specs.declared.known.Known.TheVariants.{Idle, Owner, Reader, Keeper}
 use Rattle.rcu_graph.specs.declared.node_state.NodeState.TheVariants.{Free, Live}
@@ -57,27 +57,48 @@ module _ (fits : List ℕ → Type 0) (joins : ℕ → List ℕ → List ℕ →
   writes_at cpu section Idle i k place x keeps bound free low e = absurd keeps
   writes_at cpu section Owner i k place x keeps bound free low e = absurd keeps
   writes_at cpu section (Reader held) i k place x keeps bound free low e = absurd keeps
-  writes_at cpu section (Keeper t s) i k place x keeps bound free low e =
+  writes_at cpu section (Keeper t s b) i k place x keeps bound free low e =
       subst (λ (p : ℕ). AllowsWord (IsKept fits joins first roots links width count) cpu section
-      (Keeper t s) p (λ _. x) (λ _ now. IsWritten links width p (Keeper t s) x now))
-      (sym e) (writes fits joins first roots links width count cpu section t i k x s bound free low)
+      (Keeper t s b) p (λ _. x) (λ _ now. IsWritten links width p (Keeper t s b) x now))
+      (sym e)
+      (writes fits joins first roots links width count cpu section t i k x s b bound free low)
+
+  pub writes_link_at : (cpu section : Option ℕ) (was : Known) (i l place x : ℕ)
+      → IsKeeping was
+      → i < length (nodes_in was)
+      → state_at (nodes_in was) i ≡ Free
+      → l < links
+      → place ≡ place_of (links + width) i l
+      → AllowsWord (IsKept fits joins first roots links width count) cpu section was place (λ _. x)
+      (λ _ now. IsLinkWritten links width place was x now)
+  writes_link_at cpu section Idle i l place x keeps bound free low e = absurd keeps
+  writes_link_at cpu section Owner i l place x keeps bound free low e = absurd keeps
+  writes_link_at cpu section (Reader held) i l place x keeps bound free low e = absurd keeps
+  writes_link_at cpu section (Keeper t s b) i l place x keeps bound free low e =
+      subst (λ (p : ℕ). AllowsWord (IsKept fits joins first roots links width count) cpu section
+      (Keeper t s b) p (λ _. x) (λ _ now. IsLinkWritten links width p (Keeper t s b) x now))
+      (sym e)
+      (links_to fits joins first roots links width count cpu section t i l x s b (λ _. b) bound low
+      (inl free))
 
   pub links_at : (cpu section : Option ℕ) (was : Known) (i l place x : ℕ)
       → IsKeeping was
       → i < length (nodes_in was)
       → l < links
-      → CanLink (joins l) (nodes_in was) i x
+      → state_at (nodes_in was) i ≡ Live
+      → IsTarget (joins l) (node_at (nodes_in was) i).words (nodes_in was) x
       → place ≡ place_of (links + width) i l
       → AllowsWord (IsKept fits joins first roots links width count) cpu section was place (λ _. x)
       (λ _ now. IsLinked links width place was x now)
-  links_at cpu section Idle i l place x keeps bound low allowed e = absurd keeps
-  links_at cpu section Owner i l place x keeps bound low allowed e = absurd keeps
-  links_at cpu section (Reader held) i l place x keeps bound low allowed e = absurd keeps
-  links_at cpu section (Keeper t s) i l place x keeps bound low allowed e =
+  links_at cpu section Idle i l place x keeps bound low live target e = absurd keeps
+  links_at cpu section Owner i l place x keeps bound low live target e = absurd keeps
+  links_at cpu section (Reader held) i l place x keeps bound low live target e = absurd keeps
+  links_at cpu section (Keeper t s b) i l place x keeps bound low live target e =
       subst (λ (p : ℕ). AllowsWord (IsKept fits joins first roots links width count) cpu section
-      (Keeper t s) p (λ _. x) (λ _ now. IsLinked links width p (Keeper t s) x now))
+      (Keeper t s b) p (λ _. x) (λ _ now. IsLinked links width p (Keeper t s b) x now))
       (sym e)
-      (links_to fits joins first roots links width count cpu section t i l x s bound low allowed)
+      (links_to fits joins first roots links width count cpu section t i l x s b (λ n. n ∷ b) bound
+      low (inr (live, target)))
 
   pub publishes_at : (cpu section : Option ℕ) (was : Known) (i l j place x : ℕ)
       → IsKeeping was
@@ -95,11 +116,11 @@ module _ (fits : List ℕ → Type 0) (joins : ℕ → List ℕ → List ℕ →
   publishes_at cpu section Owner i l j place x keeps a b low live ready joined e is = absurd keeps
   publishes_at cpu section (Reader held) i l j place x keeps a b low live ready joined e is =
       absurd keeps
-  publishes_at cpu section (Keeper t s) i l j place x keeps a b low live ready joined e is =
+  publishes_at cpu section (Keeper t s c) i l j place x keeps a b low live ready joined e is =
       subst (λ (y : ℕ × ℕ). AllowsWord (IsKept fits joins first roots links width count) cpu section
-      (Keeper t s) y.0 (λ _. y.1) (λ _ now. IsPublished links width y.0 (Keeper t s) y.1 now))
+      (Keeper t s c) y.0 (λ _. y.1) (λ _ now. IsPublished links width y.0 (Keeper t s c) y.1 now))
       (λ z. (sym e z, sym is z))
-      (publishes fits joins first roots links width count cpu section t i l j s a b low live
+      (publishes fits joins first roots links width count cpu section t i l j s c a b low live
       ready.free ready.whole ready.led joined)
 
   pub leaves_at : (cpu section : Option ℕ) (was : Known) (i place : ℕ)
@@ -115,11 +136,11 @@ module _ (fits : List ℕ → Type 0) (joins : ℕ → List ℕ → List ℕ →
   leaves_at cpu section Idle i place keeps bound low past live unlinked e = absurd keeps
   leaves_at cpu section Owner i place keeps bound low past live unlinked e = absurd keeps
   leaves_at cpu section (Reader held) i place keeps bound low past live unlinked e = absurd keeps
-  leaves_at cpu section (Keeper t s) i place keeps bound low past live unlinked e =
+  leaves_at cpu section (Keeper t s b) i place keeps bound low past live unlinked e =
       subst (λ (p : ℕ). AllowsWord (IsKept fits joins first roots links width count) cpu section
-      (Keeper t s) p (λ n. n) (IsLeft links width p (Keeper t s)))
+      (Keeper t s b) p (λ n. n) (IsLeft links width p (Keeper t s b)))
       (sym e)
-      (leaves fits joins first roots links width count cpu section t i 0 s bound low past live
+      (leaves fits joins first roots links width count cpu section t i 0 s b bound low past live
       unlinked)
 
   pub ages_at : (cpu section : Option ℕ) (was : Known) → IsKeeping was
@@ -127,8 +148,8 @@ module _ (fits : List ℕ → Type 0) (joins : ℕ → List ℕ → List ℕ →
   ages_at cpu section Idle keeps = absurd keeps
   ages_at cpu section Owner keeps = absurd keeps
   ages_at cpu section (Reader held) keeps = absurd keeps
-  ages_at cpu section (Keeper t s) keeps =
-      ages fits joins first roots links width count cpu section t s
+  ages_at cpu section (Keeper t s b) keeps =
+      ages fits joins first roots links width count cpu section t s b
 
   pub claims_at : (cpu section : Option ℕ) (was : Known) → was ≡ Owner
       → AllowsWord (IsKept fits joins first roots links width count) cpu section was 0 (λ n. n)

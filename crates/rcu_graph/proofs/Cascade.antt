@@ -9,7 +9,7 @@ use Rattle.std.proofs.lemmas.List.Sums.{sum_by-append, sum_by-cons}
 use Rattle.rcu_live.specs.Watcher.{Watching, after_word_step}
 use Rattle.rcu_graph.specs.Counts.{counted_up, links_to, one_if, times_in}
 use Rattle.rcu_graph.specs.Graph.{word_to}
-use Rattle.rcu_graph.specs.Keeper.{IsReady, after_step}
+use Rattle.rcu_graph.specs.Keeper.{IsReady, after_step, after_store, stored_to}
 use Rattle.rcu_graph.specs.Mirror.{AreSized}
 use Rattle.rcu_graph.specs.Nodes.{IsKeeping, IsTarget, IsUnlinked, in_state, linked_to, node_at}
 use Rattle.rcu_graph.specs.Nodes.{nodes_in, renewed, state_at}
@@ -49,6 +49,14 @@ pub step_on : (a b c : Watching Planned)
     → c ≡ after_step b (nodes_in c.view.client.known)
     → c ≡ after_step a (nodes_in c.view.client.known)
 step_on a b c e f = f ∙ ap (λ (w : Watching Planned). after_step w (nodes_in c.view.client.known)) e
+
+-- a store, and steps after it
+pub trimmed_on : (a b c : Watching Planned) (stored : List Node)
+    → b ≡ stored_to a stored
+    → c ≡ after_step b (nodes_in c.view.client.known)
+    → c ≡ after_store a stored (nodes_in c.view.client.known)
+trimmed_on a b c stored e f =
+    f ∙ ap (λ (w : Watching Planned). after_step w (nodes_in c.view.client.known)) e
 
 -- where none is counted, no live node leads there
 pub none_lead : (links : ℕ) (nodes : List Node) (i : ℕ) → links_to nodes i ≡ 0

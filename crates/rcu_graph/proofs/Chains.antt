@@ -1,6 +1,6 @@
 -- Chains at one moment, and what a step of the keeper leaves of them.
 use Rattle.std.proofs.Common.{◌≡◌, ◌≢◌, ◌⊎◌, ℕ, suc, ◌<◌, ◌≤◌, List, Bool, length, refl, sym, ap}
-use Rattle.std.proofs.Common.{◌∙◌, subst, inl, inr, arith, ⊎_elim}
+use Rattle.std.proofs.Common.{◌∙◌, subst, true, inl, inr, arith}
 use Rattle.std.specs.Prelude.{IsTrue, slice_index}
 use Rattle.std.proofs.lemmas.List.{get_or_past}
 use Rattle.std.proofs.Math.Nat.{suc_inj}
@@ -8,19 +8,21 @@ use mathlib.Core.Option.{some, some-injective}
 use mathlib.Core.Logic.{dite}
 use native.Mathlib.Decide.{dec_lt, ℕ_discrete}
 use lib.ListN.{get_elem?}
+use Rattle.rcu_live.specs.Numbers.{is_open_at}
 use Rattle.atomic_table.proofs.Lists.{at_map}
 use Rattle.rcu_live.proofs.ClientRows.{at_inside, inside}
-use Rattle.rcu_graph.specs.Absence.{IsChained, IsKeeperStep, IsOnIfOurs, Reaches, arrived, key_at}
-use Rattle.rcu_graph.specs.Absence.{linked, looked, next_of, onwards, published, took_off, wrote}
+use Rattle.rcu_graph.specs.Absence.{AreSameFor, IsChained, IsKeeperStep, IsOnIfOurs, IsSameFor}
+use Rattle.rcu_graph.specs.Absence.{Reaches, arrived, aside, key_at, linked, next_of, onwards}
+use Rattle.rcu_graph.specs.Absence.{published}
 use Rattle.rcu_graph.specs.Nodes.{MayRead, aged, aged_node, in_state, linked_to, no_node, node_at}
-use Rattle.rcu_graph.specs.Nodes.{renewed, state_at, worded}
+use Rattle.rcu_graph.specs.Nodes.{renewed, state_at}
 use Rattle.rcu_graph.specs.declared.known.Node.{Node}
 use Rattle.rcu_graph.specs.declared.node_state.NodeState.{NodeState}
-use Rattle.rcu_graph.specs.declared.node_state.NodeState.TheVariants.{Free, Left, Live}
+use Rattle.rcu_graph.specs.declared.node_state.NodeState.TheVariants.{Free, Live}
 use Rattle.rcu_graph.proofs.Counting.{other_node, same_node}
 use Rattle.rcu_graph.proofs.States.{may_aged, not_both}
 
-free_unread : (opened : ℕ) (st : NodeState) → st ≡ Free → MayRead opened st → ⊥
+pub free_unread : (opened : ℕ) (st : NodeState) → st ≡ Free → MayRead opened st → ⊥
 free_unread opened st free may = subst (MayRead opened) free may
 
 -- a node that a section may be on is one of the nodes
@@ -147,10 +149,8 @@ module _ (opened : ℕ) where
   pub stays_readable : (ours : List ℕ → Bool) (root : ℕ) (before after : List Node) (j : ℕ)
       → IsKeeperStep ours opened root before after → MayRead opened (state_at before j)
       → MayRead opened (state_at after j) × ((node_at after j).words ≡ (node_at before j).words)
-  stays_readable ours root before after j (wrote i k x free is) may =
-      subst (StaysSo before j) (sym is)
-      (stays_where before i (worded k x) j may
-      (λ m. absurd (free_unread opened (state_at before i) free m)))
+  stays_readable ours root before after j (aside same) may =
+      let s = same j may in (s.0, s.2)
   stays_readable ours root before after j (linked i l x on is) may =
       subst (StaysSo before j) (sym is)
       (stays_where before i (linked_to l x) j may (λ m. (m, refl)))
@@ -159,29 +159,38 @@ module _ (opened : ℕ) where
       let first = stays_where before k (in_state Live) j may (λ m. (tt, refl)) in
       let second = stays_where mid i (linked_to l (suc k)) j first.0 (λ m. (m, refl)) in
       subst (StaysSo before j) (sym is) (second.0, second.1 ∙ first.1)
-  stays_readable ours root before after j (took_off i is) may = subst (StaysSo before j) (sym is)
-      (stays_where before i (in_state Left) j may (λ m. (tt, refl)))
-  stays_readable ours root before after j (looked n m up opens is) may =
-      let here = aged_at n m before j (is_inside opened before j may) in
-      subst (StaysSo before j) (sym is) (
-        subst (λ (v : Node). MayRead opened v.state) (sym here)
-            (may_aged opened n m (state_at before j) up opens may),
-        ap (λ (v : Node). v.words) here,
-      )
+
+  -- a node that the section may be on is the same where one node changes for none that may be on it
+  pub same_where : (nodes : List Node) (i : ℕ) (f : Node → Node)
+      → IsSameFor opened (node_at nodes i) (f (node_at nodes i))
+      → AreSameFor opened nodes (renewed nodes i f)
+  same_where nodes i f same j = dite (ℕ_discrete j i)
+      (λ (is : j ≡ i).
+      subst (λ (n : ℕ). IsSameFor opened (node_at nodes n) (node_at (renewed nodes i f) n)) (sym is)
+      (λ may. subst (λ (v : Node). MayRead opened v.state × (v.links ≡ (node_at nodes i).links)
+      × (v.words ≡ (node_at nodes i).words))
+      (sym (same_node nodes i f (is_inside opened nodes i may))) (same may)))
+      (λ (ne : j ≢ i). subst (λ (v : Node). IsSameFor opened (node_at nodes j) v)
+      (sym (other_node nodes i j f ne)) (λ may. (may, refl, refl)))
+
+  -- as where a free one changes
+  pub unseen_where_free : (nodes : List Node) (i : ℕ) (f : Node → Node) → state_at nodes i ≡ Free
+      → AreSameFor opened nodes (renewed nodes i f)
+  unseen_where_free nodes i f free = same_where nodes i f
+      (λ may. absurd (free_unread opened (state_at nodes i) free may))
+
+  -- and where the nodes age by a number at which it may be open
+  pub same_aged : (n m : ℕ) (nodes : List Node) → n ≤ m → is_open_at n opened ≡ true
+      → AreSameFor opened nodes (aged n m nodes)
+  same_aged n m nodes up opens j may =
+      subst (λ (v : Node). MayRead opened v.state × (v.links ≡ (node_at nodes j).links)
+      × (v.words ≡ (node_at nodes j).words))
+      (sym (aged_at n m nodes j (is_inside opened nodes j may)))
+      (may_aged opened n m (state_at nodes j) up opens may, refl, refl)
 
 next_else : (i y : ℕ) (f : Node → Node) (nodes : List Node) → y ≢ i
     → next_of (renewed nodes i f) y ≡ next_of nodes y
 next_else i y f nodes ne = ap (λ (v : Node). slice_index v.links 0) (other_node nodes i y f ne)
-
-next_kept : (i y : ℕ) (st : NodeState) (nodes : List Node) → y < length nodes
-    → next_of (renewed nodes i (in_state st)) y ≡ next_of nodes y
-next_kept i y st nodes low = dite (ℕ_discrete y i)
-    (λ (is : y ≡ i).
-    ap (λ (n : ℕ). next_of (renewed nodes i (in_state st)) n) is
-    ∙ (ap (λ (v : Node). slice_index v.links 0)
-    (same_node nodes i (in_state st) (subst (λ (n : ℕ). n < length nodes) is low))
-    ∙ ap (λ (n : ℕ). next_of nodes n) (sym is)))
-    (λ (ne : y ≢ i). next_else i y (in_state st) nodes ne)
 
 module _ (opened : ℕ) (ours : List ℕ → Bool) (root : ℕ) (before : List Node) (j : ℕ)
     (c : IsChained ours root before) (may : MayRead opened (state_at before j))
@@ -209,16 +218,13 @@ module _ (opened : ℕ) (ours : List ℕ → Bool) (root : ℕ) (before : List N
   -- after the step
   pub stays_or_on : (after : List Node) → IsKeeperStep ours opened root before after
       → (next_of after j ≡ next_of before j) ⊎ Reaches after j root
-  stays_or_on after (wrote i k x free is) =
-      subst IsOnStill (sym is) (inl (next_else i j (worded k x) before (not_free i free)))
+  stays_or_on after (aside same) =
+      inl (ap (λ (links : List ℕ). slice_index links 0) (same j may).1)
   stays_or_on after (linked i l x on is) =
       let now : List Node = renewed before i (linked_to l x) in
       subst IsOnStill (sym is)
       (dite (ℕ_discrete j i)
-      (λ (e : j ≡ i). ⊎_elim (λ (free : state_at before i ≡ Free). absurd (not_free i free e))
-      (λ (still : IsOnIfOurs ours root before i).
-      on_after now i e still (λ y live ne. next_else i y (linked_to l x) before ne))
-      on)
+      (λ (e : j ≡ i). on_after now i e on (λ y live ne. next_else i y (linked_to l x) before ne))
       (λ (ne : j ≢ i). inl (next_else i j (linked_to l x) before ne)))
   stays_or_on after (published i l k live free still is) =
       let mid : List Node = renewed before k (in_state Live) in
@@ -231,8 +237,3 @@ module _ (opened : ℕ) (ours : List ℕ → Bool) (root : ℕ) (before : List N
       (λ f. not_both (state_at before y) on (ap (λ (n : ℕ). state_at before n) f ∙ free))))
       (λ (ne : j ≢ i). inl (next_else i j (linked_to l (suc k)) mid ne
       ∙ next_else k j (in_state Live) before (not_free k free))))
-  stays_or_on after (took_off i is) =
-      subst IsOnStill (sym is) (inl (next_kept i j Left before (is_inside opened before j may)))
-  stays_or_on after (looked n m up opens is) = subst IsOnStill (sym is)
-      (inl (ap (λ (v : Node). slice_index v.links 0)
-      (aged_at n m before j (is_inside opened before j may))))

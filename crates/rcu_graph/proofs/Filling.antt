@@ -7,11 +7,12 @@ use Rattle.rcu_live.specs.Board.{Object}
 use Rattle.rcu_live.specs.Watcher.{Watching, after_word_step}
 use Rattle.rcu_graph.specs.Graph.{IsWatcherOf}
 use Rattle.rcu_graph.specs.Graph.{word_to}
-use Rattle.rcu_graph.specs.Keeper.{after_link, after_step, after_write}
+use Rattle.rcu_graph.specs.Keeper.{after_step, after_write, after_write_link}
 use Rattle.rcu_graph.specs.Filling.{CanFill, CanStore, after_links, after_words, with_links}
 use Rattle.rcu_graph.specs.Mirror.{with_links_to, with_words, with_words_to}
-use Rattle.rcu_graph.specs.Nodes.{IsKeeping, latest_in, linked_to, no_node, node_at, nodes_in}
+use Rattle.rcu_graph.specs.Nodes.{IsKeeping, linked_to, no_node, node_at, nodes_in}
 use Rattle.rcu_graph.specs.Nodes.{renewed, state_at}
+use Rattle.rcu_graph.specs.Steps.{keeping}
 use Rattle.rcu_graph.specs.Tended.{after_fill}
 use Rattle.rcu_graph.specs.Planned.{knowing}
 use Rattle.rcu_graph.specs.declared.known.Known.{Known}
@@ -52,11 +53,11 @@ links_all nodes i n links many size =
     ap (λ (ls : List ℕ). set nodes i (made (node_at nodes i).state ls (node_at nodes i).words))
     (mixed_all n links (node_at nodes i).links many size)
 
-pub known_is : (k : Known) → IsKeeping k → k ≡ Keeper (latest_in k) (nodes_in k)
+pub known_is : (k : Known) → IsKeeping k → k ≡ keeping k (nodes_in k)
 known_is Idle keeps = absurd keeps
 known_is Owner keeps = absurd keeps
 known_is (Reader held) keeps = absurd keeps
-known_is (Keeper latest nodes) keeps = refl
+known_is (Keeper latest nodes stored) keeps = refl
 
 -- what leads to one of so many nodes leads below each bound of their number
 pub below_more : (o : Option ℕ) (n m : ℕ) → n ≤ m → IfSome o (λ j. j < n) → IfSome o (λ j. j < m)
@@ -120,11 +121,11 @@ module _ (s : Watching Planned) (i : ℕ) where
       → k < length links
       → x ≡ get_or links k 0
       → old ≡ after_step s (renewed nodes i (with_links_to k links))
-      → new ≡ after_link old i k x
+      → new ≡ after_write_link old i k x
       → new ≡ after_step s (renewed nodes i (with_links_to (k + 1) links))
   link_filled k x links old new low inside small is was e =
-      e ∙ (ap (λ (y : ℕ). after_link old i k y) is
-      ∙ (ap (λ (w : Watching Planned). after_link w i k (get_or links k 0)) was
+      e ∙ (ap (λ (y : ℕ). after_write_link old i k y) is
+      ∙ (ap (λ (w : Watching Planned). after_write_link w i k (get_or links k 0)) was
       ∙ ap (λ (l : List Node). after_step s l) (links_more nodes i k links low inside small)))
 
   pub words_filled : (n k : ℕ) (words : List ℕ) (new : Watching Planned)

@@ -25,8 +25,9 @@ use Rattle.rcu_graph.specs.declared.node_state.NodeState.TheVariants.{Free, Live
 use Rattle.rcu_graph.proofs.Moves.{knows_held}
 use Rattle.rcu_graph.proofs.States.{live_outlived, not_both}
 
-not_reader : (known : Known) (n : ℕ) (s : List Node) → known ≡ Keeper n s → IsReader known → ⊥
-not_reader known n s e reads = subst IsReader e reads
+not_reader : (known : Known) (n : ℕ) (s : List Node) (b : List (List Node)) → known ≡ Keeper n s b
+    → IsReader known → ⊥
+not_reader known n s b e reads = subst IsReader e reads
 
 module _ (fits : List ℕ → Type 0) (joins : ℕ → List ℕ → List ℕ → Type 0) (first : ℕ → List ℕ)
     (roots links width count : ℕ) where
@@ -75,35 +76,38 @@ module _ (fits : List ℕ → Type 0) (joins : ℕ → List ℕ → List ℕ →
       ∙ sym (word_held before old xs h id i k cpu section was words at reads held low)
 
   pub not_held : (table : List ℕ) (homes : Slots (Unit {0})) (xs : Views Known)
-      (keeper id i latest : ℕ) (who own cpu section : Option ℕ) (nodes : List Node) (known : Known)
+      (keeper id i latest : ℕ) (who own cpu section : Option ℕ) (nodes : List Node)
+      (stored : List (List Node)) (known : Known)
       (words : List ℕ) (v : Node)
       → IsKept fits joins first roots links width count table homes xs
-      → get_elem? xs keeper ≡ some (who, own, Keeper latest nodes)
+      → get_elem? xs keeper ≡ some (who, own, Keeper latest nodes stored)
       → get_elem? xs id ≡ some (cpu, section, known)
       → IsReader known
       → IsHeld known i words
       → get_elem? nodes i ≡ some v
       → v.state ≢ Free
-  not_held table homes xs keeper id i latest who own cpu section nodes known words v h kept at
+  not_held table homes xs keeper id i latest who own cpu section nodes stored known words v h kept
+      at
       reads held is free =
       let r = holds_it table homes xs h id i cpu section known words at reads held in
-      let k = h.seats keeper who own (Keeper latest nodes) kept in
+      let k = h.seats keeper who own (Keeper latest nodes stored) kept in
       let same : v ≡ r.on =
       some-injective _ _ (sym is ∙ (ap (λ (s : List Node). get_elem? s i) k.1 ∙ r.here)) in
       subst (λ (st : NodeState). MayRead r.opened st) (sym (ap (λ (x : Node). x.state) same) ∙ free)
       r.may
 
   pub live_leads : (table : List ℕ) (homes : Slots (Unit {0})) (xs : Views Known)
-      (keeper i l j latest : ℕ) (who own : Option ℕ) (nodes : List Node) (v : Node)
+      (keeper i l j latest : ℕ) (who own : Option ℕ) (nodes : List Node)
+      (stored : List (List Node)) (v : Node)
       → IsKept fits joins first roots links width count table homes xs
-      → get_elem? xs keeper ≡ some (who, own, Keeper latest nodes)
+      → get_elem? xs keeper ≡ some (who, own, Keeper latest nodes stored)
       → get_elem? nodes i ≡ some v
       → v.state ≡ Live
       → l < links
       → slice_index table (place_of (links + width) i l) ≡ suc j
       → (to : Node) × (get_elem? nodes j ≡ some to) × (to.state ≡ Live) × joins l v.words to.words
-  live_leads table homes xs keeper i l j latest who own nodes v h kept at live low link =
-      let k = h.seats keeper who own (Keeper latest nodes) kept in
+  live_leads table homes xs keeper i l j latest who own nodes stored v h kept at live low link =
+      let k = h.seats keeper who own (Keeper latest nodes stored) kept in
       let here : get_elem? h.nodes i ≡ some v =
       ap (λ (s : List Node). get_elem? s i) (sym k.1) ∙ at in
       let many : length v.links ≡ links = h.kept.linked i v here in
@@ -139,10 +143,10 @@ module _ (fits : List ℕ → Type 0) (joins : ℕ → List ℕ → List ℕ →
 
   pub hop_true : (table : List ℕ) (homes : Slots (Unit {0})) (xs : Views Known)
       (keeper id i l latest : ℕ) (who own cpu section : Option ℕ) (nodes : List Node)
-      (was now : Known) (words : List ℕ)
+      (stored : List (List Node)) (was now : Known) (words : List ℕ)
       → IsKept fits joins first roots links width count table homes xs
       → IsKept fits joins first roots links width count table homes (set xs id (cpu, section, now))
-      → get_elem? xs keeper ≡ some (who, own, Keeper latest nodes)
+      → get_elem? xs keeper ≡ some (who, own, Keeper latest nodes stored)
       → get_elem? xs id ≡ some (cpu, section, was)
       → IsReader was
       → IsOn first roots was i words
@@ -154,13 +158,14 @@ module _ (fits : List ℕ → Type 0) (joins : ℕ → List ℕ → List ℕ →
       × (hop.from ≡ i)
       × (hop.link ≡ l)
       × IsTrueOf nodes hop
-  hop_true table homes xs keeper id i l latest who own cpu section nodes was now words h h' kept
+  hop_true table homes xs keeper id i l latest who own cpu section nodes stored was now words h h'
+      kept
       at reads on low told =
       let x : ℕ = slice_index table (place_of (links + width) i l) in
       let f : Followed fits (joins l words) width count was i l x now =
       told i l words low refl on in
       let hop : Hop = record { from = i; link = l; to = x; words = f.words } in
-      let k = h.seats keeper who own (Keeper latest nodes) kept in
+      let k = h.seats keeper who own (Keeper latest nodes stored) kept in
       let there = on_node table homes xs h id i cpu section was words at reads on in
       let many : length there.0.links ≡ links = h.kept.linked i there.0 there.1 in
       let found : x ≡ slice_index there.0.links l =
@@ -180,11 +185,11 @@ module _ (fits : List ℕ → Type 0) (joins : ℕ → List ℕ → List ℕ →
           → slice_index table (place_of (links + width) i l) ≡ suc j
           → f.words ≡ (node_at nodes j).words
       came f j e =
-          let apart : keeper ≢ id = λ same. not_reader was latest nodes
+          let apart : keeper ≢ id = λ same. not_reader was latest nodes stored
           (ap (λ (y : ClientView Known). y.2)
           (some-injective _ _ (sym at ∙ (ap (λ (n : ℕ). get_elem? xs n) (sym same) ∙ kept))))
           reads in
-          let still = h'.seats keeper who own (Keeper latest nodes)
+          let still = h'.seats keeper who own (Keeper latest nodes stored)
           (set_else xs id keeper (cpu, section, now) apart ∙ kept) in
           let held : IsHeld now j f.words = subst (λ (k : Known). IsHeld k j f.words) (sym f.is) (
             0,
@@ -209,16 +214,18 @@ module _ (fits : List ℕ → Type 0) (joins : ℕ → List ℕ → List ℕ →
   -- at each moment the nodes are chained, where the keys go up and a link stays in its chain
   pub chains : (ours : List ℕ → Bool) (root : ℕ) (table : List ℕ) (homes : Slots (Unit {0}))
       (xs : Views Known) (keeper latest : ℕ) (who own : Option ℕ) (nodes : List Node)
+      (stored : List (List Node))
       → IsKept fits joins first roots links width count table homes xs
-      → get_elem? xs keeper ≡ some (who, own, Keeper latest nodes)
+      → get_elem? xs keeper ≡ some (who, own, Keeper latest nodes stored)
       → Ascends joins 0
       → ((from to : List ℕ) → joins 0 from to → IsTrue (ours from) → IsTrue (ours to))
       → root < roots
       → 0 < links
       → IsTrue (ours (first root))
       → IsChained ours root nodes
-  chains ours root table homes xs keeper latest who own nodes h kept up stays low some_link mine =
-      let k = h.seats keeper who own (Keeper latest nodes) kept in
+  chains ours root table homes xs keeper latest who own nodes stored h kept up stays low some_link
+      mine =
+      let k = h.seats keeper who own (Keeper latest nodes stored) kept in
       let r = h.kept.rooted root low in
       let here : node_at nodes root ≡ r.0 =
       ap (λ (s : List Node). node_at s root) k.1 ∙ is_there h.nodes root r.0 r.1 in
@@ -242,7 +249,7 @@ module _ (fits : List ℕ → Type 0) (joins : ℕ → List ℕ → List ℕ →
       next : (i j : ℕ) → state_at nodes i ≡ Live → slice_index (node_at nodes i).links 0 ≡ suc j
           → (state_at nodes j ≡ Live) × joins 0 (node_at nodes i).words (node_at nodes j).words
       next i j live link =
-          let k = h.seats keeper who own (Keeper latest nodes) kept in
+          let k = h.seats keeper who own (Keeper latest nodes stored) kept in
           let at : get_elem? h.nodes i ≡ some (node_at nodes i) =
           ap (λ (s : List Node). get_elem? s i) (sym k.1) ∙ there i live in
           let many : length (node_at nodes i).links ≡ links =
@@ -252,7 +259,8 @@ module _ (fits : List ℕ → Type 0) (joins : ℕ → List ℕ → List ℕ →
           ∙ (get_or_append_left (node_at nodes i).links (node_at nodes i).words 0 0
           (omega (arith, some_link, many))
           ∙ link) in
-          let t = live_leads table homes xs keeper i 0 j latest who own nodes (node_at nodes i) h
+          let t = live_leads table homes xs keeper i 0 j latest who own nodes stored
+          (node_at nodes i) h
           kept (there i live) live some_link word in
           let to : node_at nodes j ≡ t.0 = is_there nodes j t.0 t.1 in (
             ap (λ (v : Node). v.state) to ∙ t.2,

@@ -1,6 +1,6 @@
 -- A search does not pass a key that is linked from the section's beginning to the search's end.
-use Rattle.std.proofs.Common.{◌≡◌, ℕ, zero, suc, ◌+◌, ◌-◌, ◌<◌, ◌≤◌, List, [], ◌∷◌, Bool, Option}
-use Rattle.std.proofs.Common.{Some, None, refl, sym, ap, ◌∙◌, subst, arith, ⊎_elim}
+use Rattle.std.proofs.Common.{◌≡◌, ◌⊎◌, ℕ, zero, suc, ◌+◌, ◌-◌, ◌<◌, ◌≤◌, List, [], ◌∷◌, Bool}
+use Rattle.std.proofs.Common.{Option, Some, None, refl, sym, ap, ◌∙◌, subst, arith, ⊎_elim}
 use Rattle.std.proofs.Math.Nat.{suc_inj}
 use Rattle.std.specs.Prelude.{IsSome, IsTrue, slice_index}
 use Rattle.rcu_graph.specs.Absence.{AreMadeBy, IsHistory, IsLinkedKey, IsTrueOf, Reaches, arrived}
@@ -17,9 +17,8 @@ use Rattle.rcu_graph.proofs.Chains.{leads_on, live_to, stays_or_on, stays_readab
 may_live : (opened : ℕ) (st : NodeState) → st ≡ Live → MayRead opened st
 may_live opened st live = subst (MayRead opened) (sym live) tt
 
-module _ (ours : List ℕ → Bool) (opened root key last : ℕ) (nodes : ℕ → List Node)
-    (history : IsHistory ours opened root last nodes)
-    (linked : (t : ℕ) → t ≤ last → IsLinkedKey root key (nodes t)) where
+module _ (ours : List ℕ → Bool) (opened root last : ℕ) (nodes : ℕ → List Node)
+    (history : IsHistory ours opened root last nodes) where
   -- a node that was on the chain at one moment is one that the section may be on, with its words,
   -- at each later one
   stays : (j s d t : ℕ)
@@ -49,6 +48,148 @@ module _ (ours : List ℕ → Bool) (opened root key last : ℕ) (nodes : ℕ �
       × ((node_at (nodes n) j).words ≡ (node_at (nodes s) j).words))
       next (then.0, then.1 ∙ was.1)
 
+  -- a node that was on the chain leads on as it did, or is on the chain again
+  stays_or_returns : (j s d : ℕ) → s + d < last → Reaches (nodes s) j root
+      → (next_of (nodes (suc (s + d))) j ≡ next_of (nodes (s + d)) j)
+      ⊎ Reaches (nodes (suc (s + d))) j root
+  stays_or_returns j s d under r =
+      let u : ℕ = s + d in
+      let below : u ≤ last = omega (arith, under) in
+      let mine = stays j s d u refl below r in
+      let start = history.chained s (omega (arith, under)) in
+      let own : IsTrue (ours (node_at (nodes s) j).words) =
+      (live_to (nodes s) ours root start j root r start.rooted).2 start.own in
+      stays_or_on opened ours root (nodes u) j (history.chained u below) mine.0
+      (subst (λ (words : List ℕ). IsTrue (ours words)) (sym mine.1) own) (nodes (suc u))
+      (history.steps u under)
+
+  -- by this moment the node was on the chain
+  record WasOn (t j : ℕ) : Type 0 where
+    pub seen : ℕ
+    pub by : seen ≤ t
+    pub reached : Reaches (nodes seen) j root
+
+  -- or behind the root
+  record WasBehind (t j : ℕ) : Type 0 where
+    pub seen : ℕ
+    pub by : seen ≤ t
+    pub begin : ℕ
+    pub begins : next_of (nodes seen) root ≡ suc begin
+    pub reached : Reaches (nodes seen) j begin
+
+  further : (now : List Node) (j to from : ℕ) → next_of now j ≡ suc to → Reaches now j from
+      → Reaches now to from
+  further now j to from leads (arrived _ e) =
+      onwards from to (ap (next_of now) e ∙ leads) (arrived to refl)
+  further now j to from leads (onwards _ n is r) =
+      onwards from n is (further now j to n leads r)
+
+  behind_now : (t j to : ℕ) → next_of (nodes t) j ≡ suc to → Reaches (nodes t) j root
+      → WasBehind t to
+  behind_now t j to leads (arrived _ e) = record {
+    seen = t;
+    by = omega arith;
+    begin = to;
+    begins = ap (next_of (nodes t)) e ∙ leads;
+    reached = arrived to refl;
+  }
+  behind_now t j to leads (onwards _ n is r) = record {
+    seen = t;
+    by = omega arith;
+    begin = n;
+    begins = is;
+    reached = further (nodes t) j to n leads r;
+  }
+
+  -- to where a node leads that was on the chain, the chain led
+  led_behind : (j s d t to : ℕ)
+      → t ≡ s + d → t ≤ last → Reaches (nodes s) j root → next_of (nodes t) j ≡ suc to
+      → WasBehind t to
+  led_behind j s zero t to e up r leads =
+      let now : t ≡ s = omega (arith, e) in
+      subst (λ (n : ℕ). WasBehind n to) (sym now)
+      (behind_now s j to (subst (λ (n : ℕ). next_of (nodes n) j ≡ suc to) now leads) r)
+  led_behind j s (suc d) t to e up r leads =
+      let u : ℕ = s + d in
+      let next : t ≡ suc u = omega (arith, e) in
+      let under : u < last = omega (arith, e, up) in
+      let here : next_of (nodes (suc u)) j ≡ suc to =
+      subst (λ (n : ℕ). next_of (nodes n) j ≡ suc to) next leads in
+      subst (λ (n : ℕ). WasBehind n to) (sym next)
+      (⊎_elim
+      (λ (kept : next_of (nodes (suc u)) j ≡ next_of (nodes u) j).
+      let was : WasBehind u to =
+      led_behind j s d u to refl (omega (arith, under)) r (sym kept ∙ here) in
+      let b = was.by in record {
+        seen = was.seen;
+        by = omega (arith, b);
+        begin = was.begin;
+        begins = was.begins;
+        reached = was.reached;
+      })
+      (λ (on : Reaches (nodes (suc u)) j root). behind_now (suc u) j to here on)
+      (stays_or_returns j s d under r))
+
+  hop_behind : (u t : ℕ) (hop : Hop) (to : ℕ)
+      → u ≤ t → t ≤ last → WasOn u hop.from → hop.link ≡ 0 → hop.to ≡ suc to
+      → IsTrueOf (nodes t) hop
+      → WasBehind t to
+  hop_behind u t hop to up end p along is true =
+      let b = p.by in
+      led_behind hop.from p.seen (t - p.seen) t to (omega (arith, b, up)) end p.reached
+      (sym (ap (λ (l : ℕ). slice_index (node_at (nodes t) hop.from).links l) along)
+      ∙ (sym true.to ∙ is))
+
+  was_on : (key : ℕ) (path : List Hop) (node t : ℕ)
+      → t ≤ last → IsPath root key path node → AreMadeBy nodes t path → WasOn t node
+  was_on key [] node t end is made = record {
+    seen = 0;
+    by = omega arith;
+    reached = arrived root (sym is);
+  }
+  was_on key (hop ∷ before) node t end is made =
+      let when : ℕ = made.0 in
+      let by : when ≤ t = made.1 in
+      let p : WasOn when hop.from =
+      was_on key before hop.from when (omega (arith, by, end)) is.3 made.3 in
+      let w : WasBehind when node = hop_behind when when hop node (omega arith)
+      (omega (arith, by, end)) p is.1 is.0 made.2 in
+      let b = w.by in record {
+        seen = w.seen;
+        by = omega (arith, b, by);
+        reached = onwards root w.begin w.begins w.reached;
+      }
+
+  pub was_linked : (key : ℕ) (was now : Known) (node : ℕ)
+      (search : IsSearched root key was (Some node) now)
+      → AreMadeBy nodes last (search.last ∷ search.path)
+      → (t : ℕ) × (t ≤ last) × IsLinkedKey root key (nodes t)
+  was_linked key was now node search made =
+      let hop : Hop = search.last in
+      let when : ℕ = made.0 in
+      let p : WasOn when hop.from =
+      was_on key search.path hop.from when made.1 search.is_path made.3 in
+      let w : WasBehind when node = hop_behind when when hop node (omega arith) made.1 p
+      search.along search.decided.0 made.2 in
+      let b = w.by in
+      let kept = stays node w.seen (when - w.seen) when (omega (arith, b)) made.1
+      (onwards root w.begin w.begins w.reached) in (
+        w.seen,
+        let low = made.1 in omega (arith, b, low),
+        record {
+          begin = w.begin;
+          holder = node;
+          begins = w.begins;
+          reached = w.reached;
+          has = ap (λ (words : List ℕ). slice_index words 0)
+              (sym kept.1 ∙ sym (made.2.words node search.decided.0))
+              ∙ search.decided.1;
+        },
+      )
+
+module _ (ours : List ℕ → Bool) (opened root key last : ℕ) (nodes : ℕ → List Node)
+    (history : IsHistory ours opened root last nodes)
+    (linked : (t : ℕ) → t ≤ last → IsLinkedKey root key (nodes t)) where
   -- at this moment the node j leads to one that was on the chain by then, with a key that is at
   -- most the one sought
   record LeadsOn (t j : ℕ) : Type 0 where
@@ -88,11 +229,8 @@ module _ (ours : List ℕ → Bool) (opened root key last : ℕ) (nodes : ℕ �
       let below : u ≤ last = omega (arith, e, up) in
       let under : u < last = omega (arith, e, up) in
       let was : LeadsOn u j = leads_later j s d u refl below r low in
-      let mine = stays j s d u refl below r in
-      let start = history.chained s (omega (arith, e, up)) in
-      let own : IsTrue (ours (node_at (nodes s) j).words) =
-      (live_to (nodes s) ours root start j root r start.rooted).2 start.own in
-      let after = stays j s (suc d) (suc u) (omega arith) (omega (arith, under)) r in
+      let after = stays ours opened root last nodes history j s (suc d) (suc u) (omega arith)
+      (omega (arith, under)) r in
       let same : key_at (nodes (suc u)) j ≡ key_at (nodes s) j =
       ap (λ (words : List ℕ). slice_index words 0) after.1 in
       subst (λ (n : ℕ). LeadsOn n j) next
@@ -107,9 +245,7 @@ module _ (ours : List ℕ → Bool) (opened root key last : ℕ) (nodes : ℕ �
       })
       (λ (on : Reaches (nodes (suc u)) j root).
       leads_now (suc u) j (omega (arith, under)) on (omega (arith, same, low)))
-      (stays_or_on opened ours root (nodes u) j (history.chained u below) mine.0
-      (subst (λ (words : List ℕ). IsTrue (ours words)) (sym mine.1) own) (nodes (suc u))
-      (history.steps u under)))
+      (stays_or_returns ours opened root last nodes history j s d under r))
 
   -- by this moment the node j was on the chain, and had a key below the one sought
   record IsPassed (t j : ℕ) : Type 0 where
@@ -153,7 +289,8 @@ module _ (ours : List ℕ → Bool) (opened root key last : ℕ) (nodes : ℕ �
       let is : hop.to ≡ suc n.to =
       true.to ∙ (ap (λ (l : ℕ). slice_index (node_at (nodes t) hop.from).links l) along ∙ n.is) in
       let m = n.by in
-      let kept = stays n.to n.seen (t - n.seen) t (omega (arith, m)) end n.reached in record {
+      let kept = stays ours opened root last nodes history n.to n.seen (t - n.seen) t
+      (omega (arith, m)) end n.reached in record {
         to = n.to;
         is = is;
         seen = n.seen;

@@ -1,5 +1,5 @@
 -- Who keeps the nodes keeps them after each of its steps.
-use Rattle.std.proofs.Common.{◌≡◌, ℕ, List, length, refl, sym, ap, ◌∙◌, subst}
+use Rattle.std.proofs.Common.{◌≡◌, ℕ, List, [], length, refl, sym, ap, ◌∙◌, subst}
 use Rattle.std.proofs.lemmas.List.FromFn.{length-map-range_with_len}
 use Rattle.rcu_live.specs.Board.{Object}
 use Rattle.rcu_live.specs.Watcher.{Watching, after_word_step, watcher_at_first}
@@ -20,19 +20,22 @@ pub watches_on : (graph : Object Plan) (s : Watching Planned) (known : Known)
 watches_on graph s known w = record { engine = w.engine; planned = w.planned }
 
 pub keeps_on : (graph : Object Plan) (old new : Watching Planned) (latest : ℕ)
-    (nodes : List Node)
+    (nodes : List Node) (stored : List (List Node))
     → new ≡ after_word_step old new.view.client
     → new.view.client.plan ≡ old.view.client.plan
-    → new.view.client.known ≡ Keeper latest nodes
+    → new.view.client.known ≡ Keeper latest nodes stored
     → length nodes ≡ graph.plan.nodes
     → IsKeeperOf graph old
     → IsKeeperOf graph new
-keeps_on graph old new latest nodes same stays is few k =
-    let after : Planned = record { plan = old.view.client.plan; known = Keeper latest nodes } in
+keeps_on graph old new latest nodes stored same stays is few k =
+    let after : Planned = record {
+      plan = old.view.client.plan;
+      known = Keeper latest nodes stored;
+    } in
     let both : new.view.client ≡ after = λ i. record { plan = stays i; known = is i } in
     subst (IsKeeperOf graph) (sym (same ∙ ap (λ (c : Planned). after_word_step old c) both))
     (record {
-      watches = watches_on graph old (Keeper latest nodes) k.watches;
+      watches = watches_on graph old (Keeper latest nodes stored) k.watches;
       role = k.role;
       keeps = tt;
       few = few;
@@ -47,14 +50,15 @@ pub keeps_first : (plan : Plan) (cpus : ℕ) (first : ℕ → List ℕ) (graph :
     → seat ≡ after_word_step own
     (knowing own.view.client
     (Keeper 0
-    (first_nodes graph.plan.links graph.plan.words first graph.plan.roots graph.plan.nodes)))
+    (first_nodes graph.plan.links graph.plan.words first graph.plan.roots graph.plan.nodes)
+    []))
     → IsKeeperOf graph seat
 keeps_first plan cpus first graph own seat many same first_seat is =
     let p : Plan = graph.plan in
     let nodes : List Node = first_nodes p.links p.words first p.roots p.nodes in
     subst (IsKeeperOf graph)
     (sym (is ∙ ap (λ (w : Watching Planned).
-    after_word_step w (knowing w.view.client (Keeper 0 nodes))) first_seat))
+    after_word_step w (knowing w.view.client (Keeper 0 nodes []))) first_seat))
     (record {
       watches = record { engine = (refl, ap base_of (sym many)); planned = sym same };
       role = refl;

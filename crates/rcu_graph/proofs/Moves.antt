@@ -19,7 +19,7 @@ use Rattle.rcu_graph.specs.Nodes.{aged, aged_node, first_nodes, first_place, hop
 use Rattle.rcu_graph.specs.Nodes.{linked_to, no_node, node_at, place_of, renewed, row_of, worded}
 use Rattle.rcu_graph.specs.Rule.{AreKept, IsKept, Knows, Leads, Reading}
 use Rattle.rcu_graph.specs.Stability.{SeatKnows, one_changes}
-use Rattle.rcu_graph.specs.Steps.{Followed, IsAged, IsClaimed, IsFollowed, IsLeft, IsLinked}
+use Rattle.rcu_graph.specs.Steps.{Followed, IsAged, IsClaimed, IsFollowed, IsLeft}
 use Rattle.rcu_graph.specs.Steps.{IsPublished, IsRead, IsWritten}
 use Rattle.rcu_graph.specs.declared.known.Hop.{Hop}
 use Rattle.rcu_graph.specs.declared.known.Known.{Known}
@@ -45,7 +45,7 @@ module _ (fits : List ℕ → Type 0) (joins : ℕ → List ℕ → List ℕ →
       absurd (some-ne-none h.1 (sym h.2))
   knows_held nodes latest keeper id section Owner reads k i words h = absurd reads
   knows_held nodes latest keeper id section (Reader hops) reads k i words h = k i words h
-  knows_held nodes latest keeper id section (Keeper l s) reads k i words h = absurd reads
+  knows_held nodes latest keeper id section (Keeper l s b) reads k i words h = absurd reads
 
   -- and after one hop more
   one_more : (nodes : List Node) (section : Option ℕ) (hop : Hop) (hops : List Hop)
@@ -245,20 +245,20 @@ module _ (fits : List ℕ → Type 0) (joins : ℕ → List ℕ → List ℕ →
       (cpu section : Option ℕ) (known : Known)
       → get_elem? xs id ≡ some (cpu, section, known)
       → h.keeper ≡ id
-      → (t : ℕ) (s : List Node)
+      → (t : ℕ) (s : List Node) (stored : List (List Node))
       → AreKept fits joins first roots links width count new s t
       → ((j at i : ℕ) (who : Option ℕ) (d : Known) (u : Node)
       → get_elem? xs j ≡ some (who, Some at, d) → get_elem? h.nodes i ≡ some u → MayRead at u.state
       → (w : Node) × (get_elem? s i ≡ some w) × (w.words ≡ u.words) × MayRead at w.state)
       → IsKept fits joins first roots links width count new homes
-      (set xs id (cpu, section, Keeper t s))
-  rekeep ws new homes xs h id cpu section known at is_keeper t s kept goes = record {
+      (set xs id (cpu, section, Keeper t s stored))
+  rekeep ws new homes xs h id cpu section known at is_keeper t s stored kept goes = record {
     nodes = s;
     latest = t;
     keeper = id;
     kept = kept;
     seats = λ j who o d e. reseat (SeatKnows first roots links width count s t id) xs id
-        (cpu, section, Keeper t s) (refl, refl, refl)
+        (cpu, section, Keeper t s stored) (refl, refl, refl)
         (λ i y apart f. other i y.0 y.1 y.2 apart f (h.seats i y.0 y.1 y.2 f)) j (who, o, d) e;
   }
     where
@@ -280,25 +280,27 @@ module _ (fits : List ℕ → Type 0) (joins : ℕ → List ℕ → List ℕ →
             same = q.2 ∙ r.same;
             may = q.3;
           }
-      other j who o (Keeper c l) apart e k = absurd (apart (sym k.2 ∙ is_keeper))
+      other j who o (Keeper c l b) apart e k = absurd (apart (sym k.2 ∙ is_keeper))
 
   -- the same where one node changes
   renews : (ws new : List ℕ) (homes : Slots (Unit {0})) (xs : Views Known)
       (h : IsKept fits joins first roots links width count ws homes xs) (id : ℕ)
-      (cpu section : Option ℕ) (t : ℕ) (s : List Node) (i : ℕ) (v w : Node)
-      → get_elem? xs id ≡ some (cpu, section, Keeper t s)
+      (cpu section : Option ℕ) (t : ℕ) (s : List Node) (b stored : List (List Node)) (i : ℕ)
+      (v w : Node)
+      → get_elem? xs id ≡ some (cpu, section, Keeper t s b)
       → get_elem? s i ≡ some v
       → (AreKept fits joins first roots links width count ws s t → AreKept fits joins first roots
       links width count new (set s i w) t)
       → ((at : ℕ) → MayRead at v.state → (w.words ≡ v.words) × MayRead at w.state)
       → IsKept fits joins first roots links width count new homes
-      (set xs id (cpu, section, Keeper t (set s i w)))
-  renews ws new homes xs h id cpu section t s i v w there at keeps stay =
-      let k = h.seats id cpu section (Keeper t s) there in
+      (set xs id (cpu, section, Keeper t (set s i w) stored))
+  renews ws new homes xs h id cpu section t s b stored i v w there at keeps stay =
+      let k = h.seats id cpu section (Keeper t s b) there in
       let was : AreKept fits joins first roots links width count ws s t =
       subst (λ (y : List Node × ℕ). AreKept fits joins first roots links width count ws y.0 y.1)
       (λ z. (sym k.1 z, sym k.0 z)) h.kept in
-      rekeep ws new homes xs h id cpu section (Keeper t s) there k.2 t (set s i w) (keeps was)
+      rekeep ws new homes xs h id cpu section (Keeper t s b) there k.2 t (set s i w) stored
+      (keeps was)
       (λ j a q who d u e here may. dite (ℕ_discrete q i)
       (λ (is : q ≡ i).
       let same : u ≡ v = some-injective _ _
@@ -319,19 +321,19 @@ module _ (fits : List ℕ → Type 0) (joins : ℕ → List ℕ → List ℕ →
       )))
 
   -- a word of a free node is stored
-  pub writes : (cpu section : Option ℕ) (t i k x : ℕ) (s : List Node)
+  pub writes : (cpu section : Option ℕ) (t i k x : ℕ) (s : List Node) (b : List (List Node))
       → i < length s
       → (node_at s i).state ≡ Free
       → k < width
-      → AllowsWord (IsKept fits joins first roots links width count) cpu section (Keeper t s)
+      → AllowsWord (IsKept fits joins first roots links width count) cpu section (Keeper t s b)
       (place_of (links + width) i (links + k)) (λ _. x)
-      (λ _ now. IsWritten links width (place_of (links + width) i (links + k)) (Keeper t s) x now)
-  writes cpu section t i k x s bound free low n ws homes xs id h are lone there =
+      (λ _ now. IsWritten links width (place_of (links + width) i (links + k)) (Keeper t s b) x now)
+  writes cpu section t i k x s b bound free low n ws homes xs id h are lone there =
       let v : Node = node_at s i in
       let at : get_elem? s i ≡ some v = at_inside s i no_node bound in (
-        Keeper t (set s i (worded k x v)),
+        Keeper t (set s i (worded k x v)) b,
         renews ws (set ws (place_of (links + width) i (links + k)) x) homes xs h id cpu section t s
-            i v (worded k x v) there at
+            b b i v (worded k x v) there at
             (λ was.
             word_stored fits joins first roots links width count ws s t i k x v was at low free)
             (λ a may. absurd (subst (MayRead a) free may)),
@@ -341,24 +343,28 @@ module _ (fits : List ℕ → Type 0) (joins : ℕ → List ℕ → List ℕ →
             let both : links + k ≡ links + k' =
             word_told first_place (links + width) i i' (links + k) (links + k') one e in
             let two : k ≡ k' = omega (arith, both) in
-            ap (λ (y : ℕ × ℕ). Keeper t (renewed s y.0 (worded y.1 x))) (λ z. (one z, two z)),
+            ap (λ (y : ℕ × ℕ). Keeper t (renewed s y.0 (worded y.1 x)) b) (λ z. (one z, two z)),
       )
 
-  -- a link is stored: of a free node, or of a live one, which leads nowhere or to a live one then
-  pub links_to : (cpu section : Option ℕ) (t i l x : ℕ) (s : List Node)
+  -- a link is stored: of a free node, or of a live one, which leads nowhere or to a live one then.
+  -- What the keeper knows of such stores is this then
+  pub links_to : (cpu section : Option ℕ) (t i l x : ℕ) (s : List Node) (b : List (List Node))
+      (stored : List Node → List (List Node))
       → i < length s
       → l < links
       → ((node_at s i).state ≡ Free)
       ⊎ (((node_at s i).state ≡ Live) × IsTarget (joins l) (node_at s i).words s x)
-      → AllowsWord (IsKept fits joins first roots links width count) cpu section (Keeper t s)
+      → AllowsWord (IsKept fits joins first roots links width count) cpu section (Keeper t s b)
       (place_of (links + width) i l) (λ _. x)
-      (λ _ now. IsLinked links width (place_of (links + width) i l) (Keeper t s) x now)
-  links_to cpu section t i l x s bound low allowed n ws homes xs id h are lone there =
+      (λ _ now. (i' l' : ℕ) → l' < links
+      → place_of (links + width) i l ≡ place_of (links + width) i' l'
+      → now ≡ Keeper t (renewed s i' (linked_to l' x)) (stored (renewed s i' (linked_to l' x))))
+  links_to cpu section t i l x s b stored bound low allowed n ws homes xs id h are lone there =
       let v : Node = node_at s i in
       let at : get_elem? s i ≡ some v = at_inside s i no_node bound in (
-        Keeper t (set s i (linked_to l x v)),
-        renews ws (set ws (place_of (links + width) i l) x) homes xs h id cpu section t s i v
-            (linked_to l x v) there at
+        Keeper t (set s i (linked_to l x v)) (stored (set s i (linked_to l x v))),
+        renews ws (set ws (place_of (links + width) i l) x) homes xs h id cpu section t s b
+            (stored (set s i (linked_to l x v))) i v (linked_to l x v) there at
             (λ was.
             link_stored fits joins first roots links width count ws s t i l x v was at low allowed)
             (λ a may. (refl, may)),
@@ -366,11 +372,12 @@ module _ (fits : List ℕ → Type 0) (joins : ℕ → List ℕ → List ℕ →
             let one : i ≡ i' = row_told first_place (links + width) i i' l l' (omega (arith, low))
             (omega (arith, low')) e in
             let two : l ≡ l' = word_told first_place (links + width) i i' l l' one e in
-            ap (λ (y : ℕ × ℕ). Keeper t (renewed s y.0 (linked_to y.1 x))) (λ z. (one z, two z)),
+            ap (λ (y : ℕ × ℕ). Keeper t (renewed s y.0 (linked_to y.1 x))
+            (stored (renewed s y.0 (linked_to y.1 x)))) (λ z. (one z, two z)),
       )
 
   -- a live node is linked to a free one, which is live then
-  pub publishes : (cpu section : Option ℕ) (t i l j : ℕ) (s : List Node)
+  pub publishes : (cpu section : Option ℕ) (t i l j : ℕ) (s : List Node) (b : List (List Node))
       → i < length s
       → j < length s
       → l < links
@@ -380,10 +387,10 @@ module _ (fits : List ℕ → Type 0) (joins : ℕ → List ℕ → List ℕ →
       → ((m : ℕ) → m < links → IsTarget (joins m) (node_at s j).words s
       (slice_index (node_at s j).links m))
       → joins l (node_at s i).words (node_at s j).words
-      → AllowsWord (IsKept fits joins first roots links width count) cpu section (Keeper t s)
+      → AllowsWord (IsKept fits joins first roots links width count) cpu section (Keeper t s b)
       (place_of (links + width) i l) (λ _. suc j)
-      (λ _ now. IsPublished links width (place_of (links + width) i l) (Keeper t s) (suc j) now)
-  publishes cpu section t i l j s bound low_j low live free fit targets joined n ws homes xs id h
+      (λ _ now. IsPublished links width (place_of (links + width) i l) (Keeper t s b) (suc j) now)
+  publishes cpu section t i l j s b bound low_j low live free fit targets joined n ws homes xs id h
       are lone there =
       let u : Node = node_at s j in
       let at_j : get_elem? s j ≡ some u = at_inside s j no_node low_j in
@@ -395,15 +402,16 @@ module _ (fits : List ℕ → Type 0) (joins : ℕ → List ℕ → List ℕ →
       let at : get_elem? s₁ i ≡ some v = at_inside s₁ i no_node
       (let q = length-set s j (in_state Live u) in omega (arith, q, bound)) in
       let w : Node = linked_to l (suc j) v in
-      let xs₁ : Views Known = set xs id (cpu, section, Keeper t s₁) in
+      let xs₁ : Views Known = set xs id (cpu, section, Keeper t s₁ b) in
       let p : ℕ = place_of (links + width) i l in
       let mid : IsKept fits joins first roots links width count ws homes xs₁ =
-      renews ws ws homes xs h id cpu section t s j u (in_state Live u) there at_j
+      renews ws ws homes xs h id cpu section t s b b j u (in_state Live u) there at_j
       (λ was.
       promoted fits joins first roots links width count ws s t j u was at_j free fit targets)
       (λ a may. absurd (subst (MayRead a) free may)) in
-      let there₁ : get_elem? xs₁ id ≡ some (cpu, section, Keeper t s₁) =
-      set_here xs id (cpu, section, Keeper t s₁) (inside xs id (cpu, section, Keeper t s) there) in
+      let there₁ : get_elem? xs₁ id ≡ some (cpu, section, Keeper t s₁ b) =
+      set_here xs id (cpu, section, Keeper t s₁ b)
+      (inside xs id (cpu, section, Keeper t s b) there) in
       let target : IsTarget (joins l) v.words s₁ (suc j) = λ k e.
       let is : k ≡ j = suc_inj (sym e) in (
         in_state Live u,
@@ -412,63 +420,67 @@ module _ (fits : List ℕ → Type 0) (joins : ℕ → List ℕ → List ℕ →
         subst (λ (x : Node). joins l x.words u.words) (sym same) joined,
       ) in
       let after : IsKept fits joins first roots links width count (set ws p (suc j)) homes
-      (set xs₁ id (cpu, section, Keeper t (set s₁ i w))) =
-      renews ws (set ws p (suc j)) homes xs₁ mid id cpu section t s₁ i v w there₁ at
+      (set xs₁ id (cpu, section, Keeper t (set s₁ i w) (set s₁ i w ∷ b))) =
+      renews ws (set ws p (suc j)) homes xs₁ mid id cpu section t s₁ b (set s₁ i w ∷ b) i v w
+      there₁ at
       (λ was. link_stored fits joins first roots links width count ws s₁ t i l (suc j) v was at low
       (inr (ap (λ (x : Node). x.state) same ∙ live, target)))
       (λ a may. (refl, may)) in (
-        Keeper t (set s₁ i w),
+        Keeper t (set s₁ i w) (set s₁ i w ∷ b),
         subst (λ (l : Views Known).
             IsKept fits joins first roots links width count (set ws p (suc j)) homes l)
-            (set-set xs id (cpu, section, Keeper t s₁) (cpu, section, Keeper t (set s₁ i w))) after,
+            (set-set xs id (cpu, section, Keeper t s₁ b)
+            (cpu, section, Keeper t (set s₁ i w) (set s₁ i w ∷ b))) after,
         λ i' l' j' low' e f.
             let one : i ≡ i' = row_told first_place (links + width) i i' l l' (omega (arith, low))
             (omega (arith, low')) e in
             let two : l ≡ l' = word_told first_place (links + width) i i' l l' one e in
             let three : j ≡ j' = suc_inj f in
             ap (λ (y : ℕ × ℕ × ℕ).
-            Keeper t (renewed (renewed s y.2 (in_state Live)) y.0 (linked_to y.1 (suc j))))
+            let n = renewed (renewed s y.2 (in_state Live)) y.0 (linked_to y.1 (suc j)) in
+            Keeper t n (n ∷ b))
             (λ z. (one z, two z, three z)),
       )
 
   -- a live node to which no live one leads is left
-  pub leaves : (cpu section : Option ℕ) (t i k : ℕ) (s : List Node)
+  pub leaves : (cpu section : Option ℕ) (t i k : ℕ) (s : List Node) (b : List (List Node))
       → i < length s
       → k < links + width
       → roots ≤ i
       → (node_at s i).state ≡ Live
       → IsUnlinked links s i
-      → AllowsWord (IsKept fits joins first roots links width count) cpu section (Keeper t s)
+      → AllowsWord (IsKept fits joins first roots links width count) cpu section (Keeper t s b)
       (place_of (links + width) i k) (λ n. n)
-      (IsLeft links width (place_of (links + width) i k) (Keeper t s))
-  leaves cpu section t i k s bound low past live unlinked n ws homes xs id h are lone there =
+      (IsLeft links width (place_of (links + width) i k) (Keeper t s b))
+  leaves cpu section t i k s b bound low past live unlinked n ws homes xs id h are lone there =
       let v : Node = node_at s i in
       let p : ℕ = place_of (links + width) i k in
       let at : get_elem? s i ≡ some v = at_inside s i no_node bound in (
-        Keeper t (set s i (in_state Left v)),
+        Keeper t (set s i (in_state Left v)) b,
         subst (λ (cells : List ℕ). IsKept fits joins first roots links width count cells homes
-            (set xs id (cpu, section, Keeper t (set s i (in_state Left v)))))
+            (set xs id (cpu, section, Keeper t (set s i (in_state Left v)) b)))
             (sym (set-get_or ws p 0))
-            (renews ws ws homes xs h id cpu section t s i v (in_state Left v) there at
+            (renews ws ws homes xs h id cpu section t s b b i v (in_state Left v) there at
             (λ was.
             node_left fits joins first roots links width count ws s t i v was at live past unlinked)
             (λ a may. (refl, tt))),
-        λ i' k' low' e. ap (λ (m : ℕ). Keeper t (renewed s m (in_state Left)))
+        λ i' k' low' e. ap (λ (m : ℕ). Keeper t (renewed s m (in_state Left)) b)
             (row_told first_place (links + width) i i' k k' low low' e),
       )
 
   -- the keeper's look: what no section may be on any more is free
-  pub ages : (cpu section : Option ℕ) (t : ℕ) (s : List Node)
-      → AllowsNumber (IsKept fits joins first roots links width count) cpu section (Keeper t s)
-      (IsAged (Keeper t s))
-  ages cpu section t s n ws homes xs id h are lone there =
-      let k = h.seats id cpu section (Keeper t s) there in
+  pub ages : (cpu section : Option ℕ) (t : ℕ) (s : List Node) (b : List (List Node))
+      → AllowsNumber (IsKept fits joins first roots links width count) cpu section (Keeper t s b)
+      (IsAged (Keeper t s b))
+  ages cpu section t s b n ws homes xs id h are lone there =
+      let k = h.seats id cpu section (Keeper t s b) there in
       let m : ℕ = max n t in
       let was : AreKept fits joins first roots links width count ws s t =
       subst (λ (y : List Node × ℕ). AreKept fits joins first roots links width count ws y.0 y.1)
       (λ z. (sym k.1 z, sym k.0 z)) h.kept in (
-        Keeper m (aged n m s),
-        rekeep ws ws homes xs h id cpu section (Keeper t s) there k.2 m (aged n m s)
+        Keeper m (aged n m s) b,
+        rekeep ws ws homes xs h id cpu section (Keeper t s b) there k.2 m (aged n m s)
+            b
             (nodes_aged fits joins first roots links width count ws s t n m was (le-max_right n t))
             (λ j a q who d u e here may. (
               aged_node n m u,
@@ -485,7 +497,7 @@ module _ (fits : List ℕ → Type 0) (joins : ℕ → List ℕ → List ℕ →
       (λ _ now. IsClaimed first roots links width count now)
   claims cpu section p n ws homes xs id h are lone there =
       let k = h.seats id cpu section Owner there in
-      let w : Known = Keeper 0 (first_nodes links width first roots count) in (
+      let w : Known = Keeper 0 (first_nodes links width first roots count) [] in (
         w,
         subst (λ (l : List ℕ).
             IsKept fits joins first roots links width count l homes (set xs id (cpu, section, w)))

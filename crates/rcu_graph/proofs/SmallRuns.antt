@@ -1,8 +1,9 @@
 -- The moments of the small run are a history.
-use Rattle.std.proofs.Common.{◌≡◌, ℕ, zero, suc, ◌<◌, ◌≤◌, [], ◌∷◌, Some, true, arith, refl}
-use Rattle.std.proofs.Common.{subst, sym}
-use Rattle.rcu_graph.specs.Absence.{IsChained, IsHistory, IsKeeperStep, IsLinkedKey, Reaches}
-use Rattle.rcu_graph.specs.Absence.{key_at, next_of}
+use Rattle.std.proofs.Common.{◌≡◌, ℕ, zero, suc, ◌<◌, ◌≤◌, List, [], ◌∷◌, Some, true, ap, arith}
+use Rattle.std.proofs.Common.{refl, subst, sym}
+use Rattle.std.specs.Prelude.{slice_index}
+use Rattle.rcu_graph.specs.Absence.{AreSameFor, IsChained, IsHistory, IsKeeperStep, IsLinkedKey}
+use Rattle.rcu_graph.specs.Absence.{Reaches, key_at, next_of}
 use Rattle.rcu_graph.specs.Nodes.{state_at}
 use Rattle.rcu_graph.specs.Search.{IsSearched}
 use Rattle.rcu_graph.specs.SmallRun.{first_hop, second_hop, small_nodes}
@@ -66,6 +67,13 @@ steps opened (suc t) low = absurd (omega (arith, low))
 
 pub small_history : (opened : ℕ) → IsHistory (λ _. true) opened 0 1 small_nodes
 small_history opened = record { chained = chained; steps = steps opened }
+
+-- the section sees that the node 1 is led elsewhere
+pub small_not_aside : (opened : ℕ) → AreSameFor opened (small_nodes 0) (small_nodes 1) → ⊥
+small_not_aside opened same =
+    let moved : next_of (small_nodes 1) 1 ≡ next_of (small_nodes 0) 1 =
+    ap (λ (links : List ℕ). slice_index links 0) (same 1 tt).1 in
+    absurd (omega (arith, moved))
 
 pub small_linked : (t : ℕ) → t ≤ 1 → IsLinkedKey 0 5 (small_nodes t)
 small_linked zero low = record {

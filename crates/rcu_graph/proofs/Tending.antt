@@ -16,7 +16,7 @@ use Rattle.rcu_graph.specs.Keeper.{IsReady}
 use Rattle.rcu_graph.specs.Mirror.{AreSized}
 use Rattle.rcu_graph.specs.Nodes.{IsTarget, in_state, is_live, linked_to, no_node, node_at, renewed}
 use Rattle.rcu_graph.specs.Nodes.{state_at}
-use Rattle.rcu_graph.specs.Tended.{AreTended, AreTrimmed, IsReached}
+use Rattle.rcu_graph.specs.Tended.{AreLed, AreTended, AreTrimmed, IsReached}
 use Rattle.rcu_graph.specs.Trimming.{IsInside, IsTrimming, live_in, owed}
 use Rattle.rcu_graph.specs.declared.known.Node.{Node}
 use Rattle.rcu_graph.specs.declared.node_state.NodeState.TheVariants.{Left, Live}
@@ -127,6 +127,11 @@ module _ (fits : List ℕ → Type 0) (joins : ℕ → List ℕ → List ℕ →
         ap (λ (v : Node). v.state) same ∙ r.2,
         subst (λ (v : Node). joins l words v.words) (sym same) r.3,
       )
+
+  pub are_led : (nodes : List Node) → AreWhole nodes → AreLed joins links nodes
+  are_led nodes w i l live low j e =
+      let r = w.led i l j live low e in
+      (node_at nodes j, here_at nodes j (live_inside nodes j r.0), r.0, r.1)
 
   pub are_whole : (nodes : List Node) → AreTended fits joins roots links nodes → AreWhole nodes
   are_whole nodes t = record {

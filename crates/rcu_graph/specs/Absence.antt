@@ -1,13 +1,12 @@
 -- A search that finds nothing, over the nodes as the keeper knows them at the moments of the
 -- section.
-use Rattle.std.specs.Prelude.{◌≡◌, ◌⊎◌, ℕ, suc, ◌<◌, ◌≤◌, Bool, true, List, [], ◌∷◌, IsTrue}
+use Rattle.std.specs.Prelude.{◌≡◌, ℕ, suc, ◌<◌, ◌≤◌, Bool, List, [], ◌∷◌, IsTrue}
 use Rattle.std.specs.Prelude.{slice_index}
 use Rattle.rcu_seq.specs.Numbers.{Number}
-use Rattle.rcu_live.specs.Numbers.{is_open_at}
-use Rattle.rcu_graph.specs.Nodes.{aged, in_state, linked_to, node_at, renewed, state_at, worded}
+use Rattle.rcu_graph.specs.Nodes.{MayRead, in_state, linked_to, node_at, renewed, state_at}
 use Rattle.rcu_graph.specs.declared.known.Hop.{Hop}
 use Rattle.rcu_graph.specs.declared.known.Node.{Node}
-use Rattle.rcu_graph.specs.declared.node_state.NodeState.TheVariants.{Free, Left, Live}
+use Rattle.rcu_graph.specs.declared.node_state.NodeState.TheVariants.{Free, Live}
 
 -- the word of the link 0 of the node i, and the node's key
 abbrev pub next_of : List Node → ℕ → ℕ
@@ -45,16 +44,26 @@ pub record IsChained (ours : List ℕ → Bool) (root : ℕ) (nodes : List Node)
 abbrev pub IsOnIfOurs : (List ℕ → Bool) → ℕ → List Node → ℕ → Type 0
 IsOnIfOurs ours root nodes i = IsTrue (ours (node_at nodes i).words) → Reaches nodes i root
 
--- a step of the keeper beside a section that began at this number. A word of a free node was
--- stored; or a link of a free node, or of one that is on its chain; or such a node was linked to a
--- free one, which is live then; or a node was taken off; or the nodes aged by a number at which the
--- section may be open. So a node that was taken off the chain leads where it led while the section
--- is open
+-- for a section that began at this number a node stays as it is: if the section may be on it, it
+-- still may, and the node has its links and words. And so do all nodes
+abbrev pub IsSameFor : Number → Node → Node → Type 0
+IsSameFor opened before after =
+    MayRead opened before.state
+    → MayRead opened after.state
+    × (after.links ≡ before.links)
+    × (after.words ≡ before.words)
+
+abbrev pub AreSameFor : Number → List Node → List Node → Type 0
+AreSameFor opened before after = (i : ℕ) → IsSameFor opened (node_at before i) (node_at after i)
+
+-- a step of the keeper beside a section that began at this number. For the section each node stays
+-- as it is; or a link was stored of one that is on its chain; or such a node was linked to a free
+-- one, which is live then. So a node that was taken off the chain leads where it led while the
+-- section is open
 pub data IsKeeperStep (ours : List ℕ → Bool) (opened : Number) (root : ℕ)
     (before after : List Node) : Type 0 where
-  wrote : (i k x : ℕ) → state_at before i ≡ Free → after ≡ renewed before i (worded k x)
-      → IsKeeperStep ours opened root before after
-  linked : (i l x : ℕ) → (state_at before i ≡ Free) ⊎ IsOnIfOurs ours root before i
+  aside : AreSameFor opened before after → IsKeeperStep ours opened root before after
+  linked : (i l x : ℕ) → IsOnIfOurs ours root before i
       → after ≡ renewed before i (linked_to l x) → IsKeeperStep ours opened root before after
   published : (i l j : ℕ)
       → state_at before i ≡ Live
@@ -62,10 +71,6 @@ pub data IsKeeperStep (ours : List ℕ → Bool) (opened : Number) (root : ℕ)
       → IsOnIfOurs ours root before i
       → after ≡ renewed (renewed before j (in_state Live)) i (linked_to l (suc j))
       → IsKeeperStep ours opened root before after
-  took_off : (i : ℕ) → after ≡ renewed before i (in_state Left)
-      → IsKeeperStep ours opened root before after
-  looked : (number latest : Number) → number ≤ latest → is_open_at number opened ≡ true
-      → after ≡ aged number latest before → IsKeeperStep ours opened root before after
 
 -- the nodes at each moment from the section's beginning, which is 0, to the search's end: each
 -- moment is a step of the keeper after the one before

@@ -150,7 +150,7 @@ abbrev pub hops_in : Known → List Hop
 hops_in Idle = []
 hops_in Owner = []
 hops_in (Reader hops) = hops
-hops_in (Keeper latest nodes) = []
+hops_in (Keeper latest nodes stored) = []
 
 -- a section made one hop more: from the node i along the link l it found the word x, and came to
 -- these words
@@ -163,32 +163,39 @@ abbrev pub IsReader : Known → Type 0
 IsReader Idle = Unit {0}
 IsReader Owner = ⊥
 IsReader (Reader hops) = Unit {0}
-IsReader (Keeper latest nodes) = ⊥
+IsReader (Keeper latest nodes stored) = ⊥
 
 -- (of which there is one proof at most, as of each fact that a struct keeps)
 pub reader_once : (known : Known) → IsProp (IsReader known)
 reader_once Idle = Unit-prop
 reader_once Owner = λ a b. absurd a
 reader_once (Reader hops) = Unit-prop
-reader_once (Keeper latest nodes) = λ a b. absurd a
+reader_once (Keeper latest nodes stored) = λ a b. absurd a
 
 abbrev pub IsKeeping : Known → Type 0
 IsKeeping Idle = ⊥
 IsKeeping Owner = ⊥
 IsKeeping (Reader hops) = ⊥
-IsKeeping (Keeper latest nodes) = Unit {0}
+IsKeeping (Keeper latest nodes stored) = Unit {0}
 
 abbrev pub nodes_in : Known → List Node
 nodes_in Idle = []
 nodes_in Owner = []
 nodes_in (Reader hops) = []
-nodes_in (Keeper latest nodes) = nodes
+nodes_in (Keeper latest nodes stored) = nodes
 
 abbrev pub latest_in : Known → Number
 latest_in Idle = 0
 latest_in Owner = 0
 latest_in (Reader hops) = 0
-latest_in (Keeper latest nodes) = latest
+latest_in (Keeper latest nodes stored) = latest
+
+-- the nodes after each store that led a live one elsewhere, the latest store first
+abbrev pub stored_in : Known → List (List Node)
+stored_in Idle = []
+stored_in Owner = []
+stored_in (Reader hops) = []
+stored_in (Keeper latest nodes stored) = stored
 
 -- the section came to the node i, which has these words: one of its hops led there
 abbrev pub IsHeld : Known → ℕ → List ℕ → Type 0
@@ -208,4 +215,4 @@ abbrev pub closed : Known → Known
 closed Idle = Idle
 closed Owner = Owner
 closed (Reader hops) = Idle
-closed (Keeper latest nodes) = Keeper latest nodes
+closed (Keeper latest nodes stored) = Keeper latest nodes stored

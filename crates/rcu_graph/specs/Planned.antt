@@ -10,8 +10,8 @@ use Rattle.rcu_live.specs.Client.{ClientView, IsStable, Slots, Views}
 use Rattle.rcu_live.proofs.ClientRows.{reseat}
 use Rattle.rcu_live.proofs.Deals.{at_end}
 use Rattle.rcu_graph.specs.Rule.{IsKept}
-use Rattle.rcu_graph.specs.Steps.{IsAged, IsClaimed, IsFollowed, IsLeft, IsLinked, IsPublished}
-use Rattle.rcu_graph.specs.Steps.{IsRead, IsWritten}
+use Rattle.rcu_graph.specs.Steps.{IsAged, IsClaimed, IsFollowed, IsLeft, IsLinkWritten, IsLinked}
+use Rattle.rcu_graph.specs.Steps.{IsPublished, IsRead, IsWritten}
 use Rattle.rcu_graph.specs.declared.known.Known.{Known}
 use Rattle.rcu_graph.specs.declared.known.Planned.{Planned}
 use Rattle.rcu_graph.specs.declared.plan.Plan.{Plan}
@@ -76,6 +76,9 @@ tells_claim first = tells_word (λ plan place was x now.
 
 abbrev pub tells_write : ℕ → Planned → ℕ → Planned → Type 0
 tells_write = tells_word (λ plan. IsWritten plan.links plan.words)
+
+abbrev pub tells_write_link : ℕ → Planned → ℕ → Planned → Type 0
+tells_write_link = tells_word (λ plan. IsLinkWritten plan.links plan.words)
 
 abbrev pub tells_link : ℕ → Planned → ℕ → Planned → Type 0
 tells_link = tells_word (λ plan. IsLinked plan.links plan.words)

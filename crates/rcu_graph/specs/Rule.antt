@@ -31,7 +31,7 @@ Knows first roots links width count nodes latest keeper id section Owner =
     (nodes ≡ first_nodes links width first roots count) × (latest ≡ 0) × (keeper ≡ id)
 Knows first roots links width count nodes latest keeper id section (Reader hops) =
     (i : ℕ) (words : List ℕ) → IsHeld (Reader hops) i words → Reading nodes section i words
-Knows first roots links width count nodes latest keeper id section (Keeper l known) =
+Knows first roots links width count nodes latest keeper id section (Keeper l known stored) =
     (l ≡ latest) × (known ≡ nodes) × (keeper ≡ id)
 
 -- a link leads to a node on which whoever may be on the first one may be, and joins the two

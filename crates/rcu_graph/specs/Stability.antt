@@ -34,7 +34,7 @@ module _ (first : ℕ → List ℕ) (roots links width count : ℕ) (nodes : Lis
   knows_opened keeper id number Owner k = k
   knows_opened keeper id number (Reader hops) k = λ i words held.
       let r : Reading nodes None i words = k i words held in absurd (no_section r.opened r.is_open)
-  knows_opened keeper id number (Keeper s known) k = k
+  knows_opened keeper id number (Keeper s known stored) k = k
 
   knows_closed : (keeper id : ℕ) (section : Option Number) (known : Known)
       → Knows first roots links width count nodes latest keeper id section known
@@ -42,14 +42,14 @@ module _ (first : ℕ → List ℕ) (roots links width count : ℕ) (nodes : Lis
   knows_closed keeper id section Idle k = tt
   knows_closed keeper id section Owner k = k
   knows_closed keeper id section (Reader hops) k = tt
-  knows_closed keeper id section (Keeper s known) k = k
+  knows_closed keeper id section (Keeper s known stored) k = k
 
   -- who keeps the slots after they are handed over
   abbrev pub keeper_after : ℕ → ℕ → Known → ℕ
   keeper_after keeper new Idle = keeper
   keeper_after keeper new Owner = new
   keeper_after keeper new (Reader hops) = keeper
-  keeper_after keeper new (Keeper s known) = new
+  keeper_after keeper new (Keeper s known stored) = new
 
   -- the seat to which it is handed over knows it
   knows_handed : (keeper id new : ℕ) (known : Known)
@@ -59,7 +59,7 @@ module _ (first : ℕ → List ℕ) (roots links width count : ℕ) (nodes : Lis
   knows_handed keeper id new Idle k = tt
   knows_handed keeper id new Owner k = (k.0, k.1, refl)
   knows_handed keeper id new (Reader hops) k = k
-  knows_handed keeper id new (Keeper s known) k = (k.0, k.1, refl)
+  knows_handed keeper id new (Keeper s known stored) k = (k.0, k.1, refl)
 
   -- another seat has kept them only where it is not that one which hands them over
   still_keeps : (keeper id new j : ℕ) (known : Known)
@@ -68,7 +68,7 @@ module _ (first : ℕ → List ℕ) (roots links width count : ℕ) (nodes : Lis
   still_keeps keeper id new j Idle k apart e = e
   still_keeps keeper id new j Owner k apart e = absurd (apart (sym e ∙ k.2))
   still_keeps keeper id new j (Reader hops) k apart e = e
-  still_keeps keeper id new j (Keeper s known) k apart e = absurd (apart (sym e ∙ k.2))
+  still_keeps keeper id new j (Keeper s known stored) k apart e = absurd (apart (sym e ∙ k.2))
 
   knows_still : (keeper id new j : ℕ) (known : Known) (section : Option Number) (other : Known)
       → Knows first roots links width count nodes latest keeper id None known
@@ -80,7 +80,7 @@ module _ (first : ℕ → List ℕ) (roots links width count : ℕ) (nodes : Lis
   knows_still keeper id new j known section Owner mine apart k =
       (k.0, k.1, still_keeps keeper id new j known mine apart k.2)
   knows_still keeper id new j known section (Reader hops) mine apart k = k
-  knows_still keeper id new j known section (Keeper s all) mine apart k =
+  knows_still keeper id new j known section (Keeper s all stored) mine apart k =
       (k.0, k.1, still_keeps keeper id new j known mine apart k.2)
 
 module _ (fits : List ℕ → Type 0) (joins : ℕ → List ℕ → List ℕ → Type 0) (first : ℕ → List ℕ)

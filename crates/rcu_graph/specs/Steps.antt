@@ -1,10 +1,11 @@
 -- What each step on the nodes tells.
-use Rattle.std.specs.Prelude.{◌≡◌, ◌⊎◌, ℕ, suc, ◌+◌, ◌<◌, List, [], length, slice_index, max}
+use Rattle.std.specs.Prelude.{◌≡◌, ◌⊎◌, ℕ, suc, ◌+◌, ◌<◌, List, [], ◌∷◌, length, max, slice_index}
 use Rattle.rcu_seq.specs.Numbers.{Number}
 use Rattle.rcu_graph.specs.Nodes.{IsOn, after_hop, aged, first_nodes, in_state, latest_in}
-use Rattle.rcu_graph.specs.Nodes.{linked_to, nodes_in, place_of, renewed, worded}
+use Rattle.rcu_graph.specs.Nodes.{linked_to, nodes_in, place_of, renewed, stored_in, worded}
 use Rattle.rcu_graph.specs.declared.known.Known.{Known}
 use Rattle.rcu_graph.specs.declared.known.Known.TheVariants.{Keeper}
+use Rattle.rcu_graph.specs.declared.known.Node.{Node}
 use Rattle.rcu_graph.specs.declared.node_state.NodeState.TheVariants.{Left, Live}
 
 -- the section came to the node j, which has these words, by a link that may lead there: the node is
@@ -47,37 +48,51 @@ IsRead first roots links width place was x now =
 -- the nodes are kept from now on, as they were at first
 abbrev pub IsClaimed : (ℕ → List ℕ) → ℕ → ℕ → ℕ → ℕ → Known → Type 0
 IsClaimed first roots links width count now =
-    now ≡ Keeper 0 (first_nodes links width first roots count)
+    now ≡ Keeper 0 (first_nodes links width first roots count) []
 
--- a word was stored, and a link
+-- the keeper knows these nodes then, and of no other store
+abbrev pub keeping : Known → List Node → Known
+keeping was nodes = Keeper (latest_in was) nodes (stored_in was)
+
+-- they are so by a store that led a live one elsewhere
+abbrev pub storing : Known → List Node → Known
+storing was nodes = Keeper (latest_in was) nodes (nodes ∷ stored_in was)
+
+-- a word of a free node was stored, and a link of one
 abbrev pub IsWritten : ℕ → ℕ → ℕ → Known → ℕ → Known → Type 0
 IsWritten links width place was x now =
     (i k : ℕ) → k < width → place ≡ place_of (links + width) i (links + k)
-    → now ≡ Keeper (latest_in was) (renewed (nodes_in was) i (worded k x))
+    → now ≡ keeping was (renewed (nodes_in was) i (worded k x))
 
+abbrev pub IsLinkWritten : ℕ → ℕ → ℕ → Known → ℕ → Known → Type 0
+IsLinkWritten links width place was x now =
+    (i l : ℕ) → l < links → place ≡ place_of (links + width) i l
+    → now ≡ keeping was (renewed (nodes_in was) i (linked_to l x))
+
+-- a link of a live node was stored
 abbrev pub IsLinked : ℕ → ℕ → ℕ → Known → ℕ → Known → Type 0
 IsLinked links width place was x now =
     (i l : ℕ) → l < links → place ≡ place_of (links + width) i l
-    → now ≡ Keeper (latest_in was) (renewed (nodes_in was) i (linked_to l x))
+    → now ≡ storing was (renewed (nodes_in was) i (linked_to l x))
 
--- a link was stored that leads to a node which is live from now on
+-- one was stored that leads to a node which is live from now on
 abbrev pub IsPublished : ℕ → ℕ → ℕ → Known → ℕ → Known → Type 0
 IsPublished links width place was x now =
     (i l j : ℕ)
     → l < links
     → place ≡ place_of (links + width) i l
     → x ≡ suc j
-    → now
-    ≡ Keeper (latest_in was) (renewed (renewed (nodes_in was) j (in_state Live)) i (linked_to l x))
+    → now ≡ storing was (renewed (renewed (nodes_in was) j (in_state Live)) i (linked_to l x))
 
 -- a node was left
 abbrev pub IsLeft : ℕ → ℕ → ℕ → Known → ℕ → Known → Type 0
 IsLeft links width place was x now =
     (i k : ℕ) → k < links + width → place ≡ place_of (links + width) i k
-    → now ≡ Keeper (latest_in was) (renewed (nodes_in was) i (in_state Left))
+    → now ≡ keeping was (renewed (nodes_in was) i (in_state Left))
 
 -- the nodes are a look at the number older
 abbrev pub IsAged : Known → Number → Known → Type 0
 IsAged was number now =
     now
     ≡ Keeper (max number (latest_in was)) (aged number (max number (latest_in was)) (nodes_in was))
+    (stored_in was)

@@ -18,14 +18,19 @@ pub record IsReached (links : ℕ) (nodes : List Node) (j : ℕ) : Type 0 where
   pub inside : link < links
   pub leads : slice_index (node_at nodes from).links link ≡ suc j
 
+-- each link of a live node leads nowhere, or to a live node to which it may lead
+abbrev pub AreLed : (ℕ → List ℕ → List ℕ → Type 0) → ℕ → List Node → Type 0
+AreLed joins links nodes =
+    (i l : ℕ) → state_at nodes i ≡ Live → l < links
+    → IsTarget (joins l) (node_at nodes i).words nodes (slice_index (node_at nodes i).links l)
+
 -- each root is live; each live node is whole, its links lead nowhere or to live nodes to which they
 -- may lead, and it is a root or a live node leads to it
 pub record AreTended (fits : List ℕ → Type 0) (joins : ℕ → List ℕ → List ℕ → Type 0)
     (roots links : ℕ) (nodes : List Node) : Type 0 where
   pub rooted : (i : ℕ) → i < roots → state_at nodes i ≡ Live
   pub whole : (i : ℕ) → state_at nodes i ≡ Live → fits (node_at nodes i).words
-  pub led : (i l : ℕ) → state_at nodes i ≡ Live → l < links
-      → IsTarget (joins l) (node_at nodes i).words nodes (slice_index (node_at nodes i).links l)
+  pub led : AreLed joins links nodes
   pub reached : (i : ℕ) → state_at nodes i ≡ Live → roots ≤ i → IsReached links nodes i
 
 -- one of these nodes leads to the node j

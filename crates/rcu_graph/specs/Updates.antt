@@ -3,9 +3,9 @@ use Rattle.std.specs.Prelude.{◌≡◌, ◌<◌, ℕ, List}
 use Rattle.rcu_live.specs.Board.{Object}
 use Rattle.rcu_live.specs.Watcher.{Watching}
 use Rattle.rcu_graph.specs.Graph.{IsWatcherOf}
-use Rattle.rcu_graph.specs.Keeper.{IsReady, after_step}
+use Rattle.rcu_graph.specs.Keeper.{IsReady, after_store}
 use Rattle.rcu_graph.specs.Nodes.{IsTarget, node_at, nodes_in, state_at}
-use Rattle.rcu_graph.specs.Tended.{AreTrimmed}
+use Rattle.rcu_graph.specs.Tended.{AreLed, AreTrimmed}
 use Rattle.rcu_graph.specs.Trimming.{IsCounted}
 use Rattle.rcu_graph.specs.declared.known.Planned.{Planned}
 use Rattle.rcu_graph.specs.declared.known.Node.{Node}
@@ -54,12 +54,13 @@ pub record MayPublish (fits : List ℕ → Type 0) (joins : ℕ → List ℕ →
   pub joined : joins link (node_at (nodes_in keeper.view.client.known) from).words
       (node_at (nodes_in keeper.view.client.known) to).words
 
--- the keeper has the nodes as they were stored, less those that were left; it counts them still
+-- the keeper has the nodes as one store made them, less those that were left; it counts them still
 pub record HasTrimmed (fits : List ℕ → Type 0) (joins : ℕ → List ℕ → List ℕ → Type 0)
     (graph : Object Plan) (before now : Watching Planned) (counts leaving : List ℕ)
     (stored : List Node) : Type 0 where
   pub watches : IsWatcherOf graph now
-  pub state : now ≡ after_step before (nodes_in now.view.client.known)
+  pub state : now ≡ after_store before stored (nodes_in now.view.client.known)
   pub counted : IsCounted fits joins graph.plan.nodes graph.plan.roots graph.plan.links
       (nodes_in now.view.client.known) counts leaving
+  pub led : AreLed joins graph.plan.links stored
   pub trimmed : AreTrimmed graph.plan.roots graph.plan.links stored (nodes_in now.view.client.known)

@@ -2,12 +2,12 @@
 //! is kept.
 ghost use Rattle.std.specs.Prelude.{◌≡◌, ◌≤◌, ◌<◌, ◌+◌, ℕ, IsSome, List, None, Some, length, suc};
 ghost use Rattle.rcu_live.specs.Client.{AllowsNumber, AllowsWord};
-ghost use Rattle.rcu_graph.specs.Keeper.{CanLink, IsReady};
-ghost use Rattle.rcu_graph.specs.Nodes.{IsKeeping, IsOn, IsReader, IsUnlinked, node_at, nodes_in};
-ghost use Rattle.rcu_graph.specs.Nodes.{place_of, state_at};
+ghost use Rattle.rcu_graph.specs.Keeper.{IsReady};
+ghost use Rattle.rcu_graph.specs.Nodes.{IsKeeping, IsOn, IsReader, IsTarget, IsUnlinked, node_at};
+ghost use Rattle.rcu_graph.specs.Nodes.{nodes_in, place_of, state_at};
 ghost use Rattle.rcu_graph.specs.Planned.{IsKeptBy, tells_age, tells_claim, tells_follow};
 ghost use Rattle.rcu_graph.specs.Planned.{tells_leave, tells_link, tells_publish, tells_read};
-ghost use Rattle.rcu_graph.specs.Planned.{tells_write};
+ghost use Rattle.rcu_graph.specs.Planned.{tells_write, tells_write_link};
 ghost use Rattle.rcu_graph.specs.declared.known.Known.TheVariants.{Owner};
 ghost use Rattle.rcu_graph.specs.declared.plan.Plan.{Plan};
 ghost use Rattle.rcu_graph.specs.declared.node_state.NodeState.TheVariants.{Free, Live};
@@ -78,8 +78,28 @@ pub(crate) fn write_is_allowed<F: Shape>(
         (λ _. value) (λ _. tells_write place seat.now.view.client value) }
 {}
 
-/// It may store a link of a free node, or one of a live node that leads nowhere or to a live one
-/// then, to which it may lead.
+/// It may store a link of a free node.
+pub(crate) fn write_link_is_allowed<F: Shape>(
+    seat: &GraphWatcher<F>,
+    node: usize,
+    link: usize,
+    place: usize,
+    value: u64,
+)
+    requires keeps { IsKeeping seat.now.view.client.known }
+    requires inside { node < length (nodes_in seat.now.view.client.known) }
+    requires free { state_at (nodes_in seat.now.view.client.known) node ≡ Free }
+    requires link { link < seat.now.view.client.plan.links }
+    requires place { place ≡ place_of (seat.now.view.client.plan.links +
+        seat.now.view.client.plan.words)
+        node link }
+    ensures { (plan : Plan) → seat.now.view.client.plan ≡ plan →
+        AllowsWord (IsKeptBy F.fits F.joins F.first plan) None None seat.now.view.client place
+        (λ _. value) (λ _. tells_write_link place seat.now.view.client value) }
+{}
+
+/// It may store a link of a live node that leads nowhere or to a live one then, to which it may
+/// lead.
 pub(crate) fn link_is_allowed<F: Shape>(
     seat: &GraphWatcher<F>,
     node: usize,
@@ -90,8 +110,10 @@ pub(crate) fn link_is_allowed<F: Shape>(
     requires keeps { IsKeeping seat.now.view.client.known }
     requires inside { node < length (nodes_in seat.now.view.client.known) }
     requires link { link < seat.now.view.client.plan.links }
-    requires can { CanLink (F.joins seat.now.view.client.plan link)
-        (nodes_in seat.now.view.client.known) node value }
+    requires live { state_at (nodes_in seat.now.view.client.known) node ≡ Live }
+    requires target { IsTarget (F.joins seat.now.view.client.plan link)
+        (node_at (nodes_in seat.now.view.client.known) node).words
+        (nodes_in seat.now.view.client.known) value }
     requires place { place ≡ place_of (seat.now.view.client.plan.links +
         seat.now.view.client.plan.words)
         node link }

@@ -1,6 +1,6 @@
 //! What the words of searches and of their keeper's steps say, on a small run.
 ghost use Rattle.std.specs.Prelude.{◌≡◌, ◌≤◌, [], ◌∷◌, ℕ, List, Some, suc, true};
-ghost use Rattle.rcu_graph.specs.Absence.{AreMadeBy, IsHistory, IsLinkedKey};
+ghost use Rattle.rcu_graph.specs.Absence.{AreMadeBy, AreSameFor, IsHistory, IsLinkedKey};
 ghost use Rattle.rcu_graph.specs.Search.{IsSearched, key_after};
 ghost use Rattle.rcu_graph.specs.SmallRun.{first_hop, second_hop, small_nodes};
 ghost use Rattle.rcu_graph.specs.Steps.{IsLedTo};
@@ -20,6 +20,7 @@ pub fn a_search_may_go_on_beside_its_keeper()
     ensures made { AreMadeBy small_nodes 1 (second_hop ∷ first_hop ∷ []) }
     ensures begun_later { AreMadeBy small_nodes 1 (second_hop ∷ []) }
     ensures made_in_order { AreMadeBy small_nodes 0 (second_hop ∷ []) → ⊥ }
+    ensures not_aside { (opened : ℕ) → AreSameFor opened (small_nodes 0) (small_nodes 1) → ⊥ }
     ensures searched { IsSearched 0 7 (Reader []) (Some 2)
         (Reader (second_hop ∷ first_hop ∷ [])) }
 {}

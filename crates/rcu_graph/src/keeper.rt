@@ -3,12 +3,12 @@
 ghost use Rattle.std.specs.Prelude.{◌≡◌, ◌≤◌, ◌<◌, ◌^◌, All, IfOk, IfSome, None, OnErr, length};
 ghost use Rattle.std.specs.Prelude.{slice_index};
 ghost use Rattle.rcu_graph.specs.Graph.{IsWatcherOf, word_to};
-ghost use Rattle.rcu_graph.specs.Keeper.{IsKeeperOf, IsReady, after_look, after_step};
+ghost use Rattle.rcu_graph.specs.Keeper.{IsKeeperOf, IsReady, after_look, after_store};
 ghost use Rattle.rcu_graph.specs.Nodes.{IsTarget, is_free, is_live, node_at};
 ghost use Rattle.rcu_graph.specs.Nodes.{nodes_in, state_at};
 ghost use Rattle.rcu_graph.specs.Opening.{AreWhole};
 ghost use Rattle.rcu_graph.specs.Steps.{IsClaimed};
-ghost use Rattle.rcu_graph.specs.Tended.{AreAllUsed, AreTended, AreTrimmed, after_fill};
+ghost use Rattle.rcu_graph.specs.Tended.{AreAllUsed, AreLed, AreTended, AreTrimmed, after_fill};
 ghost use Rattle.rcu_graph.specs.Tended.{published, relinked};
 ghost use Rattle.rcu_graph.specs.declared.node_state.NodeState.TheVariants.{Free, Live};
 
@@ -177,10 +177,13 @@ impl<F: Shape> Keeper<F> {
             (node_at (nodes_in self.old.view.client.known) from).words
             (node_at (nodes_in self.old.view.client.known) to).words }
         ensures graph { IsWatcherOf graph.now self.new }
-        ensures state { self.new ≡ after_step self.old (nodes_in self.new.view.client.known) }
+        ensures state { self.new ≡ after_store self.old
+            (published (nodes_in self.old.view.client.known) from link to)
+            (nodes_in self.new.view.client.known) }
+        ensures led { AreLed (F.joins graph.now.plan) graph.now.plan.links
+            (published (nodes_in self.old.view.client.known) from link to) }
         ensures trimmed { AreTrimmed graph.now.plan.roots graph.now.plan.links
-            (published (nodes_in self.old.view.client.known) from link
-            to)
+            (published (nodes_in self.old.view.client.known) from link to)
             (nodes_in self.new.view.client.known) }
     {
         self.counted.publish(graph, from, link, to);
@@ -203,10 +206,13 @@ impl<F: Shape> Keeper<F> {
             (node_at (nodes_in self.old.view.client.known) from).words
             (nodes_in self.old.view.client.known) (word_to to) }
         ensures graph { IsWatcherOf graph.now self.new }
-        ensures state { self.new ≡ after_step self.old (nodes_in self.new.view.client.known) }
+        ensures state { self.new ≡ after_store self.old
+            (relinked (nodes_in self.old.view.client.known) from link to)
+            (nodes_in self.new.view.client.known) }
+        ensures led { AreLed (F.joins graph.now.plan) graph.now.plan.links
+            (relinked (nodes_in self.old.view.client.known) from link to) }
         ensures trimmed { AreTrimmed graph.now.plan.roots graph.now.plan.links
-            (relinked (nodes_in self.old.view.client.known) from link
-            to)
+            (relinked (nodes_in self.old.view.client.known) from link to)
             (nodes_in self.new.view.client.known) }
     {
         self.counted.link(graph, from, link, to);
@@ -225,10 +231,13 @@ impl<F: Shape> Keeper<F> {
         requires link { link < graph.now.plan.links }
         requires live { state_at (nodes_in self.old.view.client.known) from ≡ Live }
         ensures graph { IsWatcherOf graph.now self.new }
-        ensures state { self.new ≡ after_step self.old (nodes_in self.new.view.client.known) }
+        ensures state { self.new ≡ after_store self.old
+            (relinked (nodes_in self.old.view.client.known) from link None)
+            (nodes_in self.new.view.client.known) }
+        ensures led { AreLed (F.joins graph.now.plan) graph.now.plan.links
+            (relinked (nodes_in self.old.view.client.known) from link None) }
         ensures trimmed { AreTrimmed graph.now.plan.roots graph.now.plan.links
-            (relinked (nodes_in self.old.view.client.known) from link
-            None)
+            (relinked (nodes_in self.old.view.client.known) from link None)
             (nodes_in self.new.view.client.known) }
     {
         self.link(graph, from, link, None);

@@ -1,21 +1,22 @@
 //! The steps of who keeps a graph, by a watcher's seat.
-ghost use Rattle.std.specs.Prelude.{◌≡◌, ◌≤◌, ◌<◌, ◌+◌, true};
+ghost use Rattle.std.specs.Prelude.{◌≡◌, ◌≤◌, ◌<◌, ◌+◌, [], true};
 ghost use Rattle.rcu_live.specs.Numbers.{is_number_word};
 ghost use Rattle.rcu_live.specs.Watcher.{after_word_step};
 ghost use Rattle.rcu_graph.specs.Graph.{IsWatcherOf};
-ghost use Rattle.rcu_graph.specs.Keeper.{CanLink, IsKeeperOf, IsReady, after_leave, after_link};
-ghost use Rattle.rcu_graph.specs.Keeper.{after_look, after_publish, after_write};
-ghost use Rattle.rcu_graph.specs.Nodes.{IsUnlinked, first_nodes, node_at, nodes_in, state_at};
+ghost use Rattle.rcu_graph.specs.Keeper.{IsKeeperOf, IsReady, after_leave, after_link, after_look};
+ghost use Rattle.rcu_graph.specs.Keeper.{after_publish, after_write, after_write_link};
+ghost use Rattle.rcu_graph.specs.Nodes.{IsTarget, IsUnlinked, first_nodes, node_at, nodes_in};
+ghost use Rattle.rcu_graph.specs.Nodes.{state_at};
 ghost use Rattle.rcu_graph.specs.Planned.{knowing};
 ghost use Rattle.rcu_graph.specs.declared.known.Known.TheVariants.{Keeper, Owner};
 ghost use Rattle.rcu_graph.specs.declared.node_state.NodeState.TheVariants.{Free, Live};
 
 use crate::allowed::{
     age_is_allowed, claim_is_allowed, leave_is_allowed, link_is_allowed, publish_is_allowed,
-    write_is_allowed,
+    write_is_allowed, write_link_is_allowed,
 };
 use crate::graph::Graph;
-use crate::rule::{Age, Claim, GraphWatcher, Leave, Link, Publish, Shape, Write};
+use crate::rule::{Age, Claim, GraphWatcher, Leave, Link, Publish, Shape, Write, WriteLink};
 
 impl<const LEAF: u32, const FAN: u32, T: Drop, F: Shape> Graph<LEAF, FAN, T, F> {
     /// Loads a word: the seat keeps the nodes from now on.
@@ -25,7 +26,7 @@ impl<const LEAF: u32, const FAN: u32, T: Drop, F: Shape> Graph<LEAF, FAN, T, F> 
         ensures { seat.new ≡ after_word_step seat.old
             (knowing seat.old.view.client (Keeper 0 (first_nodes self.now.plan.links
             self.now.plan.words
-            (F.first self.now.plan) self.now.plan.roots self.now.plan.nodes))) }
+            (F.first self.now.plan) self.now.plan.roots self.now.plan.nodes) [])) }
     {
         // A borrow of a field shows the prover what the type keeps: how large the graph is.
         let live = &self.live;
@@ -49,14 +50,32 @@ impl<const LEAF: u32, const FAN: u32, T: Drop, F: Shape> Graph<LEAF, FAN, T, F> 
         seat.store_word::<_, Write>(live, place, value);
     }
 
-    /// Stores a link: in a free node any, in a live one 0, which leads nowhere, or one more than a
-    /// live node to which it may lead.
+    /// Stores a link of a free node.
+    pub fn write_link(&self, seat: &mut GraphWatcher<F>, node: usize, link: usize, value: u64)
+        requires keeper { IsKeeperOf self.now seat.old }
+        requires node { node < self.now.plan.nodes }
+        requires free { state_at (nodes_in seat.old.view.client.known) node ≡ Free }
+        requires link { link < self.now.plan.links }
+        ensures keeper { IsKeeperOf self.now seat.new }
+        ensures state { seat.new ≡ after_write_link seat.old node link value }
+    {
+        // A borrow of a field shows the prover what the type keeps: that the words fit in memory.
+        let live = &self.live;
+        let place = self.place(node, link);
+        write_link_is_allowed(seat, node, link, place, value);
+        seat.store_word::<_, WriteLink>(live, place, value);
+    }
+
+    /// Stores a link of a live node: 0, which leads nowhere, or one more than a live node to which
+    /// it may lead.
     pub fn link(&self, seat: &mut GraphWatcher<F>, node: usize, link: usize, value: u64)
         requires keeper { IsKeeperOf self.now seat.old }
         requires node { node < self.now.plan.nodes }
         requires link { link < self.now.plan.links }
-        requires can { CanLink (F.joins self.now.plan link) (nodes_in seat.old.view.client.known)
-            node value }
+        requires live { state_at (nodes_in seat.old.view.client.known) node ≡ Live }
+        requires target { IsTarget (F.joins self.now.plan link)
+            (node_at (nodes_in seat.old.view.client.known) node).words
+            (nodes_in seat.old.view.client.known) value }
         ensures keeper { IsKeeperOf self.now seat.new }
         ensures state { seat.new ≡ after_link seat.old node link value }
     {

@@ -29,8 +29,9 @@ pub enum Known {
     Owner,
     /// The hops of its section, the latest one first.
     Reader(LinkedList<Hop>),
-    /// A number that no retirement is above, and all nodes.
-    Keeper(u64, LinkedList<Node>),
+    /// A number that no retirement is above, all nodes, and what they were after each store that
+    /// led a live one elsewhere, the latest store first.
+    Keeper(u64, LinkedList<Node>, LinkedList<LinkedList<Node>>),
 }
 
 /// What a seat knows, and of a graph of which plan.

@@ -3,10 +3,11 @@ ghost use Rattle.std.specs.Prelude.{◌≡◌, ◌≤◌, ◌<◌, ◌+◌, ◌-
 ghost use Rattle.std.specs.Prelude.{length, map, slice_index};
 ghost use Rattle.rcu_graph.specs.Filling.{CanFill, CanStore, after_links, after_words};
 ghost use Rattle.rcu_graph.specs.Graph.{IsWatcherOf, word_to};
-ghost use Rattle.rcu_graph.specs.Keeper.{CanLink, IsKeeperOf, after_leave, after_link};
-ghost use Rattle.rcu_graph.specs.Keeper.{after_look, after_publish, after_write};
+ghost use Rattle.rcu_graph.specs.Keeper.{IsKeeperOf, after_leave, after_link, after_look};
+ghost use Rattle.rcu_graph.specs.Keeper.{after_publish, after_write, after_write_link};
 ghost use Rattle.rcu_graph.specs.Mirror.{AreSized};
-ghost use Rattle.rcu_graph.specs.Nodes.{IsKeeping, IsUnlinked, node_at, nodes_in, state_at};
+ghost use Rattle.rcu_graph.specs.Nodes.{IsKeeping, IsTarget, IsUnlinked, node_at, nodes_in};
+ghost use Rattle.rcu_graph.specs.Nodes.{state_at};
 ghost use Rattle.rcu_graph.specs.Opening.{AreWhole};
 ghost use Rattle.rcu_graph.specs.Steps.{IsClaimed};
 ghost use Rattle.rcu_graph.specs.Tended.{AreAllUsed, after_fill};
@@ -159,7 +160,7 @@ impl<F: Shape> KnownNodes<F> {
     }
 
     /// Stores a link of a free node.
-    fn lead<const LEAF: u32, const FAN: u32, T: Drop>(
+    fn write_link<const LEAF: u32, const FAN: u32, T: Drop>(
         &mut self,
         graph: &Graph<LEAF, FAN, T, F>,
         node: usize,
@@ -167,12 +168,13 @@ impl<F: Shape> KnownNodes<F> {
         value: u64,
     )
         requires { CanStore graph.now.plan.links graph.now self.old node link }
-        ensures { self.new ≡ after_link self.old node link value }
+        ensures { self.new ≡ after_write_link self.old node link value }
     {
-        self.link(graph, node, link, value);
+        graph.write_link(&mut self.seat, node, link, value);
+        self.mirror.set_link(node, link, value);
     }
 
-    /// Stores a link, as [`Graph::link`] does.
+    /// Stores a link of a live node, as [`Graph::link`] does.
     pub(crate) fn link<const LEAF: u32, const FAN: u32, T: Drop>(
         &mut self,
         graph: &Graph<LEAF, FAN, T, F>,
@@ -183,8 +185,10 @@ impl<F: Shape> KnownNodes<F> {
         requires graph { IsWatcherOf graph.now self.old }
         requires node { node < graph.now.plan.nodes }
         requires link { link < graph.now.plan.links }
-        requires can { CanLink (F.joins graph.now.plan link)
-            (nodes_in self.old.view.client.known) node value }
+        requires live { state_at (nodes_in self.old.view.client.known) node ≡ Live }
+        requires target { IsTarget (F.joins graph.now.plan link)
+            (node_at (nodes_in self.old.view.client.known) node).words
+            (nodes_in self.old.view.client.known) value }
         ensures graph { IsWatcherOf graph.now self.new }
         ensures state { self.new ≡ after_link self.old node link value }
     {
@@ -244,7 +248,7 @@ impl<F: Shape> KnownNodes<F> {
     {
         self.plan(graph);
         for link in 0..links.len() {
-            self.lead(graph, node, link, word_of(links[link]));
+            self.write_link(graph, node, link, word_of(links[link]));
         }
     }
 

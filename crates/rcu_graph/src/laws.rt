@@ -1,7 +1,7 @@
 //! What the rule says of nodes that open sections hold, and of what their hops find, over the
 //! definitions alone.
-ghost use Rattle.std.specs.Prelude.{◌≡◌, ◌≢◌, ◌<◌, ◌≤◌, ◌+◌, ◌∷◌, ◌⊎◌, Bool, IsSome, IsTrue};
-ghost use Rattle.std.specs.Prelude.{List, Option, ℕ, slice_index, slice_set, suc, true};
+ghost use Rattle.std.specs.Prelude.{◌≡◌, ◌≢◌, ◌<◌, ◌≤◌, ◌+◌, ◌∷◌, Bool, IsSome, IsTrue};
+ghost use Rattle.std.specs.Prelude.{List, Option, Some, ℕ, slice_index, slice_set, suc, true};
 ghost use mathlib.Core.Option.{some};
 ghost use lib.ListN.{get_elem?};
 ghost use Rattle.rcu_live.specs.Client.{Slots, Views};
@@ -10,7 +10,7 @@ ghost use Rattle.rcu_live.specs.Watcher.{Watching};
 ghost use Rattle.rcu_graph.specs.Absence.{AreMadeBy, IsChained, IsHistory, IsKeeperStep};
 ghost use Rattle.rcu_graph.specs.Absence.{IsLinkedKey, IsOnIfOurs, IsTrueOf};
 ghost use Rattle.rcu_graph.specs.Keeper.{after_leave, after_link, after_look, after_publish};
-ghost use Rattle.rcu_graph.specs.Keeper.{after_write};
+ghost use Rattle.rcu_graph.specs.Keeper.{after_write, after_write_link};
 ghost use Rattle.rcu_graph.specs.Nodes.{IsHeld, IsOn, IsReader, hops_in, nodes_in, place_of};
 ghost use Rattle.rcu_graph.specs.Nodes.{state_at};
 ghost use Rattle.rcu_graph.specs.Planned.{IsKeptBy, of_plan, tells_follow};
@@ -44,9 +44,10 @@ pub fn held_nodes_keep_their_words<F: Shape>()
 pub fn free_nodes_are_not_held<F: Shape>()
     ensures { (plan : Plan) (table : List ℕ) (homes : Slots (Unit {0})) (xs : Views Planned)
         (keeper seat node latest : ℕ) (who own cpu section : Option ℕ) (nodes : List Node)
+        (stored : List (List Node))
         (known : Planned) (words : List ℕ) (v : Node) →
         IsKeptBy F.fits F.joins F.first plan table homes xs →
-        get_elem? xs keeper ≡ some (who, own, of_plan plan (Keeper latest nodes)) →
+        get_elem? xs keeper ≡ some (who, own, of_plan plan (Keeper latest nodes stored)) →
         get_elem? xs seat ≡ some (cpu, section, known) → IsReader known.known →
         IsHeld known.known node words → get_elem? nodes node ≡ some v → v.state ≢ Free }
 {}
@@ -55,9 +56,10 @@ pub fn free_nodes_are_not_held<F: Shape>()
 /// loads it and whenever.
 pub fn live_nodes_lead_to_live_nodes<F: Shape>()
     ensures { (plan : Plan) (table : List ℕ) (homes : Slots (Unit {0})) (xs : Views Planned)
-        (keeper node link next latest : ℕ) (who own : Option ℕ) (nodes : List Node) (v : Node) →
+        (keeper node link next latest : ℕ) (who own : Option ℕ) (nodes : List Node)
+        (stored : List (List Node)) (v : Node) →
         IsKeptBy F.fits F.joins F.first plan table homes xs →
-        get_elem? xs keeper ≡ some (who, own, of_plan plan (Keeper latest nodes)) →
+        get_elem? xs keeper ≡ some (who, own, of_plan plan (Keeper latest nodes stored)) →
         get_elem? nodes node ≡ some v → v.state ≡ Live → link < plan.links →
         slice_index table (place_of (plan.links + plan.words) node link) ≡ suc next →
         (to : Node) × (get_elem? nodes next ≡ some to) × (to.state ≡ Live)
@@ -70,10 +72,11 @@ pub fn live_nodes_lead_to_live_nodes<F: Shape>()
 pub fn hops_are_true_of_the_nodes<F: Shape>()
     ensures { (plan : Plan) (table : List ℕ) (homes : Slots (Unit {0})) (xs : Views Planned)
         (keeper seat node link latest : ℕ) (who own cpu section : Option ℕ) (nodes : List Node)
+        (stored : List (List Node))
         (was now : Planned) (words : List ℕ) →
         IsKeptBy F.fits F.joins F.first plan table homes xs →
         IsKeptBy F.fits F.joins F.first plan table homes (slice_set xs seat (cpu, section, now)) →
-        get_elem? xs keeper ≡ some (who, own, of_plan plan (Keeper latest nodes)) →
+        get_elem? xs keeper ≡ some (who, own, of_plan plan (Keeper latest nodes stored)) →
         get_elem? xs seat ≡ some (cpu, section, was) → IsReader was.known →
         IsOn (F.first plan) plan.roots was.known node words → link < plan.links →
         tells_follow F.fits F.joins F.first (place_of (plan.links + plan.words) node link) was
@@ -87,9 +90,9 @@ pub fn hops_are_true_of_the_nodes<F: Shape>()
 pub fn chains_go_up<F: Shape>()
     ensures { (plan : Plan) (ours : List ℕ → Bool) (root : ℕ) (table : List ℕ)
         (homes : Slots (Unit {0})) (xs : Views Planned) (keeper latest : ℕ) (who own : Option ℕ)
-        (nodes : List Node) →
+        (nodes : List Node) (stored : List (List Node)) →
         IsKeptBy F.fits F.joins F.first plan table homes xs →
-        get_elem? xs keeper ≡ some (who, own, of_plan plan (Keeper latest nodes)) →
+        get_elem? xs keeper ≡ some (who, own, of_plan plan (Keeper latest nodes stored)) →
         Ascends (F.joins plan) 0 →
         ((from to : List ℕ) → F.joins plan 0 from to → IsTrue (ours from) → IsTrue (ours to)) →
         root < plan.roots → 0 < plan.links → IsTrue (ours (F.first plan root)) →
@@ -97,15 +100,19 @@ pub fn chains_go_up<F: Shape>()
 {}
 
 /// The keeper's calls make the steps of such histories beside an open section: one of `Graph::link`
-/// or `Graph::publish` where the node whose link is stored is free, or on its chain still.
+/// or `Graph::publish` where the node whose link is stored is on its chain still.
 pub fn calls_are_keeper_steps()
     ensures write { (ours : List ℕ → Bool) (opened root node word value : ℕ)
         (keeper : Watching Planned) → state_at (nodes_in keeper.view.client.known) node ≡ Free →
         IsKeeperStep ours opened root (nodes_in keeper.view.client.known)
         (nodes_in (after_write keeper node word value).view.client.known) }
+    ensures write_link { (ours : List ℕ → Bool) (opened root node link value : ℕ)
+        (keeper : Watching Planned) → state_at (nodes_in keeper.view.client.known) node ≡ Free →
+        IsKeeperStep ours opened root (nodes_in keeper.view.client.known)
+        (nodes_in (after_write_link keeper node link value).view.client.known) }
     ensures link { (ours : List ℕ → Bool) (opened root node link value : ℕ)
-        (keeper : Watching Planned) → (state_at (nodes_in keeper.view.client.known) node ≡ Free)
-        ⊎ IsOnIfOurs ours root (nodes_in keeper.view.client.known) node →
+        (keeper : Watching Planned) →
+        IsOnIfOurs ours root (nodes_in keeper.view.client.known) node →
         IsKeeperStep ours opened root (nodes_in keeper.view.client.known)
         (nodes_in (after_link keeper node link value).view.client.known) }
     ensures publish { (ours : List ℕ → Bool) (opened root from link to : ℕ)
@@ -132,4 +139,14 @@ pub fn linked_keys_are_found()
         IsHistory ours opened root last nodes →
         ((t : ℕ) → t ≤ last → IsLinkedKey root key (nodes t)) →
         AreMadeBy nodes last (search.last ∷ search.path) → IsSome found }
+{}
+
+/// What a search finds was linked at a moment of its section. Meanwhile each step of the keeper is
+/// as `IsKeeperStep` says.
+pub fn found_keys_were_linked()
+    ensures { (ours : List ℕ → Bool) (opened root key last : ℕ) (nodes : ℕ → List Node)
+        (was now : Known) (node : ℕ) (search : IsSearched root key was (Some node) now) →
+        IsHistory ours opened root last nodes →
+        AreMadeBy nodes last (search.last ∷ search.path) →
+        (t : ℕ) × (t ≤ last) × IsLinkedKey root key (nodes t) }
 {}

@@ -1,6 +1,6 @@
 //! The opening of a graph.
-ghost use Rattle.std.specs.Prelude.{◌≡◌, ◌≢◌, ◌↔◌, ◌+◌, ◌*◌, ◌^◌, ◌<◌, ◌≤◌, ℕ, Err, IfOk, length};
-ghost use Rattle.std.specs.Prelude.{slice_index};
+ghost use Rattle.std.specs.Prelude.{◌≡◌, ◌≢◌, ◌↔◌, ◌+◌, ◌*◌, ◌^◌, ◌<◌, ◌≤◌, ℕ, [], Err, IfOk};
+ghost use Rattle.std.specs.Prelude.{length, slice_index};
 ghost use Rattle.rcu_geometry.specs.Opening.{opening_refusal};
 ghost use Rattle.rcu_live.specs.Opening.{AreDealt, AreFanouts};
 ghost use Rattle.rcu_live.specs.Watcher.{after_word_step, watcher_at_first};
@@ -90,14 +90,14 @@ impl<const LEAF: u32, const FAN: u32, T: Drop, F: Shape> Graph<LEAF, FAN, T, F> 
         ensures fault { IsSized plan →
             tested_opening result ≡ opening_refusal LEAF FAN cpus last }
         ensures dealt { IfOk result (λ opened. AreDealt cpus last (2 ^ 62)
-            (first_place + (plan.links + plan.words) * plan.nodes) 0 (of_plan plan Idle) opened.0
-            opened.1.items opened.2.items) }
+            (first_place + (plan.links + plan.words) * plan.nodes) 0 (of_plan opened.0.plan Idle)
+            opened.0 opened.1.items opened.2.items) }
         ensures plan { IfOk result (λ opened. opened.0.plan ≡ plan) }
         ensures keeper { IfOk result (λ opened. IsKeeperOf opened.0 opened.3) }
         ensures own { IfOk result (λ opened. opened.3 ≡ after_word_step
             (watcher_at_first opened.0.table (base_of cpus) (of_plan plan Owner)) (of_plan plan
             (Keeper 0
-            (first_nodes plan.links plan.words (F.first plan) plan.roots plan.nodes)))) }
+            (first_nodes plan.links plan.words (F.first plan) plan.roots plan.nodes) []))) }
     {
         if !plan.is_sized() {
             return Err(NotOpened::BadSizes);

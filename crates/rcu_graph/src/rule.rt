@@ -108,7 +108,16 @@ impl WordStep<Planned> for Write {
     ghost then = { tells_write };
 }
 
-/// Stores a link, of a free node, or of a live one, which leads nowhere or to a live one then.
+/// Stores a link of a free node.
+pub struct WriteLink;
+
+impl WordStep<Planned> for WriteLink {
+    ghost use Rattle.rcu_graph.specs.Planned.{tells_write_link};
+
+    ghost then = { tells_write_link };
+}
+
+/// Stores a link of a live node, which leads nowhere or to a live one then.
 pub struct Link;
 
 impl WordStep<Planned> for Link {

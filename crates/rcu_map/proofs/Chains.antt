@@ -6,11 +6,11 @@ use Rattle.std.proofs.lemmas.Bool.{cases_lt}
 use Rattle.rcu_graph.specs.Absence.{key_at, next_of}
 use Rattle.rcu_graph.specs.Nodes.{node_at, state_at}
 use Rattle.rcu_graph.specs.declared.known.Node.{Node}
-use Rattle.rcu_graph.specs.declared.node_state.NodeState.TheVariants.{Live}
+use Rattle.rcu_graph.specs.declared.node_state.NodeState.TheVariants.{Free, Live}
 use Rattle.rcu_graph.proofs.Counting.{live_inside}
 use Rattle.rcu_graph.proofs.Tending.{led_there}
 use Rattle.rcu_map.specs.Chains.{AreOfOneBucket, IsMap}
-use Rattle.rcu_map.specs.Entries.{HasKey, IsEntry, IsNodeOf}
+use Rattle.rcu_map.specs.Entries.{HasKey, IsEntry, IsFreeNode, IsNodeOf}
 use Rattle.rcu_map.specs.Keys.{GoesUp, IsWhole, bucket_in, bucket_of, key_in}
 use Rattle.rcu_map.specs.Splices.{IsPlace}
 use Rattle.rcu_map.proofs.Buckets.{bucket_inside, entry_bucket, root_bucket, root_key}
@@ -31,6 +31,9 @@ module _ (holds : List ℕ → Type 0) (buckets seed width count : ℕ) (A : Lis
 
   pub inside : (i : ℕ) → state_at A i ≡ Live → i < count
   inside i live = let bound = live_inside A i live in let few = m.few in omega (arith, bound, few)
+
+  pub free_node : (i : ℕ) → i < count → state_at A i ≡ Free → IsFreeNode A i
+  free_node i low free = record { inside = omega (arith, low, m.few); free = free }
 
   pub sized : (i : ℕ) → state_at A i ≡ Live → length (node_at A i).words ≡ width
   sized i live = (m.tended.whole i live).sized

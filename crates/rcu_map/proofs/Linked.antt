@@ -12,15 +12,15 @@ use Rattle.rcu_map.specs.Keys.{bucket_of}
 use Rattle.rcu_map.proofs.Chains.{begins, behind_roots, led, of_its_bucket}
 
 -- the link of a node leads on to this one
-record LeadsOn (nodes : List Node) (from to : ℕ) : Type 0 where
-  begin : ℕ
-  begins : next_of nodes from ≡ suc begin
-  reached : Reaches nodes to begin
+pub record LeadsOn (nodes : List Node) (from to : ℕ) : Type 0 where
+  pub begin : ℕ
+  pub begins : next_of nodes from ≡ suc begin
+  pub reached : Reaches nodes to begin
 
 module _ (holds : List ℕ → Type 0) (buckets seed width count : ℕ) (A : List Node)
     (m : IsMap holds buckets seed width count A) where
   -- from a live node the chain leads to each one of its bucket with a greater key
-  leads_on : (fuel i j : ℕ)
+  pub leads_on : (fuel i j : ℕ)
       → AreOfOneBucket buckets seed A i j
       → key_at A i < key_at A j
       → key_at A j ≤ key_at A i + fuel

@@ -1,6 +1,6 @@
 -- What comes of putting an entry in: it was put in, it was not wanted, or no node was free.
 use Rattle.std.proofs.Common.{◌≡◌, ◌<◌, ℕ, true, List, Option, Some, Result, Ok}
-use Rattle.std.proofs.Common.{Err, ap, sym, subst}
+use Rattle.std.proofs.Common.{Err, ap, refl, sym, subst}
 use Rattle.std.specs.Prelude.{MatchResult}
 use Rattle.rcu_live.specs.Board.{Object}
 use Rattle.rcu_live.specs.Watcher.{Watching}
@@ -14,7 +14,8 @@ use Rattle.rcu_map.specs.Chains.{IsMap, buckets_in, seed_in}
 use Rattle.rcu_map.specs.Entries.{entries_in}
 use Rattle.rcu_map.specs.Keys.{GoesUp, IsWhole, key_in}
 use Rattle.rcu_map.specs.Puts.{HasChanged, IsPutIn}
-use Rattle.rcu_map.specs.Splices.{HasPut, IsFull, IsPlace}
+use Rattle.rcu_map.specs.Splices.{HasPut, IsFull, IsPlace, by_put, put}
+use Rattle.rcu_map.proofs.Chains.{free_node}
 use Rattle.rcu_map.proofs.Replacements.{replaced, replaced_count, replaced_map}
 
 -- an entry was put in the place of another one, or no node was free
@@ -75,7 +76,16 @@ module _ (holds : List ℕ → Type 0) (graph : Object Plan) (before now : Watch
       → MatchResult result (λ _. HasChanged (IsPutIn buckets words true) before now)
       (λ _. IsFull before now)
   over_put (Ok _) done = record {
-    state = done.state;
+    by = record {
+      stored = put (nodes_in before.view.client.known) previous done.node words next;
+      one = by_put previous done.node words next place.live
+          (free_node holds buckets seed width count (nodes_in before.view.client.known) m done.node
+          done.inside done.free)
+          refl;
+      state = done.state;
+      led = done.led;
+      trimmed = done.trimmed;
+    };
     nodes = replaced holds buckets seed width count (nodes_in before.view.client.known) m previous
         done.node
         old words next (nodes_in now.view.client.known) some place to done.inside done.free

@@ -6,6 +6,7 @@ pub mod Keys
 pub mod Listed
 pub mod Listing
 pub mod Puts
+pub mod Runs
 pub mod Sections
 pub mod Splices
 pub mod Waits

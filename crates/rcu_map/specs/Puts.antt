@@ -4,15 +4,17 @@ use Rattle.std.specs.Prelude.{IfSome, OnErr, is_some}
 use Rattle.rcu_live.specs.Board.{Object}
 use Rattle.rcu_live.specs.Watcher.{Watching}
 use Rattle.rcu_graph.specs.Graph.{IsWatcherOf}
-use Rattle.rcu_graph.specs.Keeper.{after_step}
+use Rattle.rcu_graph.specs.Keeper.{after_store}
 use Rattle.rcu_graph.specs.Nodes.{nodes_in}
+use Rattle.rcu_graph.specs.Tended.{AreLed, AreTrimmed}
 use Rattle.rcu_graph.specs.declared.keeper.Full.{Full}
 use Rattle.rcu_graph.specs.declared.known.Planned.{Planned}
 use Rattle.rcu_graph.specs.declared.known.Node.{Node}
 use Rattle.rcu_graph.specs.declared.plan.Plan.{Plan}
-use Rattle.rcu_map.specs.Chains.{buckets_in}
+use Rattle.rcu_map.specs.Chains.{buckets_in, seed_in}
 use Rattle.rcu_map.specs.Entries.{HasKey, IsEntryOf, IsInserted, IsReplaced}
-use Rattle.rcu_map.specs.Splices.{IsFull}
+use Rattle.rcu_map.specs.Keys.{GoesUp}
+use Rattle.rcu_map.specs.Splices.{IsFull, IsOneStore}
 use Rattle.rcu_map.specs.declared.put.Put.{Put}
 use Rattle.rcu_map.specs.declared.put.Put.TheVariants.{Insert, Replace, Upsert}
 
@@ -47,10 +49,19 @@ Holds decode valid key_of buckets nodes key (Some entry) =
 abbrev pub IsOfKey : {E : Type 0} → (E → Type 0) → (E → ℕ) → ℕ → Option E → Type 0
 IsOfKey valid key_of key old = IfSome old (λ entry. (key_of entry ≡ key) × valid entry)
 
--- one step of the keeper made this change of the nodes
+-- the keeper changed the nodes by one store, after which each chain goes up, and left what no live
+-- node leads to any more. So a section sees the entries as they were, or as they are
+pub record IsByOneStore (before after : Watching Planned) : Type 0 where
+  pub stored : List Node
+  pub one : IsOneStore (nodes_in before.view.client.known) stored
+  pub state : after ≡ after_store before stored (nodes_in after.view.client.known)
+  pub led : AreLed (λ _ from to. GoesUp (buckets_in before) (seed_in before) from to) 1 stored
+  pub trimmed : AreTrimmed (buckets_in before) 1 stored (nodes_in after.view.client.known)
+
+-- so it made this change
 pub record HasChanged (change : List Node → List Node → Type 0)
     (before after : Watching Planned) : Type 0 where
-  pub state : after ≡ after_step before (nodes_in after.view.client.known)
+  pub by : IsByOneStore before after
   pub nodes : change (nodes_in before.view.client.known) (nodes_in after.view.client.known)
 
 -- the entry of these words is in the map: in the place of the one that had its key, or beside the

@@ -4,16 +4,17 @@ use Rattle.rcu_live.specs.Board.{Object}
 use Rattle.rcu_live.specs.Watcher.{Watching}
 use Rattle.rcu_graph.specs.Absence.{key_at, next_of}
 use Rattle.rcu_graph.specs.Graph.{IsWatcherOf, word_to}
-use Rattle.rcu_graph.specs.Keeper.{IsKeeperOf, after_step}
+use Rattle.rcu_graph.specs.Keeper.{IsKeeperOf, after_store}
 use Rattle.rcu_graph.specs.Nodes.{IsTarget, node_at, nodes_in, renewed, state_at}
 use Rattle.rcu_graph.specs.Opening.{AreWhole}
 use Rattle.rcu_graph.specs.Steps.{IsClaimed}
-use Rattle.rcu_graph.specs.Tended.{AreAllUsed, AreTended, AreTrimmed, filled_with, published}
-use Rattle.rcu_graph.specs.Tended.{relinked}
+use Rattle.rcu_graph.specs.Tended.{AreAllUsed, AreLed, AreTended, AreTrimmed, filled_with}
+use Rattle.rcu_graph.specs.Tended.{published, relinked}
 use Rattle.rcu_graph.specs.declared.known.Planned.{Planned}
 use Rattle.rcu_graph.specs.declared.known.Node.{Node}
 use Rattle.rcu_graph.specs.declared.node_state.NodeState.TheVariants.{Free, Live}
 use Rattle.rcu_graph.specs.declared.plan.Plan.{Plan}
+use Rattle.rcu_map.specs.Entries.{IsFreeNode}
 use Rattle.rcu_map.specs.Keys.{bucket_in, bucket_of}
 
 -- the node leads to this one, which has the key; or to none that has it: nowhere, or to one with a
@@ -66,6 +67,16 @@ abbrev pub put : List Node → ℕ → ℕ → List ℕ → Option ℕ → List 
 put nodes previous node words next =
     published (renewed nodes node (filled_with (map word_to (next ∷ [])) words)) previous 0 node
 
+-- by one store the nodes became these: a free node, which was filled before, was put behind a live
+-- one; or a live one was led elsewhere
+pub data IsOneStore (before stored : List Node) : Type 0 where
+  by_put : (previous node : ℕ) (words : List ℕ) (next : Option ℕ)
+      → state_at before previous ≡ Live → IsFreeNode before node
+      → stored ≡ put before previous node words next → IsOneStore before stored
+  by_passing : (previous : ℕ) (next : Option ℕ)
+      → state_at before previous ≡ Live → stored ≡ relinked before previous 0 next
+      → IsOneStore before stored
+
 -- a node that was free was put behind the previous one by one store, and what no live node leads to
 -- any more was left
 pub record HasPut (fits : List ℕ → Type 0) (joins : ℕ → List ℕ → List ℕ → Type 0)
@@ -75,9 +86,12 @@ pub record HasPut (fits : List ℕ → Type 0) (joins : ℕ → List ℕ → Lis
   pub inside : node < before.view.client.plan.nodes
   pub free : state_at (nodes_in before.view.client.known) node ≡ Free
   pub watches : IsWatcherOf graph now
-  pub state : now ≡ after_step before (nodes_in now.view.client.known)
+  pub state : now ≡ after_store before
+      (put (nodes_in before.view.client.known) previous node words next)
+      (nodes_in now.view.client.known)
   pub kept : AreKept fits joins before.view.client.plan.roots before.view.client.plan.nodes
       (nodes_in now.view.client.known)
+  pub led : AreLed joins 1 (put (nodes_in before.view.client.known) previous node words next)
   pub trimmed : AreTrimmed before.view.client.plan.roots 1
       (put (nodes_in before.view.client.known) previous node words next)
       (nodes_in now.view.client.known)
@@ -105,9 +119,12 @@ pub record HasPassed (fits : List ℕ → Type 0) (joins : ℕ → List ℕ → 
   pub next : Option ℕ
   pub leads : word_to next ≡ next_of (nodes_in before.view.client.known) old
   pub watches : IsWatcherOf graph now
-  pub state : now ≡ after_step before (nodes_in now.view.client.known)
+  pub state : now ≡ after_store before
+      (relinked (nodes_in before.view.client.known) previous 0 next)
+      (nodes_in now.view.client.known)
   pub kept : AreKept fits joins before.view.client.plan.roots before.view.client.plan.nodes
       (nodes_in now.view.client.known)
+  pub led : AreLed joins 1 (relinked (nodes_in before.view.client.known) previous 0 next)
   pub trimmed : AreTrimmed before.view.client.plan.roots 1
       (relinked (nodes_in before.view.client.known) previous 0 next)
       (nodes_in now.view.client.known)

@@ -1,16 +1,23 @@
 //! What is said of the keys of a map, and of going over its entries, over the definitions alone.
-ghost use Rattle.std.specs.Prelude.{◌≡◌, ◌↔◌, ◌<◌, ◌≤◌, ◌++◌, Bool, List, ℕ};
+ghost use Rattle.std.specs.Prelude.{◌≡◌, ◌↔◌, ◌<◌, ◌≤◌, ◌++◌, ◌∷◌, ℕ, Bool, IsSome, List, Option};
+ghost use Rattle.std.specs.Prelude.{Some};
+ghost use Rattle.rcu_live.specs.Watcher.{Watching};
 ghost use Rattle.rcu_graph.specs.Absence.{AreMadeBy, IsHistory, IsLinkedKey};
+ghost use Rattle.rcu_graph.specs.Search.{IsSearched};
 ghost use Rattle.rcu_graph.specs.declared.known.Hop.{Hop};
+ghost use Rattle.rcu_graph.specs.declared.known.Known.{Known};
 ghost use Rattle.rcu_graph.specs.declared.known.Node.{Node};
+ghost use Rattle.rcu_graph.specs.declared.known.Planned.{Planned};
+ghost use Rattle.rcu_graph.specs.declared.plan.Plan.{Plan};
 ghost use Rattle.rcu_map.specs.Chains.{IsMap};
 ghost use Rattle.rcu_map.specs.Entries.{HasKey};
 ghost use Rattle.rcu_map.specs.Keys.{bucket_of};
 ghost use Rattle.rcu_map.specs.Listing.{GoOn, IsListed, at_root};
+ghost use Rattle.rcu_map.specs.Runs.{HasKeyThroughout, IsRun, last_of, seen_in};
 ghost use Rattle.rcu_map.specs.declared.cursor.Cursor.{Cursor};
 
 use crate::entry::Entry;
-use rcu_graph::laws::linked_keys_are_found;
+use rcu_graph::laws::{found_keys_were_linked, linked_keys_are_found};
 
 /// A key is in a map exactly where the chain of its bucket leads to it. So what is said of keys
 /// that are linked, as that a section finds them, is said of the keys of entries.
@@ -40,4 +47,35 @@ pub fn linked_keys_are_listed()
         AreMadeBy nodes last hops → IsListed key hops }
 {
     linked_keys_are_found();
+}
+
+/// A key that is in the map when a section begins, and after each call of the keeper until its
+/// search ends, is found, whatever the calls are: so a section that searches a key that is replaced
+/// finds the old entry or the new one.
+pub fn keys_that_stay_are_found<E: Entry<W>, const W: usize>()
+    ensures { (plan : Plan) (opened key : ℕ) (now : Watching Planned)
+        (run : IsRun E.holds plan opened now) (was known : Known) (found : Option ℕ)
+        (search : IsSearched (bucket_of plan.roots plan.seed key) key was found known) →
+        0 < plan.roots → plan.words ≡ W → 0 < key →
+        HasKeyThroughout E.holds plan opened key now run →
+        AreMadeBy (seen_in E.holds plan opened now run) (last_of E.holds plan opened now run)
+        (search.last ∷ search.path) → IsSome found }
+{
+    linked_keys_are_found();
+}
+
+/// What a section finds was in the map at a moment of the section: the chain of its key's bucket
+/// led to it.
+pub fn found_keys_were_there<E: Entry<W>, const W: usize>()
+    ensures { (plan : Plan) (opened key : ℕ) (now : Watching Planned)
+        (run : IsRun E.holds plan opened now) (was known : Known) (node : ℕ)
+        (search : IsSearched (bucket_of plan.roots plan.seed key) key was (Some node) known) →
+        0 < plan.roots → plan.words ≡ W → 0 < key →
+        AreMadeBy (seen_in E.holds plan opened now run) (last_of E.holds plan opened now run)
+        (search.last ∷ search.path) →
+        (t : ℕ) × (t ≤ last_of E.holds plan opened now run)
+        × IsLinkedKey (bucket_of plan.roots plan.seed key) key
+        (seen_in E.holds plan opened now run t) }
+{
+    found_keys_were_linked();
 }

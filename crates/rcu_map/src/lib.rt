@@ -3,6 +3,7 @@
 
 mod bucket;
 pub mod cursor;
+pub mod definition_laws;
 pub mod entries;
 pub mod entry;
 pub mod keeper;

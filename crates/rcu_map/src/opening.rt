@@ -1,5 +1,5 @@
 //! The opening of a map.
-ghost use Rattle.std.specs.Prelude.{◌≡◌, ◌↔◌, ◌+◌, ◌*◌, ◌^◌, ◌<◌, Err, IfOk};
+ghost use Rattle.std.specs.Prelude.{◌≡◌, ◌↔◌, ◌+◌, ◌*◌, ◌^◌, ◌<◌, [], Err, IfOk};
 ghost use Rattle.rcu_geometry.specs.Opening.{opening_refusal};
 ghost use Rattle.rcu_live.specs.Opening.{AreDealt, AreFanouts};
 ghost use Rattle.rcu_live.specs.Watcher.{after_word_step, watcher_at_first};
@@ -58,8 +58,7 @@ impl<const LEAF: u32, const FAN: u32, T: Drop, E: Entry<W>, const W: usize> Map<
         ensures fault { HasSizes buckets W nodes →
             tested_opening result ≡ opening_refusal LEAF FAN cpus last }
         ensures dealt { IfOk result (λ opened. AreDealt cpus last (2 ^ 62)
-            (first_place + (1 + W) * nodes) 0 (of_plan (plan_of_map buckets W nodes seed) Idle)
-            opened.0
+            (first_place + (1 + W) * nodes) 0 (of_plan opened.0.plan Idle) opened.0
             opened.1.items opened.2.items) }
         ensures plan { IfOk result (λ opened. opened.0.plan ≡ plan_of_map buckets W nodes seed) }
         ensures keeper { IfOk result (λ opened. IsKeeperOf opened.0 opened.3) }
@@ -67,7 +66,7 @@ impl<const LEAF: u32, const FAN: u32, T: Drop, E: Entry<W>, const W: usize> Map<
             (watcher_at_first opened.0.table (base_of cpus)
             (of_plan (plan_of_map buckets W nodes seed) Owner))
             (of_plan (plan_of_map buckets W nodes seed)
-            (Keeper 0 (first_nodes 1 W (root_words W) buckets nodes)))) }
+            (Keeper 0 (first_nodes 1 W (root_words W) buckets nodes) []))) }
     {
         if buckets == 0 {
             return Err(NotOpened::BadSizes);

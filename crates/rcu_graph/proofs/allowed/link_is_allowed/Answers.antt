@@ -11,4 +11,5 @@ returns g c = λ plan is.
     c.args.place (λ _. c.args.value)
     (λ _. IsLinked p.links p.words c.args.place c.args.seat.now.view.client.known c.args.value)
     (links_at (g.F.Shape.fits p) (g.F.Shape.joins p) (g.F.Shape.first p) _ _ _ _ _ _ _ _ _ _ _
-    c.requires.keeps c.requires.inside c.requires.link c.requires.can c.requires.place)
+    c.requires.keeps c.requires.inside c.requires.link c.requires.live c.requires.target
+    c.requires.place)

@@ -1,7 +1,7 @@
 use Rattle.std.proofs.Common.{◌<◌, ◌∙◌, ℕ, ap, arith, subst, sym}
 use Rattle.rcu_graph.specs.Graph.{word_to}
 use Rattle.rcu_graph.specs.Nodes.{IsTarget, node_at, nodes_in}
-use Rattle.rcu_graph.specs.Tended.{AreTended, AreTrimmed, relinked}
+use Rattle.rcu_graph.specs.Tended.{AreLed, AreTended, AreTrimmed, relinked}
 use Rattle.rcu_graph.specs.declared.plan.Plan.{Plan}
 use Rattle.rcu_graph.proofs.Counting.{live_inside}
 use Rattle.rcu_map.specs.Splices.{AreKept}
@@ -56,6 +56,14 @@ returns g c =
                 (nodes_in c.link.new.self.view.client.known))
                 (ap (λ (p : Plan). p.links) back ∙ c.requires.one) t.tended;
           });
+      led = subst (λ (links : ℕ). AreLed (g.F.Shape.joins c.args.keeper.now.view.client.plan) links
+          (relinked (nodes_in c.args.keeper.now.view.client.known) c.args.previous 0
+          c.link_of-next.result))
+          c.requires.one
+          (subst (λ (p : Plan). AreLed (g.F.Shape.joins p) p.links
+          (relinked (nodes_in c.args.keeper.now.view.client.known) c.args.previous 0
+          c.link_of-next.result))
+          back c.link.ensures.led);
       trimmed = subst (λ (links : ℕ). AreTrimmed c.args.keeper.now.view.client.plan.roots links
           (relinked (nodes_in c.args.keeper.now.view.client.known) c.args.previous 0
           c.link_of-next.result)

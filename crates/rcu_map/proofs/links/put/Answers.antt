@@ -1,9 +1,9 @@
 use Rattle.std.proofs.Common.{◌≡◌, ◌<◌, ◌∙◌, ℕ, All, IfSome, ap, arith, subst, sym}
 use Rattle.std.proofs.Common.{[], ◌∷◌}
 use Rattle.rcu_live.specs.Watcher.{Watching}
-use Rattle.rcu_graph.specs.Keeper.{IsReady, after_step}
+use Rattle.rcu_graph.specs.Keeper.{IsReady, after_store}
 use Rattle.rcu_graph.specs.Nodes.{node_at, nodes_in, state_at}
-use Rattle.rcu_graph.specs.Tended.{AreTended, AreTrimmed, published}
+use Rattle.rcu_graph.specs.Tended.{AreLed, AreTended, AreTrimmed, published}
 use Rattle.rcu_graph.specs.declared.known.Planned.{Planned}
 use Rattle.rcu_graph.specs.declared.node_state.NodeState.TheVariants.{Live}
 use Rattle.rcu_graph.specs.declared.plan.Plan.{Plan}
@@ -108,7 +108,8 @@ returns g c =
       watches = c.publish.ensures.graph;
       state =
           c.publish.ensures.state
-          ∙ ap (λ (w : Watching Planned). after_step w
+          ∙ ap (λ (w : Watching Planned). after_store w
+          (published (nodes_in w.view.client.known) c.args.previous 0 c.in_ok-node.node)
           (nodes_in c.publish.new.self.view.client.known))
           c.fill.ensures.state;
       kept = subst (λ (p : Plan). AreKept (g.F.Shape.fits p) (g.F.Shape.joins p) p.roots p.nodes
@@ -121,6 +122,18 @@ returns g c =
                 (nodes_in c.publish.new.self.view.client.known))
                 (ap (λ (p : Plan). p.links) back ∙ c.requires.one) t.tended;
           });
+      led = subst (λ (w : Watching Planned). AreLed
+          (g.F.Shape.joins c.args.keeper.now.view.client.plan) 1
+          (published (nodes_in w.view.client.known) c.args.previous 0 c.in_ok-node.node))
+          c.fill.ensures.state
+          (subst (λ (links : ℕ). AreLed (g.F.Shape.joins c.args.keeper.now.view.client.plan) links
+          (published (nodes_in c.fill.new.self.view.client.known) c.args.previous 0
+          c.in_ok-node.node))
+          c.requires.one
+          (subst (λ (p : Plan). AreLed (g.F.Shape.joins p) p.links
+          (published (nodes_in c.fill.new.self.view.client.known) c.args.previous 0
+          c.in_ok-node.node))
+          back c.publish.ensures.led));
       trimmed = subst (λ (w : Watching Planned). AreTrimmed
           c.args.keeper.now.view.client.plan.roots 1
           (published (nodes_in w.view.client.known) c.args.previous 0 c.in_ok-node.node)

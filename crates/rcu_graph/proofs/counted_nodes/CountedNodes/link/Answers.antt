@@ -1,18 +1,17 @@
-use Rattle.std.proofs.Common.{◌≡◌, ◌∙◌, ◌<◌, ◌∷◌, [], ℕ, List, ap, arith, inr, subst, suc, sym}
+use Rattle.std.proofs.Common.{◌≡◌, ◌∙◌, ◌<◌, ◌∷◌, [], ℕ, List, ap, arith, subst, suc, sym}
 use Rattle.std.specs.Prelude.{slice_index}
 use Rattle.rcu_live.specs.Watcher.{Watching}
 use Rattle.rcu_graph.specs.Counts.{counted_up}
 use Rattle.rcu_graph.specs.Graph.{IsWatcherOf, word_to}
-use Rattle.rcu_graph.specs.Keeper.{CanLink}
-use Rattle.rcu_graph.specs.Nodes.{linked_to, node_at, nodes_in, renewed}
+use Rattle.rcu_graph.specs.Keeper.{after_link}
+use Rattle.rcu_graph.specs.Nodes.{IsTarget, linked_to, node_at, nodes_in, renewed}
 use Rattle.rcu_graph.specs.Trimming.{IsTrimming}
 use Rattle.rcu_graph.specs.declared.known.Planned.{Planned}
 use Rattle.rcu_graph.specs.declared.known.Node.{Node}
 use Rattle.rcu_graph.specs.declared.plan.Plan.{Plan}
-use Rattle.rcu_graph.proofs.Cascade.{count_fits, counted_after, nodes_are, one_step}
-use Rattle.rcu_graph.proofs.Cascade.{relinked_starts, relinked_whole, same_trimming, step_on}
-use Rattle.rcu_graph.proofs.Cascade.{target_inside, word_fits}
-use Rattle.rcu_graph.proofs.Tending.{trimmed}
+use Rattle.rcu_graph.proofs.Cascade.{count_fits, counted_after, relinked_starts, relinked_whole}
+use Rattle.rcu_graph.proofs.Cascade.{same_trimming, target_inside, trimmed_on, word_fits}
+use Rattle.rcu_graph.proofs.Tending.{are_led, trimmed}
 use Rattle.rcu_graph.proofs.counted_nodes.CountedNodes.link.Goals as goal
 
 pub word_of-word-requires : goal.word_of-word-requires
@@ -34,10 +33,14 @@ link-requires g c = (
       c.requires.from_inside,
       (
         c.requires.link_inside,
-        subst (λ (x : ℕ).
-            CanLink (g.F.Shape.joins c.args.graph.now.plan c.args.link)
-            (nodes_in c.args.self.now.nodes.view.client.known) c.args.from x)
-            (sym c.word_of-word.ensures) (inr (c.requires.live, c.requires.target)),
+        (
+          c.requires.live,
+          subst (λ (x : ℕ).
+              IsTarget (g.F.Shape.joins c.args.graph.now.plan c.args.link)
+              (node_at (nodes_in c.args.self.now.nodes.view.client.known) c.args.from).words
+              (nodes_in c.args.self.now.nodes.view.client.known) x)
+              (sym c.word_of-word.ensures) c.requires.target,
+        ),
       ),
     ),
   ),
@@ -80,8 +83,7 @@ trim-requires g c =
     let now : Watching Planned = c.count.new.self.nodes in
     let nodes_is : nodes_in now.view.client.known ≡ stored =
     ap (λ (w : Watching Planned). nodes_in w.view.client.known) c.count.ensures.nodes
-    ∙ (nodes_are c.args.self.now.nodes c.link.new.self
-    (renewed nodes c.args.from (linked_to c.args.link c.word_of-word.result)) c.link.ensures.state
+    ∙ (ap (λ (w : Watching Planned). nodes_in w.view.client.known) c.link.ensures.state
     ∙ ap (λ (w : ℕ). renewed nodes c.args.from (linked_to c.args.link w)) c.word_of-word.ensures) in
     let counts_is : c.count.new.self.counts.items ≡ counted_up counts x =
     c.count.ensures.counts ∙ ap (λ (w : ℕ). counted_up counts w) c.word_of-word.ensures in
@@ -117,16 +119,21 @@ returns g c =
     let stored : List Node = renewed nodes c.args.from (linked_to c.args.link x) in
     let nodes_is : nodes_in c.count.new.self.nodes.view.client.known ≡ stored =
     ap (λ (w : Watching Planned). nodes_in w.view.client.known) c.count.ensures.nodes
-    ∙ (nodes_are c.args.self.now.nodes c.link.new.self
-    (renewed nodes c.args.from (linked_to c.args.link c.word_of-word.result)) c.link.ensures.state
+    ∙ (ap (λ (w : Watching Planned). nodes_in w.view.client.known) c.link.ensures.state
     ∙ ap (λ (w : ℕ). renewed nodes c.args.from (linked_to c.args.link w)) c.word_of-word.ensures) in
     let t = c.trim.ensures.trimming in
+    let whole = relinked_whole (g.F.Shape.fits c.args.graph.now.plan)
+          (g.F.Shape.joins c.args.graph.now.plan) c.args.graph.now.plan.nodes
+          c.args.graph.now.plan.roots c.args.graph.now.plan.links c.args.graph.now.plan.words nodes
+          counts leaving s.few s.sized c.requires.counted c.args.from c.args.link x c.requires.live
+          c.requires.link_inside c.requires.target in
     record {
       watches = c.trim.ensures.graph;
       state =
-          step_on c.args.self.now.nodes c.count.new.self.nodes c.trim.new.self.nodes
-          (one_step c.args.self.now.nodes c.count.new.self.nodes _
-          (c.count.ensures.nodes ∙ c.link.ensures.state))
+          trimmed_on c.args.self.now.nodes c.count.new.self.nodes c.trim.new.self.nodes stored
+          (c.count.ensures.nodes ∙ (c.link.ensures.state
+          ∙ ap (λ (w : ℕ). after_link c.args.self.now.nodes c.args.from c.args.link w)
+          c.word_of-word.ensures))
           c.trim.ensures.state;
       counted =
           counted_after (g.F.Shape.fits c.args.graph.now.plan)
@@ -134,27 +141,22 @@ returns g c =
           c.args.graph.now.plan.roots c.args.graph.now.plan.links c.args.graph.now.plan.words stored
           (nodes_in c.trim.new.self.nodes.view.client.known) c.trim.new.self.counts.items
           c.trim.new.self.leaving.items t.0
-          (relinked_whole (g.F.Shape.fits c.args.graph.now.plan)
-          (g.F.Shape.joins c.args.graph.now.plan) c.args.graph.now.plan.nodes
-          c.args.graph.now.plan.roots c.args.graph.now.plan.links c.args.graph.now.plan.words nodes
-          counts leaving s.few s.sized c.requires.counted c.args.from c.args.link x c.requires.live
-          c.requires.link_inside c.requires.target)
+          whole
           (subst (λ (l : List Node). IsTrimming c.args.graph.now.plan.nodes
           c.args.graph.now.plan.roots c.args.graph.now.plan.links l
           (nodes_in c.trim.new.self.nodes.view.client.known) c.trim.new.self.counts.items
           c.trim.new.self.leaving.items t.0 t.0 [])
           nodes_is t.1);
+      led = are_led (g.F.Shape.fits c.args.graph.now.plan) (g.F.Shape.joins c.args.graph.now.plan)
+          c.args.graph.now.plan.nodes c.args.graph.now.plan.roots c.args.graph.now.plan.links
+          c.args.graph.now.plan.words stored whole;
       trimmed =
           trimmed (g.F.Shape.fits c.args.graph.now.plan) (g.F.Shape.joins c.args.graph.now.plan)
           c.args.graph.now.plan.nodes c.args.graph.now.plan.roots c.args.graph.now.plan.links
           c.args.graph.now.plan.words stored
           (nodes_in c.trim.new.self.nodes.view.client.known) c.trim.new.self.counts.items
           c.trim.new.self.leaving.items t.0
-          (relinked_whole (g.F.Shape.fits c.args.graph.now.plan)
-          (g.F.Shape.joins c.args.graph.now.plan) c.args.graph.now.plan.nodes
-          c.args.graph.now.plan.roots c.args.graph.now.plan.links c.args.graph.now.plan.words nodes
-          counts leaving s.few s.sized c.requires.counted c.args.from c.args.link x c.requires.live
-          c.requires.link_inside c.requires.target)
+          whole
           (subst (λ (l : List Node). IsTrimming c.args.graph.now.plan.nodes
           c.args.graph.now.plan.roots c.args.graph.now.plan.links l
           (nodes_in c.trim.new.self.nodes.view.client.known) c.trim.new.self.counts.items

@@ -11,10 +11,9 @@ use Rattle.rcu_graph.specs.declared.known.Planned.{Planned}
 use Rattle.rcu_graph.specs.declared.known.Node.{Node}
 use Rattle.rcu_graph.specs.declared.plan.Plan.{Plan}
 use Rattle.rcu_graph.specs.declared.node_state.NodeState.TheVariants.{Live}
-use Rattle.rcu_graph.proofs.Cascade.{counted_after, counts_fit, new_fits, one_step}
-use Rattle.rcu_graph.proofs.Cascade.{published_starts, published_whole, ready_inside, same_trimming}
-use Rattle.rcu_graph.proofs.Cascade.{step_on}
-use Rattle.rcu_graph.proofs.Tending.{trimmed}
+use Rattle.rcu_graph.proofs.Cascade.{counted_after, counts_fit, new_fits, published_starts}
+use Rattle.rcu_graph.proofs.Cascade.{published_whole, ready_inside, same_trimming, trimmed_on}
+use Rattle.rcu_graph.proofs.Tending.{are_led, trimmed}
 use Rattle.rcu_graph.proofs.counted_nodes.CountedNodes.publish.Goals as goal
 
 pub count_links_of-requires : goal.count_links_of-requires
@@ -171,17 +170,20 @@ returns g c =
     ∙ (c.publish.ensures.state
     ∙ ap (λ (w : Watching Planned). after_publish w c.args.from c.args.link c.args.to) n.nodes)) in
     let t = c.trim.ensures.trimming in
+    let whole = published_whole (g.F.Shape.fits c.args.graph.now.plan)
+          (g.F.Shape.joins c.args.graph.now.plan) c.args.graph.now.plan.nodes
+          c.args.graph.now.plan.roots c.args.graph.now.plan.links c.args.graph.now.plan.words nodes
+          counts leaving s.few s.sized c.requires.counted c.args.from c.args.link c.args.to
+          c.requires.to_inside c.requires.ready new n.many n.counts c.requires.live
+          c.requires.link_inside c.requires.joined in
     record {
       watches = c.trim.ensures.graph;
       state =
-          step_on c.args.self.now.nodes c.count.new.self.nodes c.trim.new.self.nodes
-          (one_step c.args.self.now.nodes c.count.new.self.nodes
-          (published (nodes_in c.args.self.now.nodes.view.client.known) c.args.from c.args.link
-          c.args.to)
+          trimmed_on c.args.self.now.nodes c.count.new.self.nodes c.trim.new.self.nodes stored
           (c.count.ensures.nodes
           ∙ (c.publish.ensures.state
           ∙ ap (λ (w : Watching Planned). after_publish w c.args.from c.args.link c.args.to)
-          c.count_links_of.ensures.nodes)))
+          n.nodes))
           c.trim.ensures.state;
       counted =
           counted_after (g.F.Shape.fits c.args.graph.now.plan)
@@ -189,29 +191,22 @@ returns g c =
           c.args.graph.now.plan.roots c.args.graph.now.plan.links c.args.graph.now.plan.words stored
           (nodes_in c.trim.new.self.nodes.view.client.known) c.trim.new.self.counts.items
           c.trim.new.self.leaving.items t.0
-          (published_whole (g.F.Shape.fits c.args.graph.now.plan)
-          (g.F.Shape.joins c.args.graph.now.plan) c.args.graph.now.plan.nodes
-          c.args.graph.now.plan.roots c.args.graph.now.plan.links c.args.graph.now.plan.words nodes
-          counts leaving s.few s.sized c.requires.counted c.args.from c.args.link c.args.to
-          c.requires.to_inside c.requires.ready new n.many n.counts c.requires.live
-          c.requires.link_inside c.requires.joined)
+          whole
           (subst (λ (l : List Node). IsTrimming c.args.graph.now.plan.nodes
           c.args.graph.now.plan.roots c.args.graph.now.plan.links l
           (nodes_in c.trim.new.self.nodes.view.client.known) c.trim.new.self.counts.items
           c.trim.new.self.leaving.items t.0 t.0 [])
           nodes_is t.1);
+      led = are_led (g.F.Shape.fits c.args.graph.now.plan) (g.F.Shape.joins c.args.graph.now.plan)
+          c.args.graph.now.plan.nodes c.args.graph.now.plan.roots c.args.graph.now.plan.links
+          c.args.graph.now.plan.words stored whole;
       trimmed =
           trimmed (g.F.Shape.fits c.args.graph.now.plan) (g.F.Shape.joins c.args.graph.now.plan)
           c.args.graph.now.plan.nodes c.args.graph.now.plan.roots c.args.graph.now.plan.links
           c.args.graph.now.plan.words stored
           (nodes_in c.trim.new.self.nodes.view.client.known) c.trim.new.self.counts.items
           c.trim.new.self.leaving.items t.0
-          (published_whole (g.F.Shape.fits c.args.graph.now.plan)
-          (g.F.Shape.joins c.args.graph.now.plan) c.args.graph.now.plan.nodes
-          c.args.graph.now.plan.roots c.args.graph.now.plan.links c.args.graph.now.plan.words nodes
-          counts leaving s.few s.sized c.requires.counted c.args.from c.args.link c.args.to
-          c.requires.to_inside c.requires.ready new n.many n.counts c.requires.live
-          c.requires.link_inside c.requires.joined)
+          whole
           (subst (λ (l : List Node). IsTrimming c.args.graph.now.plan.nodes
           c.args.graph.now.plan.roots c.args.graph.now.plan.links l
           (nodes_in c.trim.new.self.nodes.view.client.known) c.trim.new.self.counts.items

@@ -1,7 +1,6 @@
 use Rattle.std.proofs.Common.{◌∙◌, ap, length-set, subst, sym}
 use Rattle.rcu_live.specs.Board.{Object}
-use Rattle.rcu_graph.specs.Keeper.{CanLink}
-use Rattle.rcu_graph.specs.Nodes.{nodes_in}
+use Rattle.rcu_graph.specs.Nodes.{IsTarget, node_at, nodes_in}
 use Rattle.rcu_graph.specs.Steps.{IsLinked}
 use Rattle.rcu_graph.specs.declared.plan.Plan.{Plan}
 use Rattle.rcu_graph.proofs.Keeping.{keeps_on}
@@ -12,17 +11,18 @@ pub store_word-requires-clause-allowed : goal.store_word-requires-clause-allowed
 store_word-requires-clause-allowed g c = c.link_is_allowed.ensures c.self.inside.live.plan
     (c.requires.keeper.watches.planned ∙ ap (λ (o : Object Plan). o.plan) (sym c.self.view_is))
 
-pub link_is_allowed-requires-clause-can : goal.link_is_allowed-requires-clause-can
-link_is_allowed-requires-clause-can g c =
-    subst (λ (p : Plan). CanLink (g.F.Shape.joins p c.args.link)
-    (nodes_in c.args.seat.now.view.client.known) c.args.node c.args.value)
-    (sym c.requires.keeper.watches.planned) c.requires.can
+pub link_is_allowed-requires-clause-target : goal.link_is_allowed-requires-clause-target
+link_is_allowed-requires-clause-target g c =
+    subst (λ (p : Plan). IsTarget (g.F.Shape.joins p c.args.link)
+    (node_at (nodes_in c.args.seat.now.view.client.known) c.args.node).words
+    (nodes_in c.args.seat.now.view.client.known) c.args.value)
+    (sym c.requires.keeper.watches.planned) c.requires.target
 
 pub returns-clause-keeper : goal.returns-clause-keeper
 returns-clause-keeper g c =
     let e = c.store_word.ensures in
     let k = c.requires.keeper in
-    keeps_on _ _ _ _ _ e.state e.told.0
+    keeps_on _ _ _ _ _ _ e.state e.told.0
     (told_at (λ (p : Plan). IsLinked p.links p.words) c.place-place.result
     c.args.seat.now.view.client c.args.value c.store_word.new.self.view.client
     c.args.self.now.plan k.watches.planned e.told c.args.node c.args.link c.requires.link

@@ -14,7 +14,7 @@ pub returns-clause-keeper : goal.returns-clause-keeper
 returns-clause-keeper g c =
     let e = c.store_word.ensures in
     let k = c.requires.keeper in
-    keeps_on _ _ _ _ _ e.state e.told.0
+    keeps_on _ _ _ _ _ _ e.state e.told.0
     (told_at (λ (p : Plan). IsPublished p.links p.words) c.place-place.result
     c.args.seat.now.view.client _ c.store_word.new.self.view.client c.args.self.now.plan
     k.watches.planned e.told c.args.from c.args.link c.args.to c.requires.link

@@ -17,7 +17,7 @@ returns-clause-keeper g c =
     let k = c.requires.keeper in
     let is = same_plan c.args.self.now c.self.inside.live c.self.inside.plan c.self.view_is
     c.self.invariant.planned in
-    keeps_on _ _ _ _ _ e.state e.told.0
+    keeps_on _ _ _ _ _ _ e.state e.told.0
     (told_at (λ (p : Plan). IsWritten p.links p.words) c.place-place.result
     c.args.seat.now.view.client c.args.value c.store_word.new.self.view.client
     c.args.self.now.plan k.watches.planned e.told c.args.node c.args.word c.requires.word

@@ -1,9 +1,9 @@
 use Rattle.std.proofs.Common.{◌≡◌, ◌∙◌, ap, arith, subst, sym}
 use Rattle.rcu_live.specs.Watcher.{Watching}
 use Rattle.rcu_graph.specs.Graph.{IsWatcherOf}
-use Rattle.rcu_graph.specs.Keeper.{IsReady, after_step}
+use Rattle.rcu_graph.specs.Keeper.{IsReady, after_store}
 use Rattle.rcu_graph.specs.Nodes.{node_at, nodes_in, state_at}
-use Rattle.rcu_graph.specs.Tended.{AreTrimmed, published}
+use Rattle.rcu_graph.specs.Tended.{AreLed, AreTrimmed, published}
 use Rattle.rcu_graph.specs.Trimming.{IsCounted}
 use Rattle.rcu_graph.specs.declared.known.Planned.{Planned}
 use Rattle.rcu_graph.specs.declared.node_state.NodeState.TheVariants.{Live}
@@ -58,9 +58,17 @@ returns-clause-graph g c = c.publish.ensures.watches
 pub returns-clause-state : goal.returns-clause-state
 returns-clause-state g c =
     c.publish.ensures.state
-    ∙ ap (λ (w : Watching Planned). after_step w (nodes_in
-    c.publish.new.self.nodes.view.client.known))
+    ∙ ap (λ (w : Watching Planned). after_store w
+    (published (nodes_in w.view.client.known) c.args.from c.args.link c.args.to)
+    (nodes_in c.publish.new.self.nodes.view.client.known))
     c.self.view_is
+
+pub returns-clause-led : goal.returns-clause-led
+returns-clause-led g c =
+    subst (λ (w : Watching Planned). AreLed (g.F.Shape.joins c.args.graph.now.plan)
+    c.args.graph.now.plan.links
+    (published (nodes_in w.view.client.known) c.args.from c.args.link c.args.to))
+    c.self.view_is c.publish.ensures.led
 
 pub returns-clause-trimmed : goal.returns-clause-trimmed
 returns-clause-trimmed g c =

@@ -27,7 +27,7 @@ loop-link-preserved g c =
     let x : c.word_of.result ≡ get_or (map word_to links) l 0 =
     c.word_of.ensures ∙ sym (get_or-map word_to links l None) in
     link_filled c.args.self.now c.args.node l c.word_of.result (map word_to links) c.loop-link.self
-    c.lead.new.self low inside small x c.loop-link.invariant c.lead.ensures
+    c.write_link.new.self low inside small x c.loop-link.invariant c.write_link.ensures
 
 pub word_of-requires : goal.word_of-requires
 word_of-requires g c =
@@ -41,8 +41,8 @@ word_of-requires g c =
     l None small
     c.requires.inside)
 
-pub lead-requires : goal.lead-requires
-lead-requires g c = (
+pub write_link-requires : goal.write_link-requires
+write_link-requires g c = (
   omega arith,
   can_store c.args.self.now c.args.node c.args.graph.now.plan.links c.loop-link.link
       c.args.graph.now c.loop-link.self

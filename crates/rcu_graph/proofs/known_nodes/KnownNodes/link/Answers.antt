@@ -1,9 +1,10 @@
 use Rattle.std.proofs.Common.{◌≡◌, ◌∙◌, ap, arith, subst, sym}
 use Rattle.rcu_live.specs.Watcher.{Watching}
 use Rattle.rcu_graph.specs.Graph.{IsWatcherOf}
-use Rattle.rcu_graph.specs.Keeper.{CanLink, IsKeeperOf}
-use Rattle.rcu_graph.specs.Nodes.{nodes_in}
+use Rattle.rcu_graph.specs.Keeper.{IsKeeperOf}
+use Rattle.rcu_graph.specs.Nodes.{IsTarget, node_at, nodes_in, state_at}
 use Rattle.rcu_graph.specs.declared.known.Planned.{Planned}
+use Rattle.rcu_graph.specs.declared.node_state.NodeState.TheVariants.{Live}
 use Rattle.rcu_graph.specs.declared.plan.Plan.{Plan}
 use Rattle.rcu_graph.proofs.known_nodes.KnownNodes.link.Goals as goal
 
@@ -19,8 +20,12 @@ link-requires g c =
       keeps = k.keeps;
       few = k.few ∙ ap (λ (p : Plan). p.nodes) (sym k.planned ∙ watches.planned);
     } in
-    let can = subst (λ (w : Watching Planned). CanLink
-    (g.F.Shape.joins c.args.graph.now.plan c.args.link) (nodes_in w.view.client.known) c.args.node
+    let live = subst (λ (w : Watching Planned). state_at (nodes_in w.view.client.known) c.args.node
+    ≡ Live)
+    (sym is) c.requires.live in
+    let target = subst (λ (w : Watching Planned). IsTarget
+    (g.F.Shape.joins c.args.graph.now.plan c.args.link)
+    (node_at (nodes_in w.view.client.known) c.args.node).words (nodes_in w.view.client.known)
     c.args.value)
-    (sym is) c.requires.can in
-    (omega arith, (keeper, (c.requires.node, (c.requires.link, can))))
+    (sym is) c.requires.target in
+    (omega arith, (keeper, (c.requires.node, (c.requires.link, (live, target)))))

@@ -9,8 +9,9 @@ use Rattle.rcu_graph.specs.declared.plan.Plan.{Plan}
 use Rattle.rcu_map.specs.Chains.{IsKept, buckets_in}
 use Rattle.rcu_map.specs.Keys.{GoesUp, IsWhole, key_in}
 use Rattle.rcu_map.specs.Puts.{HasChanged, IsPutIn}
-use Rattle.rcu_map.specs.Splices.{CanPut}
+use Rattle.rcu_map.specs.Splices.{CanPut, by_put, put}
 use Rattle.rcu_map.proofs.Allowed.{can_insert, placed}
+use Rattle.rcu_map.proofs.Chains.{free_node}
 use Rattle.rcu_map.proofs.Counted.{entries_few}
 use Rattle.rcu_map.proofs.Insertions.{inserted, inserted_count, inserted_map}
 use Rattle.rcu_map.proofs.keeper.MapKeeper.put_behind.Goals as goal
@@ -101,7 +102,16 @@ returns-clause-put g c =
     c.put.new.keeper)
     c.self.view_is
     (record {
-      state = done.state;
+      by = record {
+        stored = put before c.args.previous done.node words c.link_of-next.result;
+        one = by_put c.args.previous done.node words c.link_of-next.result place.live
+            (free_node g.E.Invariant.holds p.roots p.seed p.words p.nodes before k.map done.node
+            done.inside done.free)
+            refl;
+        state = done.state;
+        led = done.led;
+        trimmed = done.trimmed;
+      };
       nodes = inserted g.E.Invariant.holds p.roots p.seed p.words p.nodes before k.map
           c.args.previous
           done.node words c.link_of-next.result after some place c.link_of-next.ensures done.inside

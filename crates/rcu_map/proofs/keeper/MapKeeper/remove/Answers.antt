@@ -3,6 +3,7 @@ use Rattle.rcu_live.specs.Board.{Object}
 use Rattle.rcu_live.specs.Watcher.{Watching}
 use Rattle.rcu_graph.specs.Graph.{IsWatcherOf}
 use Rattle.rcu_graph.specs.Nodes.{nodes_in}
+use Rattle.rcu_graph.specs.Tended.{relinked}
 use Rattle.rcu_graph.specs.declared.known.Planned.{Planned}
 use Rattle.rcu_graph.specs.declared.known.Node.{Node}
 use Rattle.rcu_graph.specs.declared.plan.Plan.{Plan}
@@ -10,7 +11,7 @@ use Rattle.rcu_map.specs.Chains.{IsKept, buckets_in}
 use Rattle.rcu_map.specs.Entries.{HasKey, IsRemoved}
 use Rattle.rcu_map.specs.Keys.{GoesUp}
 use Rattle.rcu_map.specs.Puts.{HasChanged}
-use Rattle.rcu_map.specs.Splices.{CanPass}
+use Rattle.rcu_map.specs.Splices.{CanPass, by_passing}
 use Rattle.rcu_map.proofs.Chains.{no_entry_of_0}
 use Rattle.rcu_map.proofs.Removals.{removed, removed_count, removed_map}
 use Rattle.rcu_map.proofs.Allowed.{can_remove, placed}
@@ -106,7 +107,13 @@ returns-clause-removed g c = λ e.
     (λ before after. IsRemoved (buckets_in w) before c.args.key after) w c.pass.new.keeper)
     c.self.view_is
     (record {
-      state = done.state;
+      by = record {
+        stored = relinked before previous 0 done.next;
+        one = by_passing previous done.next place.live refl;
+        state = done.state;
+        led = done.led;
+        trimmed = done.trimmed;
+      };
       nodes = removed g.E.Invariant.holds p.roots p.seed p.words p.nodes before k.map c.args.key
           previous c.in-Some.old some place done.next after done.leads done.trimmed;
     })

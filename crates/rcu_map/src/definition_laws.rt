@@ -1,0 +1,41 @@
+//! What the words of runs of a keeper's calls say.
+ghost use Rattle.std.specs.Prelude.{◌≡◌, ◌∷◌, ℕ, Bool, List, true};
+ghost use Rattle.rcu_live.specs.Numbers.{is_open_at};
+ghost use Rattle.rcu_live.specs.Watcher.{Watching};
+ghost use Rattle.rcu_graph.specs.Keeper.{after_look};
+ghost use Rattle.rcu_graph.specs.Nodes.{nodes_in, stored_in};
+ghost use Rattle.rcu_graph.specs.declared.known.Planned.{Planned};
+ghost use Rattle.rcu_graph.specs.declared.plan.Plan.{Plan};
+ghost use Rattle.rcu_map.specs.Entries.{HasKey};
+ghost use Rattle.rcu_map.specs.Keys.{key_in};
+ghost use Rattle.rcu_map.specs.Puts.{HasChanged, IsByOneStore, IsPutIn};
+ghost use Rattle.rcu_map.specs.Runs.{HasKeyThroughout, IsMapOf, IsRun};
+
+use crate::entry::Entry;
+
+/// A run goes on by each call that puts an entry in, and by each look at a number at which the
+/// section may be open. A key that was put in is there, in the place of another entry or not. One
+/// that is there throughout is there at the end.
+pub fn runs_go_on_by_calls<E: Entry<W>, const W: usize>()
+    ensures begun { (plan : Plan) (opened : ℕ) (now : Watching Planned) →
+        IsMapOf E.holds plan now → IsRun E.holds plan opened now }
+    ensures changed { (plan : Plan) (opened : ℕ) (words : List ℕ) (there : Bool)
+        (before now : Watching Planned) → IsRun E.holds plan opened before →
+        HasChanged (IsPutIn plan.roots words there) before now → IsMapOf E.holds plan now →
+        IsRun E.holds plan opened now }
+    ensures looked { (plan : Plan) (opened number : ℕ) (before now : Watching Planned) →
+        IsRun E.holds plan opened before → is_open_at number opened ≡ true →
+        now ≡ after_look before number → IsMapOf E.holds plan now → IsRun E.holds plan opened now }
+    ensures put { (plan : Plan) (words : List ℕ) (there : Bool) (before now : Watching Planned) →
+        HasChanged (IsPutIn plan.roots words there) before now →
+        HasKey plan.roots (nodes_in now.view.client.known) (key_in words) }
+    ensures throughout { (plan : Plan) (opened key : ℕ) (now : Watching Planned)
+        (run : IsRun E.holds plan opened now) → HasKeyThroughout E.holds plan opened key now run →
+        HasKey plan.roots (nodes_in now.view.client.known) key }
+{}
+
+/// A change of a map is one store, which is the latest one in the keeper's view.
+pub fn a_change_is_one_store()
+    ensures { (before after : Watching Planned) (by : IsByOneStore before after) →
+        stored_in after.view.client.known ≡ by.stored ∷ stored_in before.view.client.known }
+{}
