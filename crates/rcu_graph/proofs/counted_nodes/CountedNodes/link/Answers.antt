@@ -123,10 +123,10 @@ returns g c =
     ∙ ap (λ (w : ℕ). renewed nodes c.args.from (linked_to c.args.link w)) c.word_of-word.ensures) in
     let t = c.trim.ensures.trimming in
     let whole = relinked_whole (g.F.Shape.fits c.args.graph.now.plan)
-          (g.F.Shape.joins c.args.graph.now.plan) c.args.graph.now.plan.nodes
-          c.args.graph.now.plan.roots c.args.graph.now.plan.links c.args.graph.now.plan.words nodes
-          counts leaving s.few s.sized c.requires.counted c.args.from c.args.link x c.requires.live
-          c.requires.link_inside c.requires.target in
+    (g.F.Shape.joins c.args.graph.now.plan) c.args.graph.now.plan.nodes
+    c.args.graph.now.plan.roots c.args.graph.now.plan.links c.args.graph.now.plan.words nodes
+    counts leaving s.few s.sized c.requires.counted c.args.from c.args.link x c.requires.live
+    c.requires.link_inside c.requires.target in
     record {
       watches = c.trim.ensures.graph;
       state =

@@ -171,11 +171,11 @@ returns g c =
     ∙ ap (λ (w : Watching Planned). after_publish w c.args.from c.args.link c.args.to) n.nodes)) in
     let t = c.trim.ensures.trimming in
     let whole = published_whole (g.F.Shape.fits c.args.graph.now.plan)
-          (g.F.Shape.joins c.args.graph.now.plan) c.args.graph.now.plan.nodes
-          c.args.graph.now.plan.roots c.args.graph.now.plan.links c.args.graph.now.plan.words nodes
-          counts leaving s.few s.sized c.requires.counted c.args.from c.args.link c.args.to
-          c.requires.to_inside c.requires.ready new n.many n.counts c.requires.live
-          c.requires.link_inside c.requires.joined in
+    (g.F.Shape.joins c.args.graph.now.plan) c.args.graph.now.plan.nodes
+    c.args.graph.now.plan.roots c.args.graph.now.plan.links c.args.graph.now.plan.words nodes
+    counts leaving s.few s.sized c.requires.counted c.args.from c.args.link c.args.to
+    c.requires.to_inside c.requires.ready new n.many n.counts c.requires.live
+    c.requires.link_inside c.requires.joined in
     record {
       watches = c.trim.ensures.graph;
       state =
