@@ -1,6 +1,7 @@
 #!/usr/bin/env python3
 """The toolchain's command as a module, for the tools of this folder. Run alone, it prints how many
-processors there are to use, where there is memory for a check on each."""
+processors there are to use, where there is memory for a check on each; with the word '--anew' that
+word, where `rt ci` takes it."""
 import importlib.machinery
 import importlib.util
 import os
@@ -32,6 +33,9 @@ def command():
 rt = command()
 rtlib = rt.rtlib
 
+# Whether `rt ci` keeps what it proved, and takes the word '--anew': not each toolchain does.
+KEEPS = hasattr(rt, "Kept")
+
 # The memory in bytes that no check of this repository has been seen to take.
 CHECK_MEMORY = 4_000_000_000
 
@@ -59,5 +63,7 @@ def build_library(crate):
     return is_up_to_date(crate) or not crate.build_rlib(["--jobs", "1"], anew=False)
 
 
-if __name__ == "__main__" and rt.processors() * CHECK_MEMORY <= rt.free():
+if __name__ == "__main__" and "--anew" in sys.argv:
+    print("--anew" * KEEPS)
+elif __name__ == "__main__" and rt.processors() * CHECK_MEMORY <= rt.free():
     print(rt.processors())
