@@ -33,6 +33,11 @@ pub record AreOf (cell : Object (Unit {0})) (keeper : Watching Known) (seat : Se
     pub keeper_of : IsWatcherOf cell keeper
     pub seat_of : IsSeatOf cell seat
 
+-- after it was one seat, a watcher's seat is one of the same cell
+pub record IsOfSameCell (before after : Watching Known) : Type 0 where
+  pub table : after.table ≡ before.table
+  pub base : after.view.base ≡ before.view.base
+
 -- the open section reads a version from now on, and nothing else of its seat changed
 pub record ReadsOn (before after : Seated Known) : Type 0 where
   pub state : after ≡ after_word_step before after.view.client

@@ -27,11 +27,10 @@ pub record IsLentBy (cell : Object (Unit {0})) (seat : Seated Known) (name : GNa
   pub by_name : loaded.name ≡ name
   pub state : loaded.seat ≡ after_word_step seat loaded.seat.view.client
 
-module _ {LEAF FAN : ℕ} {T F : Type 0} {W N : ℕ} where
-  abbrev pub lent : VersionGuard LEAF FAN T F W N → Lent
-  lent loaded = record {
-    cell = loaded.cell.now;
-    seat = loaded.seat.now;
-    slot = loaded.slot;
-    name = loaded.seat.ghost_name;
-  }
+abbrev pub lent : {F : Type 0} {W N : ℕ} → VersionGuard F W N → Lent
+lent loaded = record {
+  cell = loaded.cell.now;
+  seat = loaded.seat.now;
+  slot = loaded.slot;
+  name = loaded.seat.ghost_name;
+}

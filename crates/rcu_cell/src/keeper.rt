@@ -1,6 +1,7 @@
 //! The keeper of a cell: it publishes versions, and looks which slots are free.
 ghost use Rattle.std.specs.Prelude.{◌≡◌, ◌<◌, ◌≤◌, ◌^◌, IfOk, IfSome, None, OnErr, map};
 ghost use Rattle.rcu_live.specs.Watcher.{IsWatcherOf};
+ghost use Rattle.rcu_cell.specs.Cell.{IsOfSameCell};
 ghost use Rattle.rcu_cell.specs.Keeper.{AgedAt, IsDealtBy, IsFirstFree, IsFull, Updated};
 ghost use Rattle.rcu_cell.specs.Versions.{aged_state, first_states, slots_in};
 ghost use Rattle.rcu_cell.specs.declared.known.Known.TheVariants.{Owner};
@@ -27,6 +28,7 @@ pub struct Retired {
 /// The keeper of a cell of `N` slots of `W` words, for one thread. A cell has one.
 #[derive(Drop)]
 pub struct Keeper<F: Invariant, const W: usize, const N: usize> {
+    cell: Cell<F, W, N>,
     seat: CellWatcher<F, W, N>,
     states: Vec<SlotState>,
     shown: usize,
@@ -34,7 +36,7 @@ pub struct Keeper<F: Invariant, const W: usize, const N: usize> {
 
 impl<F: Invariant, const W: usize, const N: usize> Model for Keeper<F, W, N> {
     ghost use Rattle.std.specs.Prelude.{◌≡◌, ◌<◌, length, map};
-    ghost use Rattle.rcu_live.specs.Watcher.{Watching};
+    ghost use Rattle.rcu_live.specs.Watcher.{IsWatcherOf, Watching};
     ghost use Rattle.rcu_cell.specs.Versions.{AreSized, IsKeeping, slot_in, slots_in, state_of};
     ghost use Rattle.rcu_cell.specs.declared.known.Known.{Known};
 
@@ -43,6 +45,7 @@ impl<F: Invariant, const W: usize, const N: usize> Model for Keeper<F, W, N> {
     ghost view = { λ k. k.seat };
 
     ghost invariant = { λ k. record {
+      watches : IsWatcherOf k.cell k.seat;
       keeps : IsKeeping k.seat.view.client;
       shown : slot_in k.seat.view.client ≡ k.shown;
       inside : k.shown < N;
@@ -64,20 +67,21 @@ fn age_all(states: &mut Vec<SlotState>, number: u64)
 
 impl<F: Invariant, const W: usize, const N: usize> Keeper<F, W, N> {
     /// The keeper of a cell whose slots are as at first, in these states.
-    pub(crate) fn new<const LEAF: u32, const FAN: u32, T: Drop>(
-        cell: &Cell<LEAF, FAN, T, F, W, N>,
+    pub(crate) fn new(
+        cell: Cell<F, W, N>,
         seat: CellWatcher<F, W, N>,
         states: Vec<SlotState>,
     ) -> Self
-        requires cell { IsWatcherOf cell.now seat }
+        requires cell { IsWatcherOf cell seat }
         requires opens { seat.view.client ≡ Owner }
         requires some { 0 < N }
         requires states { states.items ≡ first_states N }
-        ensures { IsDealtBy F.holds W N cell.now seat result }
+        ensures { IsDealtBy F.holds W N cell seat result }
     {
         let mut seat = seat;
         cell.claim(&mut seat);
         Keeper {
+            cell,
             seat,
             states,
             shown: 0,
@@ -100,14 +104,9 @@ impl<F: Invariant, const W: usize, const N: usize> Keeper<F, W, N> {
 
     /// Publishes a version: stores its words in the first free slot, and shows that in place of the
     /// shown one. It waits for nobody. `Full` tells that no slot is free, and nothing changed.
-    pub fn update<const LEAF: u32, const FAN: u32, T: Drop>(
-        &mut self,
-        cell: &Cell<LEAF, FAN, T, F, W, N>,
-        words: &[u64; W],
-    ) -> Result<Retired, Full>
-        requires cell { IsWatcherOf cell.now self.old }
+    pub fn update(&mut self, words: &[u64; W]) -> Result<Retired, Full>
         requires whole { F.holds words.now }
-        ensures cell { IsWatcherOf cell.now self.new }
+        ensures same { IsOfSameCell self.old self.new }
         ensures state { IfOk result (λ retired.
             Updated self.old words.now retired self.new) }
         ensures full { OnErr result (IsFull (slots_in self.old.view.client)) }
@@ -116,8 +115,8 @@ impl<F: Invariant, const W: usize, const N: usize> Keeper<F, W, N> {
         let Some(by) = self.free_slot() else {
             return Err(Full);
         };
-        cell.fill(&mut self.seat, by, words);
-        cell.show(&mut self.seat, by);
+        self.cell.fill(&mut self.seat, by, words);
+        self.cell.show(&mut self.seat, by);
         let slot = self.shown;
         self.states[slot] = SlotState::Replaced;
         self.states[by] = SlotState::Shown;
@@ -127,15 +126,11 @@ impl<F: Invariant, const W: usize, const N: usize> Keeper<F, W, N> {
 
     /// Looks at the number, by one load, and returns it: what was replaced is so no later than now,
     /// and what was replaced a full grace period ago is free.
-    pub fn age<const LEAF: u32, const FAN: u32, T: Drop>(
-        &mut self,
-        cell: &Cell<LEAF, FAN, T, F, W, N>,
-    ) -> u64
-        requires { IsWatcherOf cell.now self.old }
-        ensures cell { IsWatcherOf cell.now self.new }
+    pub fn age(&mut self) -> u64
+        ensures same { IsOfSameCell self.old self.new }
         ensures state { AgedAt self.old result self.new }
     {
-        let number = cell.look(&mut self.seat);
+        let number = self.cell.look(&mut self.seat);
         age_all(&mut self.states, number);
         number
     }
@@ -143,19 +138,14 @@ impl<F: Invariant, const W: usize, const N: usize> Keeper<F, W, N> {
 
 impl<F: Value<W>, const W: usize, const N: usize> Keeper<F, W, N> {
     /// Publishes a value, as [`update`](Self::update) does its words.
-    pub fn update_value<const LEAF: u32, const FAN: u32, T: Drop>(
-        &mut self,
-        cell: &Cell<LEAF, FAN, T, F, W, N>,
-        value: F,
-    ) -> Result<Retired, Full>
-        requires cell { IsWatcherOf cell.now self.old }
+    pub fn update_value(&mut self, value: F) -> Result<Retired, Full>
         requires sound { F.valid value }
-        ensures cell { IsWatcherOf cell.now self.new }
+        ensures same { IsOfSameCell self.old self.new }
         ensures state { IfOk result (λ retired.
             Updated self.old (F.in_words value) retired self.new) }
         ensures full { OnErr result (IsFull (slots_in self.old.view.client)) }
         ensures unchanged { OnErr result (self.new ≡ self.old) }
     {
-        self.update(cell, &value.to_words())
+        self.update(&value.to_words())
     }
 }

@@ -13,14 +13,7 @@ use crate::cell::Cell;
 use crate::places::{SHOWN, word_of};
 use crate::rule::{Age, CellWatcher, Claim, Invariant, Publish, Write};
 
-impl<const LEAF: u32, const FAN: u32, T: Drop, F: Invariant, const W: usize, const N: usize> Cell<
-    LEAF,
-    FAN,
-    T,
-    F,
-    W,
-    N,
-> {
+impl<F: Invariant, const W: usize, const N: usize> Cell<F, W, N> {
     /// Loads which slot is shown: the seat keeps the slots from now on.
     pub(crate) fn claim(&self, seat: &mut CellWatcher<F, W, N>)
         requires seat { IsWatcherOf self.now seat.old }
@@ -28,7 +21,7 @@ impl<const LEAF: u32, const FAN: u32, T: Drop, F: Invariant, const W: usize, con
         ensures { KnowsBy (λ _ now. IsClaimed F.holds W N now) seat.old seat.new }
     {
         claim_is_allowed::<F, W, N>(seat);
-        seat.load_word::<_, Claim<F, W, N>>(&self.live, SHOWN);
+        seat.load_word::<_, Claim<F, W, N>>(&*self.board, SHOWN);
     }
 
     /// Stores a word of a free slot.
@@ -45,10 +38,10 @@ impl<const LEAF: u32, const FAN: u32, T: Drop, F: Invariant, const W: usize, con
             (with_word (slots_in seat.old.view.client) slot word value)) }
     {
         // A borrow of a field shows the prover what the type keeps: that the words fit in memory.
-        let live = &self.live;
+        let board = &*self.board;
         let place = word_of(W, N, slot, word);
         write_is_allowed::<F, W, N>(seat, slot, word, place, value);
-        seat.store_word::<_, Write<W>>(live, place, value);
+        seat.store_word::<_, Write<W>>(board, place, value);
     }
 
     /// Shows a free slot, whose words meet the fact, in place of the shown one.
@@ -60,7 +53,7 @@ impl<const LEAF: u32, const FAN: u32, T: Drop, F: Invariant, const W: usize, con
     {
         let value = slot as u64;
         publish_is_allowed::<F, W, N>(seat, slot);
-        seat.store_word::<_, Publish>(&self.live, SHOWN, value);
+        seat.store_word::<_, Publish>(&*self.board, SHOWN, value);
     }
 
     /// Loads the number: what was replaced is so no later than now, and what was replaced a full
@@ -72,7 +65,7 @@ impl<const LEAF: u32, const FAN: u32, T: Drop, F: Invariant, const W: usize, con
         ensures number { is_number_word result ≡ true }
     {
         age_is_allowed::<F, W, N>(seat);
-        seat.load_number::<_, Age>(&self.live)
+        seat.load_number::<_, Age>(&*self.board)
     }
 
     /// Stores all words of a free slot.

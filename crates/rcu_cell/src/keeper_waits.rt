@@ -5,10 +5,10 @@ ghost use Rattle.rcu_live.specs.Waits.{HasRested, wait_fault};
 ghost use Rattle.rcu_cell.specs.Cell.{AreOf};
 ghost use Rattle.rcu_cell.specs.Waits.{HasGivenUp, HasRestedOutside, HasUpdated, UpdatedInTime};
 
-use crate::cell::Cell;
 use crate::keeper::{Keeper, Retired};
-use crate::rule::{CellSeat, Invariant};
+use crate::rule::{CellRule, CellSeat, Invariant};
 use crate::value::Value;
+use rcu_live::Live;
 use rcu_seq::{Cookie, Fault, Tag};
 use std::sync::Wait;
 
@@ -17,31 +17,31 @@ impl<F: Invariant, const W: usize, const N: usize> Keeper<F, W, N> {
     fn update_when_free<const LEAF: u32, const FAN: u32, T: Drop>(
         &mut self,
         rt: &impl Wait,
-        cell: &Cell<LEAF, FAN, T, F, W, N>,
+        live: &Live<LEAF, FAN, T, CellRule<F, W, N>>,
         seat: &mut CellSeat<F, W, N>,
         words: &[u64; W],
     ) -> Result<Retired, Fault>
-        requires of_cell { AreOf cell.now self.old seat.old }
+        requires of_cell { AreOf live.now self.old seat.old }
         requires shut { seat.old.depth ≡ 0 }
         requires whole { F.holds words.now }
-        ensures of_cell { AreOf cell.now self.new seat.new }
+        ensures of_cell { AreOf live.now self.new seat.new }
         ensures rested { HasRested seat.old seat.new }
         ensures updated { IfOk result (λ retired.
             HasUpdated seat.old seat.new self.old words.now retired self.new) }
         ensures fault { IfErr result (λ fault. fault ≡ Fault.Exhausted) }
         ensures given_up { OnErr result (HasGivenUp seat.old seat.new self.old self.new) }
     {
-        let cookie = Cookie::of(Tag::of_first_epoch(self.age(cell)));
+        let cookie = Cookie::of(Tag::of_first_epoch(self.age()));
         let mut waited = Ok(());
         let mut rounds = 0;
         for _ in rt.forever() {
-            if let Ok(retired) = self.update(cell, words) {
+            if let Ok(retired) = self.update(words) {
                 return Ok(retired);
             }
             waited?;
-            waited = cell.live().wait_once(rt, seat, cookie);
-            rounds = cell.live().sleep_between(rt, seat, cookie, rounds);
-            self.age(cell);
+            waited = live.wait_once(rt, seat, cookie);
+            rounds = live.sleep_between(rt, seat, cookie, rounds);
+            self.age();
         }
         unreachable!()
     }
@@ -60,14 +60,14 @@ impl<F: Invariant, const W: usize, const N: usize> Keeper<F, W, N> {
     pub fn update_or_wait<const LEAF: u32, const FAN: u32, T: Drop>(
         &mut self,
         rt: &impl Wait,
-        cell: &Cell<LEAF, FAN, T, F, W, N>,
+        live: &Live<LEAF, FAN, T, CellRule<F, W, N>>,
         seat: &mut CellSeat<F, W, N>,
         words: &[u64; W],
     ) -> Result<Retired, Fault>
-        requires of_cell { AreOf cell.now self.old seat.old }
+        requires of_cell { AreOf live.now self.old seat.old }
         requires several { 1 < N }
         requires whole { F.holds words.now }
-        ensures of_cell { AreOf cell.now self.new seat.new }
+        ensures of_cell { AreOf live.now self.new seat.new }
         ensures rested { HasRestedOutside seat.old seat.new }
         ensures updated { IfOk result (λ retired.
             UpdatedInTime seat.old seat.new self.old words.now retired self.new) }
@@ -77,10 +77,10 @@ impl<F: Invariant, const W: usize, const N: usize> Keeper<F, W, N> {
         if seat.depth() > 0 {
             return Err(Fault::InSection);
         }
-        if let Ok(retired) = self.update(cell, words) {
+        if let Ok(retired) = self.update(words) {
             return Ok(retired);
         }
-        self.update_when_free(rt, cell, seat, words)
+        self.update_when_free(rt, live, seat, words)
     }
 }
 
@@ -89,14 +89,14 @@ impl<F: Value<W>, const W: usize, const N: usize> Keeper<F, W, N> {
     pub fn update_value_or_wait<const LEAF: u32, const FAN: u32, T: Drop>(
         &mut self,
         rt: &impl Wait,
-        cell: &Cell<LEAF, FAN, T, F, W, N>,
+        live: &Live<LEAF, FAN, T, CellRule<F, W, N>>,
         seat: &mut CellSeat<F, W, N>,
         value: F,
     ) -> Result<Retired, Fault>
-        requires of_cell { AreOf cell.now self.old seat.old }
+        requires of_cell { AreOf live.now self.old seat.old }
         requires several { 1 < N }
         requires sound { F.valid value }
-        ensures of_cell { AreOf cell.now self.new seat.new }
+        ensures of_cell { AreOf live.now self.new seat.new }
         ensures rested { HasRestedOutside seat.old seat.new }
         ensures updated { IfOk result (λ retired.
             UpdatedInTime seat.old seat.new self.old (F.in_words value) retired
@@ -104,6 +104,6 @@ impl<F: Value<W>, const W: usize, const N: usize> Keeper<F, W, N> {
         ensures fault { IfErr result (λ fault. fault ≡ wait_fault seat.old.depth) }
         ensures given_up { OnErr result (HasGivenUp seat.old seat.new self.old self.new) }
     {
-        self.update_or_wait(rt, cell, seat, &value.to_words())
+        self.update_or_wait(rt, live, seat, &value.to_words())
     }
 }

@@ -9,7 +9,7 @@ mod keeper_steps;
 mod keeper_waits;
 pub mod known;
 pub mod laws;
-mod opening;
+pub mod opening;
 mod places;
 pub mod rule;
 mod section;
@@ -20,7 +20,8 @@ mod version_reads;
 
 pub use cell::Cell;
 pub use keeper::{Full, Keeper, Retired};
-pub use rule::{CellSeat, CellWatcher, Invariant};
+pub use opening::Opened;
+pub use rule::{CellRule, CellSeat, CellWatcher, Invariant};
 pub use slot_state::SlotState;
 pub use value::Value;
 pub use version_guard::VersionGuard;

@@ -15,9 +15,10 @@ use crate::places::FIRST;
 use crate::rule::{CellRule, CellSeat, CellWatcher, Invariant};
 use crate::slot_state::SlotState;
 use rcu_geometry::check_size;
-use rcu_live::Live;
+use rcu_live::{Live, Parts};
 use rcu_seq::Fault;
 use std::alloc::{AllocError, Global};
+use std::sync::Arc;
 
 /// The words of a cell at first: the first slot is shown, with these words.
 fn first_words<const W: usize, const N: usize>(
@@ -47,48 +48,55 @@ fn first_states(alloc: Global, count: usize) -> Result<Vec<SlotState>, AllocErro
     Ok(states)
 }
 
-/// A cell, a seat and a watcher a processor, and the keeper.
-pub type Opened<const LEAF: u32, const FAN: u32, T, F, const W: usize, const N: usize> = (
-    Cell<LEAF, FAN, T, F, W, N>,
-    Vec<CellSeat<F, W, N>>,
-    Vec<CellWatcher<F, W, N>>,
-    Keeper<F, W, N>,
-);
+/// A cell as it is opened, with its engine.
+#[derive(Drop)]
+pub struct Opened<L: Drop, F: Invariant, const W: usize, const N: usize> {
+    /// The engine, which threads share. Somebody has to drive it.
+    pub live: L,
+    /// The cell, which its seats read.
+    pub cell: Cell<F, W, N>,
+    /// A seat a processor, in order.
+    pub seats: Vec<CellSeat<F, W, N>>,
+    /// A watcher a processor.
+    pub watchers: Vec<CellWatcher<F, W, N>>,
+    /// Who publishes versions.
+    pub keeper: Keeper<F, W, N>,
+}
 
-impl<const LEAF: u32, const FAN: u32, T: Drop, F: Invariant, const W: usize, const N: usize> Cell<
-    LEAF,
-    FAN,
-    T,
-    F,
-    W,
-    N,
-> {
+impl<F: Invariant, const W: usize, const N: usize> Cell<F, W, N> {
     /// Opens a cell that shows these words, with its engine: of `cpus` processors, idle at number
     /// 0, processor 0 alone online.
     ///
     /// Faults: `TooManyCpus` (17) for no processor, more than 4,096, or more than four levels hold;
     /// `BadLast` (19) where `last` is no last number; `NoMemory` (16).
-    pub fn open(
+    pub fn open<const LEAF: u32, const FAN: u32, T: Drop>(
         alloc: Global,
         cpus: u32,
         last: u64,
         words: &[u64; W],
-    ) -> Result<Opened<LEAF, FAN, T, F, W, N>, Fault>
+    ) -> Result<Opened<Live<LEAF, FAN, T, CellRule<F, W, N>>, F, W, N>, Fault>
         requires fanouts { AreFanouts LEAF FAN }
         requires sizes { AreSizes W N }
         requires whole { F.holds words.now }
         ensures fault { tested_fault result ≡ opening_refusal LEAF FAN cpus last }
         ensures dealt { IfOk result (λ opened. AreDealt cpus last (2 ^ 62)
-            (first_place + W * N) 0 Idle opened.0 opened.1.items opened.2.items) }
-        ensures keeper { IfOk result (λ opened. IsDealtBy F.holds W N opened.0
-            (watcher_at_first opened.0.table (base_of cpus) Owner) opened.3) }
+            (first_place + W * N) 0 Idle opened.cell opened.seats.items opened.watchers.items) }
+        ensures live { IfOk result (λ opened. opened.live ≡ opened.cell) }
+        ensures keeper { IfOk result (λ opened. IsDealtBy F.holds W N opened.cell
+            (watcher_at_first opened.cell.table (base_of cpus) Owner) opened.keeper) }
     {
         check_size::<LEAF, FAN>(cpus, last)?;
         let (Ok(behind), Ok(states)) = (first_words::<W, N>(alloc, words), first_states(alloc, N))
         else {
             return Err(Fault::NoMemory);
         };
-        let (live, seats, watchers, own) = Live::<LEAF, FAN, T, CellRule<F, W, N>>::open_for(
+        let Parts {
+            board,
+            engine,
+            seats,
+            watchers,
+            own,
+        } = Parts::<LEAF, FAN, T, CellRule<F, W, N>>::open_for(
             alloc,
             cpus,
             last,
@@ -97,8 +105,17 @@ impl<const LEAF: u32, const FAN: u32, T: Drop, F: Invariant, const W: usize, con
             behind.as_slice(),
             Vec::new(alloc),
         )?;
-        let cell = Cell { live };
-        let keeper = Keeper::new(&cell, own, states);
-        Ok((cell, seats, watchers, keeper))
+        let (Ok(shared), Ok(kept)) = (Arc::try_clone(&board), Arc::try_clone(&board)) else {
+            return Err(Fault::NoMemory);
+        };
+        let cell = Cell { board: shared };
+        let keeper = Keeper::new(Cell { board: kept }, own, states);
+        Ok(Opened {
+            live: Live::new(board, engine),
+            cell,
+            seats,
+            watchers,
+            keeper,
+        })
     }
 }

@@ -8,25 +8,16 @@ ghost use Rattle.rcu_cell.specs.Steps.{IsLoaded};
 ghost use Rattle.rcu_cell.specs.Versions.{words_in};
 
 use crate::cell::Cell;
-use crate::rule::{CellSeat, Invariant};
+use crate::rule::{CellRule, CellSeat, Invariant};
 use crate::value::Value;
 use crate::version_guard::VersionGuard;
+use rcu_live::Shared;
 use rcu_seq::Fault;
 
-impl<const LEAF: u32, const FAN: u32, T: Drop, F: Invariant, const W: usize, const N: usize> Cell<
-    LEAF,
-    FAN,
-    T,
-    F,
-    W,
-    N,
-> {
+impl<F: Invariant, const W: usize, const N: usize> Cell<F, W, N> {
     /// Loads the shown version, as [`load`](Self::load) does, and lends it the seat: the section
     /// stays open, and reads this version, until it is let go.
-    pub fn loaded<'a>(
-        &'a self,
-        seat: &'a mut CellSeat<F, W, N>,
-    ) -> VersionGuard<'a, LEAF, FAN, T, F, W, N>
+    pub fn loaded<'a>(&'a self, seat: &'a mut CellSeat<F, W, N>) -> VersionGuard<'a, F, W, N>
         requires { MayLoad self.now seat.old }
         ensures lent { IsLentBy self.now seat.old seat.entry.ghost_name (lent result) }
         ensures loaded { IsLoaded F.holds W N (lent result).slot (lent result).seat.view.client }
@@ -54,8 +45,13 @@ impl<const LEAF: u32, const FAN: u32, T: Drop, F: Invariant, const W: usize, con
     /// no lock and waits for nobody.
     ///
     /// Faults: `Offline` (2) where the processor is offline; `CpuIdle` (23) where it is idle.
-    pub fn read_section(&self, seat: &mut CellSeat<F, W, N>) -> Result<[u64; W], Fault>
-        requires { IsOutside self.now seat.old }
+    pub fn read_section<L: Shared<CellRule<F, W, N>>>(
+        &self,
+        live: &L,
+        seat: &mut CellSeat<F, W, N>,
+    ) -> Result<[u64; W], Fault>
+        requires engine { L.object live.now ≡ self.now }
+        requires seat { IsOutside self.now seat.old }
         ensures outside { IsOutside self.now seat.new }
         ensures fault { result_err result ≡ enter_refusal seat.old }
         ensures state { OnOk result
@@ -63,23 +59,16 @@ impl<const LEAF: u32, const FAN: u32, T: Drop, F: Invariant, const W: usize, con
         ensures whole { IfOk result (λ words. F.holds words) }
         ensures unchanged { OnErr result (seat.new ≡ seat.old) }
     {
-        seat.enter(&self.live)?;
+        seat.enter(live)?;
         let words = self.snapshot(seat);
-        let Ok(_) = seat.exit(&self.live) else {
+        let Ok(_) = seat.exit(live) else {
             unreachable!()
         };
         Ok(words)
     }
 }
 
-impl<const LEAF: u32, const FAN: u32, T: Drop, F: Value<W>, const W: usize, const N: usize> Cell<
-    LEAF,
-    FAN,
-    T,
-    F,
-    W,
-    N,
-> {
+impl<F: Value<W>, const W: usize, const N: usize> Cell<F, W, N> {
     /// The value that is shown, by one load, and one a word, in an open section.
     pub fn value(&self, seat: &mut CellSeat<F, W, N>) -> F
         requires { MayLoad self.now seat.old }
@@ -94,8 +83,13 @@ impl<const LEAF: u32, const FAN: u32, T: Drop, F: Value<W>, const W: usize, cons
     /// does its words.
     ///
     /// Faults: `Offline` (2) where the processor is offline; `CpuIdle` (23) where it is idle.
-    pub fn value_section(&self, seat: &mut CellSeat<F, W, N>) -> Result<F, Fault>
-        requires { IsOutside self.now seat.old }
+    pub fn value_section<L: Shared<CellRule<F, W, N>>>(
+        &self,
+        live: &L,
+        seat: &mut CellSeat<F, W, N>,
+    ) -> Result<F, Fault>
+        requires engine { L.object live.now ≡ self.now }
+        requires seat { IsOutside self.now seat.old }
         ensures outside { IsOutside self.now seat.new }
         ensures fault { result_err result ≡ enter_refusal seat.old }
         ensures state { OnOk result
@@ -103,6 +97,6 @@ impl<const LEAF: u32, const FAN: u32, T: Drop, F: Value<W>, const W: usize, cons
         ensures sound { IfOk result (λ value. F.valid value) }
         ensures unchanged { OnErr result (seat.new ≡ seat.old) }
     {
-        Ok(F::of_words(&self.read_section(seat)?))
+        Ok(F::of_words(&self.read_section(live, seat)?))
     }
 }

@@ -10,16 +10,8 @@ use crate::rule::{CellSeat, Invariant};
 /// The version that an open section has loaded. It borrows the processor's seat, so that the
 /// section can neither close nor load again while the version is in use.
 #[derive(Drop)]
-pub struct VersionGuard<
-    'a,
-    const LEAF: u32,
-    const FAN: u32,
-    T: Drop,
-    F: Invariant,
-    const W: usize,
-    const N: usize,
-> {
-    pub(crate) cell: &'a Cell<LEAF, FAN, T, F, W, N>,
+pub struct VersionGuard<'a, F: Invariant, const W: usize, const N: usize> {
+    pub(crate) cell: &'a Cell<F, W, N>,
     pub(crate) seat: &'a mut CellSeat<F, W, N>,
     pub(crate) slot: usize,
     ghost seat_of: { IsSeatOf cell.now seat.now },

@@ -6,15 +6,7 @@ use crate::rule::Invariant;
 use crate::value::Value;
 use crate::version_guard::VersionGuard;
 
-impl<
-    'a,
-    const LEAF: u32,
-    const FAN: u32,
-    T: Drop,
-    F: Invariant,
-    const W: usize,
-    const N: usize,
-> VersionGuard<'a, LEAF, FAN, T, F, W, N> {
+impl<'a, F: Invariant, const W: usize, const N: usize> VersionGuard<'a, F, W, N> {
     /// A word of the version, by one load: the one that it had when it was loaded.
     pub fn read(&mut self, word: usize) -> u64
         requires { word < W }
@@ -37,15 +29,7 @@ impl<
     }
 }
 
-impl<
-    'a,
-    const LEAF: u32,
-    const FAN: u32,
-    T: Drop,
-    F: Value<W>,
-    const W: usize,
-    const N: usize,
-> VersionGuard<'a, LEAF, FAN, T, F, W, N> {
+impl<'a, F: Value<W>, const W: usize, const N: usize> VersionGuard<'a, F, W, N> {
     /// The version as a value of the user's type, by a load a word.
     pub fn value(&mut self) -> F
         requires whole { F.holds (version_of (lent self.old)) }

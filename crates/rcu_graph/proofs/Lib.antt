@@ -24,3 +24,4 @@ pub mod Queues
 pub mod Cycles
 pub mod Turns
 pub mod Standings
+pub mod Owned

@@ -4,7 +4,8 @@ use Rattle.std.proofs.Math.Nat.{suc_inj}
 use Rattle.std.specs.Prelude.{slice_index}
 use Rattle.rcu_live.specs.Board.{Object}
 use Rattle.rcu_live.specs.CpuSeat.{Seated, after_word_step}
-use Rattle.rcu_graph.specs.Graph.{IsAt, IsWalking}
+use Rattle.rcu_live.specs.Watcher.{Watching}
+use Rattle.rcu_graph.specs.Graph.{IsAt, IsOfSameGraph, IsWalking, IsWatcherOf}
 use Rattle.rcu_graph.specs.Nodes.{IsHeld, IsOn, IsReader}
 use Rattle.rcu_graph.specs.Search.{IsFound}
 use Rattle.rcu_graph.specs.Steps.{Came, Followed, IsLedTo}
@@ -114,3 +115,11 @@ pub hops_on : (start old mid new : Seated Planned)
 hops_on start old mid new was hop same =
     subst (λ (s : Seated Planned). s ≡ after_word_step start s.view.client) (sym same)
     (hop ∙ ap (λ (s : Seated Planned). after_word_step s mid.view.client) was)
+
+-- a seat of the same graph watches that
+pub same_watches : (graph : Object Plan) (before after : Watching Planned)
+    → IsOfSameGraph before after → IsWatcherOf graph before → IsWatcherOf graph after
+same_watches graph before after same watches = record {
+  engine = (same.table ∙ watches.engine.0, same.base ∙ watches.engine.1);
+  planned = same.plan ∙ watches.planned;
+}

@@ -25,6 +25,5 @@ after_walk walk known =
 abbrev pub known_in : Walked → Known
 known_in walk = walk.seat.view.client.known
 
-module _ {LEAF FAN : ℕ} {T F : Type 0} where
-  abbrev pub walked : Walk LEAF FAN T F → Walked
-  walked walk = record { graph = walk.graph.now; seat = walk.seat.now; name = walk.seat.ghost_name }
+abbrev pub walked : {F : Type 0} → Walk F → Walked
+walked walk = record { graph = walk.graph.now; seat = walk.seat.now; name = walk.seat.ghost_name }

@@ -29,9 +29,9 @@ pub(crate) struct CountedNodes<F: Shape> {
 
 impl<F: Shape> CountedNodes<F> {
     /// The nodes of a seat, which are as at first.
-    pub(crate) fn new<const LEAF: u32, const FAN: u32, T: Drop>(
+    pub(crate) fn new(
         alloc: Global,
-        graph: &Graph<LEAF, FAN, T, F>,
+        graph: &Graph<F>,
         seat: GraphWatcher<F>,
     ) -> Result<Self, AllocError>
         requires keeper { IsKeeperOf graph.now seat }
@@ -72,12 +72,7 @@ impl<F: Shape> CountedNodes<F> {
 
     /// Lets go of a link that led there: where no live node leads to a node any more, it is left.
     /// Returns how many are left.
-    fn let_go<const LEAF: u32, const FAN: u32, T: Drop>(
-        &mut self,
-        graph: &Graph<LEAF, FAN, T, F>,
-        word: u64,
-        left: usize,
-    ) -> usize
+    fn let_go(&mut self, graph: &Graph<F>, word: u64, left: usize) -> usize
         requires graph { IsWatcherOf graph.now self.old.nodes }
         requires trimming { (stored : List Node) × (from : ℕ) × (words : List ℕ)
             × IsTrimming graph.now.plan.nodes graph.now.plan.roots graph.now.plan.links stored
@@ -115,12 +110,7 @@ impl<F: Shape> CountedNodes<F> {
     }
 
     /// Lets go of the links of a node that was left.
-    fn let_go_of<const LEAF: u32, const FAN: u32, T: Drop>(
-        &mut self,
-        graph: &Graph<LEAF, FAN, T, F>,
-        node: usize,
-        left: usize,
-    ) -> usize
+    fn let_go_of(&mut self, graph: &Graph<F>, node: usize, left: usize) -> usize
         requires graph { IsWatcherOf graph.now self.old.nodes }
         requires node { node < graph.now.plan.nodes }
         requires trimming { (stored : List Node) × (from : ℕ)
@@ -148,11 +138,7 @@ impl<F: Shape> CountedNodes<F> {
     }
 
     /// Lets go of a link that led there, and leaves what no live node leads to any more.
-    fn trim<const LEAF: u32, const FAN: u32, T: Drop>(
-        &mut self,
-        graph: &Graph<LEAF, FAN, T, F>,
-        word: u64,
-    )
+    fn trim(&mut self, graph: &Graph<F>, word: u64)
         requires graph { IsWatcherOf graph.now self.old.nodes }
         requires trimming { IsTrimming graph.now.plan.nodes graph.now.plan.roots
             graph.now.plan.links (nodes_in self.old.nodes.view.client.known)
@@ -176,13 +162,7 @@ impl<F: Shape> CountedNodes<F> {
     }
 
     /// Leads a link of a live node elsewhere.
-    pub(crate) fn link<const LEAF: u32, const FAN: u32, T: Drop>(
-        &mut self,
-        graph: &Graph<LEAF, FAN, T, F>,
-        from: usize,
-        link: usize,
-        to: Option<usize>,
-    )
+    pub(crate) fn link(&mut self, graph: &Graph<F>, from: usize, link: usize, to: Option<usize>)
         requires { MayRelink (F.fits graph.now.plan) (F.joins graph.now.plan) graph.now
             self.old.nodes
             self.old.counts.items self.old.leaving.items from link (word_to to) }
@@ -200,11 +180,7 @@ impl<F: Shape> CountedNodes<F> {
     }
 
     /// Counts the links of a node that becomes live.
-    fn count_links_of<const LEAF: u32, const FAN: u32, T: Drop>(
-        &mut self,
-        graph: &Graph<LEAF, FAN, T, F>,
-        node: usize,
-    )
+    fn count_links_of(&mut self, graph: &Graph<F>, node: usize)
         requires graph { IsWatcherOf graph.now self.old.nodes }
         requires node { node < graph.now.plan.nodes }
         requires many { length self.old.counts.items ≡ graph.now.plan.nodes }
@@ -228,13 +204,7 @@ impl<F: Shape> CountedNodes<F> {
     }
 
     /// Links a live node to a free one.
-    pub(crate) fn publish<const LEAF: u32, const FAN: u32, T: Drop>(
-        &mut self,
-        graph: &Graph<LEAF, FAN, T, F>,
-        from: usize,
-        link: usize,
-        to: usize,
-    )
+    pub(crate) fn publish(&mut self, graph: &Graph<F>, from: usize, link: usize, to: usize)
         requires { MayPublish (F.fits graph.now.plan) (F.joins graph.now.plan) graph.now
             self.old.nodes
             self.old.counts.items self.old.leaving.items from link to }

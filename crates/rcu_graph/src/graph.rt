@@ -1,5 +1,6 @@
 //! A graph of nodes: what a section reads of it, without a lock, a wait or a store.
-ghost use Rattle.std.specs.Prelude.{◌≡◌, ◌≤◌, ◌+◌, ◌*◌, ◌^◌, ◌<◌, ℕ, IfSome, List, slice_index};
+ghost use Rattle.std.specs.Prelude.{◌≡◌, ◌≤◌, ◌+◌, ◌*◌, ◌^◌, ◌<◌, ℕ, IfOk, IfSome, List};
+ghost use Rattle.std.specs.Prelude.{slice_index};
 ghost use Rattle.rcu_live.specs.CpuSeat.{after_word_step};
 ghost use Rattle.rcu_graph.specs.Graph.{IsAt, IsWalking, word_to};
 ghost use Rattle.rcu_graph.specs.Nodes.{IsOn, first_place, place_of};
@@ -9,18 +10,22 @@ use crate::allowed::{follow_is_allowed, read_is_allowed};
 use crate::places::place_of;
 use crate::plan::Plan;
 use crate::rule::{Follow, GraphRule, GraphSeat, Read, Shape};
-use rcu_live::Live;
+use rcu_live::Board;
+use std::alloc::{AllocError, Global};
 use std::marker::Model;
+use std::sync::Arc;
 
-/// Nodes beside a running engine, so many as its plan says. Those in use meet `F`.
+/// Nodes among the shared words of a running engine, so many as its plan says. Those in use meet
+/// `F`.
 #[derive(Drop)]
-pub struct Graph<const LEAF: u32, const FAN: u32, T: Drop, F: Shape> {
-    pub(crate) live: Live<LEAF, FAN, T, GraphRule<F>>,
+pub struct Graph<F: Shape> {
+    pub(crate) board: Arc<Board<GraphRule<F>>, Global>,
     pub(crate) plan: Plan,
 }
 
-impl<const LEAF: u32, const FAN: u32, T: Drop, F: Shape> Model for Graph<LEAF, FAN, T, F> {
+impl<F: Shape> Model for Graph<F> {
     ghost use Rattle.std.specs.Prelude.{◌≡◌, ◌≤◌, ◌+◌, ◌*◌, ◌^◌, ◌<◌};
+    ghost use Rattle.std.specs.Arc.{arc_value};
     ghost use Rattle.rcu_live.specs.Board.{Object};
     ghost use Rattle.rcu_live.specs.Words.{base_of};
     ghost use Rattle.rcu_graph.specs.Nodes.{first_place};
@@ -28,11 +33,11 @@ impl<const LEAF: u32, const FAN: u32, T: Drop, F: Shape> Model for Graph<LEAF, F
 
     ghost Value = { Object Plan };
 
-    ghost view = { λ graph. graph.live };
+    ghost view = { λ graph. arc_value graph.board };
 
     ghost invariant = { λ graph. record {
-      planned : graph.live.plan ≡ graph.plan;
-      room : graph.live.table.words ≡ base_of graph.live.cpus
+      planned : (arc_value graph.board).plan ≡ graph.plan;
+      room : (arc_value graph.board).table.words ≡ base_of (arc_value graph.board).cpus
           + (first_place + (graph.plan.links + graph.plan.words) * graph.plan.nodes);
       small : first_place + (graph.plan.links + graph.plan.words) * graph.plan.nodes < 2 ^ 64;
       row : graph.plan.links + graph.plan.words < 2 ^ 64;
@@ -41,12 +46,15 @@ impl<const LEAF: u32, const FAN: u32, T: Drop, F: Shape> Model for Graph<LEAF, F
     } };
 }
 
-impl<const LEAF: u32, const FAN: u32, T: Drop, F: Shape> Graph<LEAF, FAN, T, F> {
-    /// The running engine.
-    pub fn live(&self) -> &Live<LEAF, FAN, T, GraphRule<F>>
-        ensures { result.now ≡ self.now }
+impl<F: Shape> Graph<F> {
+    /// A second handle to the same nodes.
+    pub fn try_clone(&self) -> Result<Graph<F>, AllocError>
+        ensures { IfOk result (λ graph. graph ≡ self.now) }
     {
-        &self.live
+        Ok(Graph {
+            board: Arc::try_clone(&self.board)?,
+            plan: self.plan,
+        })
     }
 
     /// How large it is.
@@ -58,7 +66,7 @@ impl<const LEAF: u32, const FAN: u32, T: Drop, F: Shape> Graph<LEAF, FAN, T, F> 
             * self.now.plan.nodes < 2 ^ 64 }
     {
         // A borrow of a field shows the prover what the type keeps.
-        let _ = &self.live;
+        let _ = &self.board;
         self.plan
     }
 
@@ -92,10 +100,10 @@ impl<const LEAF: u32, const FAN: u32, T: Drop, F: Shape> Graph<LEAF, FAN, T, F> 
             IsAt (F.first self.now.plan) self.now seat.new node) }
     {
         // A borrow of a field shows the prover what the type keeps: that the words fit in memory.
-        let live = &self.live;
+        let board = &*self.board;
         let place = self.place(from, link);
         follow_is_allowed(seat, from, link, place);
-        let word = seat.load_word::<_, Follow<F>>(live, place);
+        let word = seat.load_word::<_, Follow<F>>(board, place);
         if word == 0 {
             return None;
         }
@@ -113,9 +121,9 @@ impl<const LEAF: u32, const FAN: u32, T: Drop, F: Shape> Graph<LEAF, FAN, T, F> 
             result ≡ slice_index words word }
     {
         // A borrow of a field shows the prover what the type keeps: that the words fit in memory.
-        let live = &self.live;
+        let board = &*self.board;
         let place = self.place(node, self.plan.links + word);
         read_is_allowed(seat, node, word, place);
-        seat.load_word::<_, Read<F>>(live, place)
+        seat.load_word::<_, Read<F>>(board, place)
     }
 }

@@ -31,11 +31,13 @@ pub struct Full;
 /// lead to one another in a ring stay live: unlink one of them first.
 #[derive(Drop)]
 pub struct Keeper<F: Shape> {
+    graph: Graph<F>,
     counted: CountedNodes<F>,
 }
 
 impl<F: Shape> Model for Keeper<F> {
     ghost use Rattle.rcu_live.specs.Watcher.{Watching};
+    ghost use Rattle.rcu_graph.specs.Graph.{IsWatcherOf};
     ghost use Rattle.rcu_graph.specs.Nodes.{nodes_in};
     ghost use Rattle.rcu_graph.specs.Trimming.{IsCounted};
     ghost use Rattle.rcu_graph.specs.declared.known.Planned.{Planned};
@@ -44,21 +46,18 @@ impl<F: Shape> Model for Keeper<F> {
 
     ghost view = { λ k. k.counted.nodes };
 
-    ghost invariant = { λ k. IsCounted (F.fits k.counted.nodes.view.client.plan)
-        (F.joins k.counted.nodes.view.client.plan) k.counted.nodes.view.client.plan.nodes
-        k.counted.nodes.view.client.plan.roots k.counted.nodes.view.client.plan.links
-        (nodes_in k.counted.nodes.view.client.known)
-        k.counted.counts.items k.counted.leaving.items };
+    ghost invariant = { λ k. record {
+      watches : IsWatcherOf k.graph k.counted.nodes;
+      counted : IsCounted (F.fits k.graph.plan) (F.joins k.graph.plan) k.graph.plan.nodes
+          k.graph.plan.roots k.graph.plan.links (nodes_in k.counted.nodes.view.client.known)
+          k.counted.counts.items k.counted.leaving.items;
+    } };
 }
 
 impl<F: Shape> Keeper<F> {
     /// The keeper of a graph whose nodes are as at first. It takes all the memory that it will ever
     /// have.
-    pub fn new<const LEAF: u32, const FAN: u32, T: Drop>(
-        alloc: Global,
-        graph: &Graph<LEAF, FAN, T, F>,
-        seat: GraphWatcher<F>,
-    ) -> Result<Self, AllocError>
+    pub fn new(alloc: Global, graph: &Graph<F>, seat: GraphWatcher<F>) -> Result<Self, AllocError>
         requires keeper { IsKeeperOf graph.now seat }
         requires nodes { IsClaimed (F.first graph.now.plan) graph.now.plan.roots
             graph.now.plan.links graph.now.plan.words graph.now.plan.nodes seat.view.client.known }
@@ -68,17 +67,19 @@ impl<F: Shape> Keeper<F> {
     {
         graph.plan();
         let counted = CountedNodes::new(alloc, graph, seat)?;
-        Ok(Keeper { counted })
+        let graph = graph.try_clone()?;
+        Ok(Keeper { graph, counted })
     }
 
-    /// What a keeper of this graph keeps: nothing is done. A caller learns the clauses by the call.
-    pub fn tends<const LEAF: u32, const FAN: u32, T: Drop>(&self, graph: &Graph<LEAF, FAN, T, F>)
-        requires graph { IsWatcherOf graph.now self.now }
-        ensures keeper { IsKeeperOf graph.now self.now }
-        ensures tended { AreTended (F.fits graph.now.plan) (F.joins graph.now.plan)
-            graph.now.plan.roots graph.now.plan.links (nodes_in self.now.view.client.known) }
+    /// What a keeper keeps: nothing is done. A caller learns the clauses by the call.
+    pub fn tends(&self)
+        ensures few { length (nodes_in self.now.view.client.known)
+            ≡ self.now.view.client.plan.nodes }
+        ensures tended { AreTended (F.fits self.now.view.client.plan)
+            (F.joins self.now.view.client.plan) self.now.view.client.plan.roots
+            self.now.view.client.plan.links (nodes_in self.now.view.client.known) }
     {
-        self.counted.nodes.keeps(graph);
+        self.counted.nodes.keeps(&self.graph);
     }
 
     /// How large its graph is.
@@ -137,124 +138,93 @@ impl<F: Shape> Keeper<F> {
     }
 
     /// Stores all words and all links of a free node. No section sees them: it is free still.
-    pub fn fill<const LEAF: u32, const FAN: u32, T: Drop>(
-        &mut self,
-        graph: &Graph<LEAF, FAN, T, F>,
-        node: usize,
-        words: &[u64],
-        links: &[Option<usize>],
-    )
-        requires graph { IsWatcherOf graph.now self.old }
-        requires node { node < graph.now.plan.nodes }
+    pub fn fill(&mut self, node: usize, words: &[u64], links: &[Option<usize>])
+        requires node { node < self.old.view.client.plan.nodes }
         requires free { state_at (nodes_in self.old.view.client.known) node ≡ Free }
-        requires inside { All (λ to. IfSome to (λ other. other < graph.now.plan.nodes)) links.now }
-        requires words { length words.now ≡ graph.now.plan.words }
-        requires links { length links.now ≡ graph.now.plan.links }
-        ensures graph { IsWatcherOf graph.now self.new }
+        requires inside { All (λ to. IfSome to (λ other.
+            other < self.old.view.client.plan.nodes)) links.now }
+        requires words { length words.now ≡ self.old.view.client.plan.words }
+        requires links { length links.now ≡ self.old.view.client.plan.links }
         ensures state { self.new ≡ after_fill self.old node words.now links.now }
     {
-        self.counted.nodes.plan(graph);
-        self.counted.nodes.fill(graph, node, words, links);
+        self.counted.nodes.plan(&self.graph);
+        self.counted.nodes.fill(&self.graph, node, words, links);
     }
 
     /// Links a live node to a free one, which is whole and leads to live nodes: by this store it is
     /// live (Linux's `rcu_assign_pointer`). What no live node leads to any more is left.
-    pub fn publish<const LEAF: u32, const FAN: u32, T: Drop>(
-        &mut self,
-        graph: &Graph<LEAF, FAN, T, F>,
-        from: usize,
-        link: usize,
-        to: usize,
-    )
-        requires graph { IsWatcherOf graph.now self.old }
-        requires from { from < graph.now.plan.nodes }
-        requires to { to < graph.now.plan.nodes }
-        requires link { link < graph.now.plan.links }
+    pub fn publish(&mut self, from: usize, link: usize, to: usize)
+        requires from { from < self.old.view.client.plan.nodes }
+        requires to { to < self.old.view.client.plan.nodes }
+        requires link { link < self.old.view.client.plan.links }
         requires live { state_at (nodes_in self.old.view.client.known) from ≡ Live }
-        requires ready { IsReady (F.fits graph.now.plan) (F.joins graph.now.plan)
-            graph.now.plan.links (nodes_in self.old.view.client.known) to }
-        requires joined { F.joins graph.now.plan link
+        requires ready { IsReady (F.fits self.old.view.client.plan)
+            (F.joins self.old.view.client.plan) self.old.view.client.plan.links
+            (nodes_in self.old.view.client.known) to }
+        requires joined { F.joins self.old.view.client.plan link
             (node_at (nodes_in self.old.view.client.known) from).words
             (node_at (nodes_in self.old.view.client.known) to).words }
-        ensures graph { IsWatcherOf graph.now self.new }
         ensures state { self.new ≡ after_store self.old
             (published (nodes_in self.old.view.client.known) from link to)
             (nodes_in self.new.view.client.known) }
-        ensures led { AreLed (F.joins graph.now.plan) graph.now.plan.links
+        ensures led { AreLed (F.joins self.old.view.client.plan) self.old.view.client.plan.links
             (published (nodes_in self.old.view.client.known) from link to) }
-        ensures trimmed { AreTrimmed graph.now.plan.roots graph.now.plan.links
+        ensures trimmed { AreTrimmed self.old.view.client.plan.roots
+            self.old.view.client.plan.links
             (published (nodes_in self.old.view.client.known) from link to)
             (nodes_in self.new.view.client.known) }
     {
-        self.counted.publish(graph, from, link, to);
+        self.counted.publish(&self.graph, from, link, to);
     }
 
     /// Leads a link of a live node to a live one, or nowhere, by one store. What no live node leads
     /// to any more is left.
-    pub fn link<const LEAF: u32, const FAN: u32, T: Drop>(
-        &mut self,
-        graph: &Graph<LEAF, FAN, T, F>,
-        from: usize,
-        link: usize,
-        to: Option<usize>,
-    )
-        requires graph { IsWatcherOf graph.now self.old }
-        requires from { from < graph.now.plan.nodes }
-        requires link { link < graph.now.plan.links }
+    pub fn link(&mut self, from: usize, link: usize, to: Option<usize>)
+        requires from { from < self.old.view.client.plan.nodes }
+        requires link { link < self.old.view.client.plan.links }
         requires live { state_at (nodes_in self.old.view.client.known) from ≡ Live }
-        requires target { IsTarget (F.joins graph.now.plan link)
+        requires target { IsTarget (F.joins self.old.view.client.plan link)
             (node_at (nodes_in self.old.view.client.known) from).words
             (nodes_in self.old.view.client.known) (word_to to) }
-        ensures graph { IsWatcherOf graph.now self.new }
         ensures state { self.new ≡ after_store self.old
             (relinked (nodes_in self.old.view.client.known) from link to)
             (nodes_in self.new.view.client.known) }
-        ensures led { AreLed (F.joins graph.now.plan) graph.now.plan.links
+        ensures led { AreLed (F.joins self.old.view.client.plan) self.old.view.client.plan.links
             (relinked (nodes_in self.old.view.client.known) from link to) }
-        ensures trimmed { AreTrimmed graph.now.plan.roots graph.now.plan.links
+        ensures trimmed { AreTrimmed self.old.view.client.plan.roots
+            self.old.view.client.plan.links
             (relinked (nodes_in self.old.view.client.known) from link to)
             (nodes_in self.new.view.client.known) }
     {
-        self.counted.link(graph, from, link, to);
+        self.counted.link(&self.graph, from, link, to);
     }
 
     /// Leads a link of a live node nowhere, by one store. What no live node leads to any more is
     /// left.
-    pub fn unlink<const LEAF: u32, const FAN: u32, T: Drop>(
-        &mut self,
-        graph: &Graph<LEAF, FAN, T, F>,
-        from: usize,
-        link: usize,
-    )
-        requires graph { IsWatcherOf graph.now self.old }
-        requires from { from < graph.now.plan.nodes }
-        requires link { link < graph.now.plan.links }
+    pub fn unlink(&mut self, from: usize, link: usize)
+        requires from { from < self.old.view.client.plan.nodes }
+        requires link { link < self.old.view.client.plan.links }
         requires live { state_at (nodes_in self.old.view.client.known) from ≡ Live }
-        ensures graph { IsWatcherOf graph.now self.new }
         ensures state { self.new ≡ after_store self.old
             (relinked (nodes_in self.old.view.client.known) from link None)
             (nodes_in self.new.view.client.known) }
-        ensures led { AreLed (F.joins graph.now.plan) graph.now.plan.links
+        ensures led { AreLed (F.joins self.old.view.client.plan) self.old.view.client.plan.links
             (relinked (nodes_in self.old.view.client.known) from link None) }
-        ensures trimmed { AreTrimmed graph.now.plan.roots graph.now.plan.links
+        ensures trimmed { AreTrimmed self.old.view.client.plan.roots
+            self.old.view.client.plan.links
             (relinked (nodes_in self.old.view.client.known) from link None)
             (nodes_in self.new.view.client.known) }
     {
-        self.link(graph, from, link, None);
+        self.link(from, link, None);
     }
 
     /// Looks at the number, by one load, and returns it: what was left is retired at it, and what
     /// was retired a full grace period ago is free. It costs what it retires and frees.
-    pub fn age<const LEAF: u32, const FAN: u32, T: Drop>(
-        &mut self,
-        graph: &Graph<LEAF, FAN, T, F>,
-    ) -> u64
-        requires { IsWatcherOf graph.now self.old }
-        ensures graph { IsWatcherOf graph.now self.new }
+    pub fn age(&mut self) -> u64
         ensures state { self.new ≡ after_look self.old result }
         ensures later { self.old.view.seen ≤ result }
         ensures bounded { result ≤ 2 ^ 62 }
     {
-        self.counted.nodes.look(graph)
+        self.counted.nodes.look(&self.graph)
     }
 }

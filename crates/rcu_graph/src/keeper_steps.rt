@@ -18,7 +18,7 @@ use crate::allowed::{
 use crate::graph::Graph;
 use crate::rule::{Age, Claim, GraphWatcher, Leave, Link, Publish, Shape, Write, WriteLink};
 
-impl<const LEAF: u32, const FAN: u32, T: Drop, F: Shape> Graph<LEAF, FAN, T, F> {
+impl<F: Shape> Graph<F> {
     /// Loads a word: the seat keeps the nodes from now on.
     pub(crate) fn claim(&self, seat: &mut GraphWatcher<F>)
         requires seat { IsWatcherOf self.now seat.old }
@@ -29,9 +29,9 @@ impl<const LEAF: u32, const FAN: u32, T: Drop, F: Shape> Graph<LEAF, FAN, T, F> 
             (F.first self.now.plan) self.now.plan.roots self.now.plan.nodes) [])) }
     {
         // A borrow of a field shows the prover what the type keeps: how large the graph is.
-        let live = &self.live;
+        let board = &*self.board;
         claim_is_allowed(seat);
-        seat.load_word::<_, Claim<F>>(live, 0);
+        seat.load_word::<_, Claim<F>>(board, 0);
     }
 
     /// Stores a word of a free node.
@@ -44,10 +44,10 @@ impl<const LEAF: u32, const FAN: u32, T: Drop, F: Shape> Graph<LEAF, FAN, T, F> 
         ensures state { seat.new ≡ after_write seat.old node word value }
     {
         // A borrow of a field shows the prover what the type keeps: that the words fit in memory.
-        let live = &self.live;
+        let board = &*self.board;
         let place = self.place(node, self.plan.links + word);
         write_is_allowed(seat, node, word, place, value);
-        seat.store_word::<_, Write>(live, place, value);
+        seat.store_word::<_, Write>(board, place, value);
     }
 
     /// Stores a link of a free node.
@@ -60,10 +60,10 @@ impl<const LEAF: u32, const FAN: u32, T: Drop, F: Shape> Graph<LEAF, FAN, T, F> 
         ensures state { seat.new ≡ after_write_link seat.old node link value }
     {
         // A borrow of a field shows the prover what the type keeps: that the words fit in memory.
-        let live = &self.live;
+        let board = &*self.board;
         let place = self.place(node, link);
         write_link_is_allowed(seat, node, link, place, value);
-        seat.store_word::<_, WriteLink>(live, place, value);
+        seat.store_word::<_, WriteLink>(board, place, value);
     }
 
     /// Stores a link of a live node: 0, which leads nowhere, or one more than a live node to which
@@ -80,10 +80,10 @@ impl<const LEAF: u32, const FAN: u32, T: Drop, F: Shape> Graph<LEAF, FAN, T, F> 
         ensures state { seat.new ≡ after_link seat.old node link value }
     {
         // A borrow of a field shows the prover what the type keeps: that the words fit in memory.
-        let live = &self.live;
+        let board = &*self.board;
         let place = self.place(node, link);
         link_is_allowed(seat, node, link, place, value);
-        seat.store_word::<_, Link>(live, place, value);
+        seat.store_word::<_, Link>(board, place, value);
     }
 
     /// Links a live node to a free one, which is whole and leads to live nodes: it is live then
@@ -103,11 +103,11 @@ impl<const LEAF: u32, const FAN: u32, T: Drop, F: Shape> Graph<LEAF, FAN, T, F> 
         ensures state { seat.new ≡ after_publish seat.old from link to }
     {
         // A borrow of a field shows the prover what the type keeps: that the words fit in memory.
-        let live = &self.live;
+        let board = &*self.board;
         let place = self.place(from, link);
         let value = to as u64 + 1;
         publish_is_allowed(seat, from, link, to, place, value);
-        seat.store_word::<_, Publish>(live, place, value);
+        seat.store_word::<_, Publish>(board, place, value);
     }
 
     /// Leaves a live node to which no live one leads: sections that are on it may stay, and no new
@@ -123,10 +123,10 @@ impl<const LEAF: u32, const FAN: u32, T: Drop, F: Shape> Graph<LEAF, FAN, T, F> 
         ensures state { seat.new ≡ after_leave seat.old node }
     {
         // A borrow of a field shows the prover what the type keeps: that the words fit in memory.
-        let live = &self.live;
+        let board = &*self.board;
         let place = self.place(node, 0);
         leave_is_allowed(seat, node, place);
-        seat.load_word::<_, Leave>(live, place);
+        seat.load_word::<_, Leave>(board, place);
     }
 
     /// Loads the number: what was left is so no later than now, and what was left a full grace
@@ -139,8 +139,8 @@ impl<const LEAF: u32, const FAN: u32, T: Drop, F: Shape> Graph<LEAF, FAN, T, F> 
         ensures number { is_number_word result ≡ true }
     {
         // A borrow of a field shows the prover what the type keeps: how large the graph is.
-        let live = &self.live;
+        let board = &*self.board;
         age_is_allowed(seat);
-        seat.load_number::<_, Age>(live)
+        seat.load_number::<_, Age>(board)
     }
 }

@@ -54,9 +54,9 @@ impl<F: Shape> Model for KnownNodes<F> {
 
 impl<F: Shape> KnownNodes<F> {
     /// The seat, whose nodes are as at first.
-    pub(crate) fn new<const LEAF: u32, const FAN: u32, T: Drop>(
+    pub(crate) fn new(
         alloc: Global,
-        graph: &Graph<LEAF, FAN, T, F>,
+        graph: &Graph<F>,
         seat: GraphWatcher<F>,
     ) -> Result<Self, AllocError>
         requires keeper { IsKeeperOf graph.now seat }
@@ -71,10 +71,7 @@ impl<F: Shape> KnownNodes<F> {
     }
 
     /// What the type keeps: nothing is done.
-    pub(crate) fn keeps<const LEAF: u32, const FAN: u32, T: Drop>(
-        &self,
-        graph: &Graph<LEAF, FAN, T, F>,
-    )
+    pub(crate) fn keeps(&self, graph: &Graph<F>)
         requires { IsWatcherOf graph.now self.now }
         ensures { IsKeeperOf graph.now self.now }
     {
@@ -83,10 +80,7 @@ impl<F: Shape> KnownNodes<F> {
     }
 
     /// How large the graph is.
-    pub(crate) fn plan<const LEAF: u32, const FAN: u32, T: Drop>(
-        &self,
-        graph: &Graph<LEAF, FAN, T, F>,
-    ) -> Plan
+    pub(crate) fn plan(&self, graph: &Graph<F>) -> Plan
         requires { IsWatcherOf graph.now self.now }
         ensures plan { result ≡ graph.now.plan }
         ensures keeps { IsKeeping self.now.view.client.known }
@@ -145,13 +139,7 @@ impl<F: Shape> KnownNodes<F> {
     }
 
     /// Stores a word of a free node.
-    fn write<const LEAF: u32, const FAN: u32, T: Drop>(
-        &mut self,
-        graph: &Graph<LEAF, FAN, T, F>,
-        node: usize,
-        word: usize,
-        value: u64,
-    )
+    fn write(&mut self, graph: &Graph<F>, node: usize, word: usize, value: u64)
         requires { CanStore graph.now.plan.words graph.now self.old node word }
         ensures { self.new ≡ after_write self.old node word value }
     {
@@ -160,13 +148,7 @@ impl<F: Shape> KnownNodes<F> {
     }
 
     /// Stores a link of a free node.
-    fn write_link<const LEAF: u32, const FAN: u32, T: Drop>(
-        &mut self,
-        graph: &Graph<LEAF, FAN, T, F>,
-        node: usize,
-        link: usize,
-        value: u64,
-    )
+    fn write_link(&mut self, graph: &Graph<F>, node: usize, link: usize, value: u64)
         requires { CanStore graph.now.plan.links graph.now self.old node link }
         ensures { self.new ≡ after_write_link self.old node link value }
     {
@@ -175,13 +157,7 @@ impl<F: Shape> KnownNodes<F> {
     }
 
     /// Stores a link of a live node, as [`Graph::link`] does.
-    pub(crate) fn link<const LEAF: u32, const FAN: u32, T: Drop>(
-        &mut self,
-        graph: &Graph<LEAF, FAN, T, F>,
-        node: usize,
-        link: usize,
-        value: u64,
-    )
+    pub(crate) fn link(&mut self, graph: &Graph<F>, node: usize, link: usize, value: u64)
         requires graph { IsWatcherOf graph.now self.old }
         requires node { node < graph.now.plan.nodes }
         requires link { link < graph.now.plan.links }
@@ -197,9 +173,9 @@ impl<F: Shape> KnownNodes<F> {
     }
 
     /// Stores all words and links of a free node.
-    pub(crate) fn fill<const LEAF: u32, const FAN: u32, T: Drop>(
+    pub(crate) fn fill(
         &mut self,
-        graph: &Graph<LEAF, FAN, T, F>,
+        graph: &Graph<F>,
         node: usize,
         words: &[u64],
         links: &[Option<usize>],
@@ -219,12 +195,7 @@ impl<F: Shape> KnownNodes<F> {
     }
 
     /// Stores all words of a free node.
-    fn fill_words<const LEAF: u32, const FAN: u32, T: Drop>(
-        &mut self,
-        graph: &Graph<LEAF, FAN, T, F>,
-        node: usize,
-        words: &[u64],
-    )
+    fn fill_words(&mut self, graph: &Graph<F>, node: usize, words: &[u64])
         requires free { CanFill graph.now self.old node }
         requires words { length words.now ≡ graph.now.plan.words }
         ensures { self.new ≡ after_words self.old node words.now }
@@ -235,12 +206,7 @@ impl<F: Shape> KnownNodes<F> {
     }
 
     /// Stores all links of a free node.
-    fn fill_links<const LEAF: u32, const FAN: u32, T: Drop>(
-        &mut self,
-        graph: &Graph<LEAF, FAN, T, F>,
-        node: usize,
-        links: &[Option<usize>],
-    )
+    fn fill_links(&mut self, graph: &Graph<F>, node: usize, links: &[Option<usize>])
         requires free { CanFill graph.now self.old node }
         requires inside { All (λ to. IfSome to (λ other. other < graph.now.plan.nodes)) links.now }
         requires links { length links.now ≡ graph.now.plan.links }
@@ -253,13 +219,7 @@ impl<F: Shape> KnownNodes<F> {
     }
 
     /// Links a live node to a free one, as [`Graph::publish`] does.
-    pub(crate) fn publish<const LEAF: u32, const FAN: u32, T: Drop>(
-        &mut self,
-        graph: &Graph<LEAF, FAN, T, F>,
-        from: usize,
-        link: usize,
-        to: usize,
-    )
+    pub(crate) fn publish(&mut self, graph: &Graph<F>, from: usize, link: usize, to: usize)
         requires { CanPublish (F.fits graph.now.plan) (F.joins graph.now.plan) graph.now self.old
             from link to }
         ensures graph { IsWatcherOf graph.now self.new }
@@ -272,11 +232,7 @@ impl<F: Shape> KnownNodes<F> {
     }
 
     /// Leaves a live node to which no live one leads.
-    pub(crate) fn leave<const LEAF: u32, const FAN: u32, T: Drop>(
-        &mut self,
-        graph: &Graph<LEAF, FAN, T, F>,
-        node: usize,
-    )
+    pub(crate) fn leave(&mut self, graph: &Graph<F>, node: usize)
         requires graph { IsWatcherOf graph.now self.old }
         requires node { node < graph.now.plan.nodes }
         requires no_root { graph.now.plan.roots ≤ node }
@@ -291,10 +247,7 @@ impl<F: Shape> KnownNodes<F> {
     }
 
     /// Looks at the number, by which the nodes age. It costs what becomes free or retired by it.
-    pub(crate) fn look<const LEAF: u32, const FAN: u32, T: Drop>(
-        &mut self,
-        graph: &Graph<LEAF, FAN, T, F>,
-    ) -> u64
+    pub(crate) fn look(&mut self, graph: &Graph<F>) -> u64
         requires { IsWatcherOf graph.now self.old }
         ensures graph { IsWatcherOf graph.now self.new }
         ensures state { self.new ≡ after_look self.old result }

@@ -16,11 +16,12 @@ use crate::graph::Graph;
 use crate::not_opened::NotOpened;
 use crate::places::{FIRST, place_of};
 use crate::plan::Plan;
-use crate::rule::{GraphRule, GraphSeat, GraphWatcher, Shape};
+use crate::rule::{GraphEngine, GraphRule, GraphSeat, GraphWatcher, Shape};
 use rcu_geometry::check_size;
-use rcu_live::Live;
+use rcu_live::{Live, Parts};
 use rcu_seq::Fault;
 use std::alloc::{AllocError, Global};
+use std::sync::Arc;
 
 /// Stores a root's first words from a place on.
 fn store_root<F: Shape>(behind: &mut Vec<u64>, plan: Plan, root: usize, place: usize)
@@ -62,15 +63,22 @@ fn first_words<F: Shape>(alloc: Global, plan: Plan) -> Result<Vec<u64>, AllocErr
 /// How many callbacks may be queued: so many that no program queues them all.
 const MOST: u64 = 1 << 62;
 
-/// A graph, a seat and a watcher a processor, and the watcher that keeps the nodes.
-pub type Opened<const LEAF: u32, const FAN: u32, T, F> = (
-    Graph<LEAF, FAN, T, F>,
-    Vec<GraphSeat<F>>,
-    Vec<GraphWatcher<F>>,
-    GraphWatcher<F>,
-);
+/// A graph as it is opened, with its engine.
+#[derive(Drop)]
+pub struct Opened<L: Drop, F: Shape> {
+    /// The engine, which threads share. Somebody has to drive it.
+    pub live: L,
+    /// The nodes, which its seats read.
+    pub graph: Graph<F>,
+    /// A seat a processor, in order.
+    pub seats: Vec<GraphSeat<F>>,
+    /// A watcher a processor.
+    pub watchers: Vec<GraphWatcher<F>>,
+    /// The watcher that keeps the nodes.
+    pub own: GraphWatcher<F>,
+}
 
-impl<const LEAF: u32, const FAN: u32, T: Drop, F: Shape> Graph<LEAF, FAN, T, F> {
+impl<F: Shape> Graph<F> {
     /// Opens a graph of a plan, whose roots have their first words and lead nowhere, and whose
     /// other nodes are free, with its engine: of `cpus` processors, idle at number 0, processor 0
     /// alone online.
@@ -78,24 +86,25 @@ impl<const LEAF: u32, const FAN: u32, T: Drop, F: Shape> Graph<LEAF, FAN, T, F> 
     /// Faults: `BadSizes` where no graph is so large; `TooManyCpus` (17) for no processor, more
     /// than 4,096, or more than four levels hold; `BadLast` (19) where `last` is no last number;
     /// `NoMemory` (16).
-    pub fn open(
+    pub fn open<const LEAF: u32, const FAN: u32, T: Drop>(
         alloc: Global,
         cpus: u32,
         last: u64,
         plan: Plan,
-    ) -> Result<Opened<LEAF, FAN, T, F>, NotOpened>
+    ) -> Result<Opened<GraphEngine<LEAF, FAN, T, F>, F>, NotOpened>
         requires fanouts { AreFanouts LEAF FAN }
         requires first { AreWhole (F.fits plan) (F.first plan) plan }
         ensures bad_sizes { (result ≡ Err NotOpened.BadSizes) ↔ ¬ IsSized plan }
         ensures fault { IsSized plan →
             tested_opening result ≡ opening_refusal LEAF FAN cpus last }
         ensures dealt { IfOk result (λ opened. AreDealt cpus last (2 ^ 62)
-            (first_place + (plan.links + plan.words) * plan.nodes) 0 (of_plan opened.0.plan Idle)
-            opened.0 opened.1.items opened.2.items) }
-        ensures plan { IfOk result (λ opened. opened.0.plan ≡ plan) }
-        ensures keeper { IfOk result (λ opened. IsKeeperOf opened.0 opened.3) }
-        ensures own { IfOk result (λ opened. opened.3 ≡ after_word_step
-            (watcher_at_first opened.0.table (base_of cpus) (of_plan plan Owner)) (of_plan plan
+            (first_place + (plan.links + plan.words) * plan.nodes) 0 (of_plan plan Idle)
+            opened.graph opened.seats.items opened.watchers.items) }
+        ensures plan { IfOk result (λ opened. opened.graph.plan ≡ plan) }
+        ensures live { IfOk result (λ opened. opened.live ≡ opened.graph) }
+        ensures keeper { IfOk result (λ opened. IsKeeperOf opened.graph opened.own) }
+        ensures own { IfOk result (λ opened. opened.own ≡ after_word_step
+            (watcher_at_first opened.graph.table (base_of cpus) (of_plan plan Owner)) (of_plan plan
             (Keeper 0
             (first_nodes plan.links plan.words (F.first plan) plan.roots plan.nodes) []))) }
     {
@@ -106,7 +115,13 @@ impl<const LEAF: u32, const FAN: u32, T: Drop, F: Shape> Graph<LEAF, FAN, T, F> 
         let Ok(behind) = first_words::<F>(alloc, plan) else {
             return Err(NotOpened::Fault(Fault::NoMemory));
         };
-        let (live, seats, watchers, mut own) = Live::<LEAF, FAN, T, GraphRule<F>>::open_for(
+        let Parts {
+            board,
+            engine,
+            seats,
+            watchers,
+            mut own,
+        } = Parts::<LEAF, FAN, T, GraphRule<F>>::open_for(
             alloc,
             cpus,
             last,
@@ -115,8 +130,20 @@ impl<const LEAF: u32, const FAN: u32, T: Drop, F: Shape> Graph<LEAF, FAN, T, F> 
             behind.as_slice(),
             Vec::new(alloc),
         )?;
-        let graph = Graph { live, plan };
+        let Ok(shared) = Arc::try_clone(&board) else {
+            return Err(NotOpened::Fault(Fault::NoMemory));
+        };
+        let graph = Graph {
+            board: shared,
+            plan,
+        };
         graph.claim(&mut own);
-        Ok((graph, seats, watchers, own))
+        Ok(Opened {
+            live: Live::new(board, engine),
+            graph,
+            seats,
+            watchers,
+            own,
+        })
     }
 }

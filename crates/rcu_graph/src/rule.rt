@@ -3,7 +3,7 @@ ghost use Rattle.std.specs.Prelude.{List, ℕ};
 
 use crate::known::Planned;
 use crate::plan::Plan;
-use rcu_live::{Client, CpuSeat, NumberStep, Watcher, WordStep};
+use rcu_live::{Client, CpuSeat, Live, NumberStep, Watcher, WordStep};
 use std::marker::PhantomData;
 
 /// A user's facts on the nodes of a graph of a plan: what the words of one in use satisfy, which
@@ -58,6 +58,9 @@ impl<F: Shape> Client for GraphRule<F> {
         (is_stable (F.fits plan) (F.joins plan) (F.first plan) plan.roots plan.links plan.words
         plan.nodes) };
 }
+
+/// The engine of a graph, which threads share.
+pub type GraphEngine<const LEAF: u32, const FAN: u32, T, F> = Live<LEAF, FAN, T, GraphRule<F>>;
 
 /// A processor's seat of a graph's engine.
 pub type GraphSeat<F> = CpuSeat<GraphRule<F>>;

@@ -9,7 +9,7 @@ ghost use Rattle.rcu_graph.specs.Search.{Ascends, IsFound, IsSearched};
 use crate::graph::Graph;
 use crate::rule::{GraphSeat, Shape};
 
-impl<const LEAF: u32, const FAN: u32, T: Drop, F: Shape> Graph<LEAF, FAN, T, F> {
+impl<F: Shape> Graph<F> {
     /// The key of a node on which the section is.
     fn key_of(&self, seat: &mut GraphSeat<F>, node: usize) -> u64
         requires at { IsAt (F.first self.now.plan) self.now seat.old node }

@@ -9,8 +9,8 @@ use crate::rule::{GraphSeat, Shape};
 /// An open section that walks a graph. It borrows the processor's seat, so that the section cannot
 /// close while it walks: a step after the exit is refused by the type.
 #[derive(Drop)]
-pub struct Walk<'a, const LEAF: u32, const FAN: u32, T: Drop, F: Shape> {
-    pub(crate) graph: &'a Graph<LEAF, FAN, T, F>,
+pub struct Walk<'a, F: Shape> {
+    pub(crate) graph: &'a Graph<F>,
     pub(crate) seat: &'a mut GraphSeat<F>,
     ghost walking: { IsWalking graph.now seat.now } by { Prim.hlevel (props, reader_once) },
 }

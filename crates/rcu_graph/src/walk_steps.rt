@@ -10,10 +10,10 @@ use crate::graph::Graph;
 use crate::rule::{GraphSeat, Shape};
 use crate::walk::Walk;
 
-impl<const LEAF: u32, const FAN: u32, T: Drop, F: Shape> Graph<LEAF, FAN, T, F> {
+impl<F: Shape> Graph<F> {
     /// Lends the seat to a walk of its open section, which goes on from the hops that it has made.
     /// Nothing is loaded.
-    pub fn walk<'a>(&'a self, seat: &'a mut GraphSeat<F>) -> Walk<'a, LEAF, FAN, T, F>
+    pub fn walk<'a>(&'a self, seat: &'a mut GraphSeat<F>) -> Walk<'a, F>
         requires { IsWalking self.now seat.old }
         ensures graph { (walked result).graph ≡ self.now }
         ensures seat { (walked result).seat ≡ seat.old }
@@ -23,7 +23,7 @@ impl<const LEAF: u32, const FAN: u32, T: Drop, F: Shape> Graph<LEAF, FAN, T, F> 
     }
 }
 
-impl<'a, const LEAF: u32, const FAN: u32, T: Drop, F: Shape> Walk<'a, LEAF, FAN, T, F> {
+impl<'a, F: Shape> Walk<'a, F> {
     /// Loads a link of a node that the section is on, as [`Graph::follow`] does.
     pub fn follow(&mut self, from: usize, link: usize) -> Option<usize>
         requires at { IsAt (F.first (walked self.old).graph.plan) (walked self.old).graph

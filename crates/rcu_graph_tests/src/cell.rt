@@ -1,7 +1,6 @@
 //! A version's slot over one grace period.
 ghost use Rattle.std.specs.Prelude.{◌≡◌};
 ghost use Rattle.rcu_live.specs.CpuSeat.{IsSeatOf};
-ghost use Rattle.rcu_live.specs.Watcher.{IsWatcherOf};
 
 mod limits;
 mod parts;
@@ -11,8 +10,8 @@ mod threads;
 mod versions;
 mod waits;
 
-use rcu_cell::{Cell, CellSeat, Full, Invariant, Keeper, Retired};
-use rcu_live::Collected;
+use rcu_cell::{Cell, CellRule, CellSeat, Full, Invariant, Keeper, Retired};
+use rcu_live::{Collected, Live};
 use rcu_seq::Fault;
 use rcu_state::Turned;
 use std::alloc::Global;
@@ -27,17 +26,18 @@ impl Invariant for Any {
     ghost holds = { λ _. Unit {0} };
 }
 
-type Pairs = Cell<4, 4, u64, Any, 2, 2>;
+type Pairs = Cell<Any, 2, 2>;
+
+type Engine = Live<4, 4, u64, CellRule<Any, 2, 2>>;
 
 /// One grace period, which a callback needs. Where its queueing is refused memory, the same call
 /// is made again.
-fn pass_a_period<R: Abort + Wait>(rt: &R, cell: &Pairs, seat: &mut CellSeat<Any, 2, 2>)
-    requires seat { IsSeatOf cell.now seat.old }
+fn pass_a_period<R: Abort + Wait>(rt: &R, live: &Engine, seat: &mut CellSeat<Any, 2, 2>)
+    requires seat { IsSeatOf live.now seat.old }
     requires outside { seat.old.depth ≡ 0 }
-    ensures seat { IsSeatOf cell.now seat.new }
+    ensures seat { IsSeatOf live.now seat.new }
     ensures outside { seat.new.depth ≡ 0 }
 {
-    let live = cell.live();
     assert!(rt; live.queue(rt, seat, 7).is_ok() || live.queue(rt, seat, 7).is_ok());
     assert_eq!(rt; live.tend(rt, 0), Ok((0, 1)));
     assert_eq!(rt; live.turn(rt), Ok(Turned::Begun(1, 1)));
@@ -49,57 +49,67 @@ fn pass_a_period<R: Abort + Wait>(rt: &R, cell: &Pairs, seat: &mut CellSeat<Any,
 /// Has the keeper show these words, and compares what it answers.
 fn shows<R: Abort>(
     rt: &R,
-    cell: &Pairs,
     keeper: &mut Keeper<Any, 2, 2>,
     words: [u64; 2],
     wanted: Result<Retired, Full>,
-)
-    requires { IsWatcherOf cell.now keeper.old }
-    ensures { IsWatcherOf cell.now keeper.new }
-{
-    assert_eq!(rt; (words, keeper.update(cell, &words)), (words, wanted));
+) {
+    assert_eq!(rt; (words, keeper.update(&words)), (words, wanted));
 }
 
 /// Reads in a section of its own, and compares the words.
-fn reads<R: Abort>(rt: &R, cell: &Pairs, seat: &mut CellSeat<Any, 2, 2>, wanted: [u64; 2])
-    requires seat { IsSeatOf cell.now seat.old }
+fn reads<R: Abort>(
+    rt: &R,
+    live: &Engine,
+    cell: &Pairs,
+    seat: &mut CellSeat<Any, 2, 2>,
+    wanted: [u64; 2],
+)
+    requires engine { live.now ≡ cell.now }
+    requires seat { IsSeatOf live.now seat.old }
     requires outside { seat.old.depth ≡ 0 }
-    ensures seat { IsSeatOf cell.now seat.new }
+    ensures seat { IsSeatOf live.now seat.new }
     ensures outside { seat.new.depth ≡ 0 }
 {
-    assert_eq!(rt; cell.read_section(seat), Ok(wanted));
+    assert_eq!(rt; cell.read_section(live, seat), Ok(wanted));
 }
 
 /// Two slots show one version after the other: the first is free for a third once a grace period
 /// has passed, and the keeper has looked.
 fn use_a_slot_again<R: Abort + Wait>(
     rt: &R,
+    live: &Engine,
     cell: &Pairs,
     seat: &mut CellSeat<Any, 2, 2>,
     keeper: &mut Keeper<Any, 2, 2>,
 )
-    requires seat { IsSeatOf cell.now seat.old }
+    requires engine { live.now ≡ cell.now }
+    requires seat { IsSeatOf live.now seat.old }
     requires outside { seat.old.depth ≡ 0 }
-    requires keeper { IsWatcherOf cell.now keeper.old }
 {
-    reads(rt, cell, seat, [1, 1]);
-    shows(rt, cell, keeper, [2, 2], Ok(Retired { slot: 0, by: 1 }));
-    reads(rt, cell, seat, [2, 2]);
-    shows(rt, cell, keeper, [3, 3], Err(Full));
-    assert_eq!(rt; keeper.age(cell), 0);
-    shows(rt, cell, keeper, [3, 3], Err(Full));
-    pass_a_period(rt, cell, seat);
-    shows(rt, cell, keeper, [3, 3], Err(Full));
-    assert_eq!(rt; keeper.age(cell), 4);
-    shows(rt, cell, keeper, [3, 3], Ok(Retired { slot: 1, by: 0 }));
-    reads(rt, cell, seat, [3, 3]);
+    reads(rt, live, cell, seat, [1, 1]);
+    shows(rt, keeper, [2, 2], Ok(Retired { slot: 0, by: 1 }));
+    reads(rt, live, cell, seat, [2, 2]);
+    shows(rt, keeper, [3, 3], Err(Full));
+    assert_eq!(rt; keeper.age(), 0);
+    shows(rt, keeper, [3, 3], Err(Full));
+    pass_a_period(rt, live, seat);
+    shows(rt, keeper, [3, 3], Err(Full));
+    assert_eq!(rt; keeper.age(), 4);
+    shows(rt, keeper, [3, 3], Ok(Retired { slot: 1, by: 0 }));
+    reads(rt, live, cell, seat, [3, 3]);
 }
 
 #[test]
 fn slot_is_used_again_after_a_period(rt: HostRuntime) {
-    let Ok((cell, mut seats, _, mut keeper)) = Pairs::open(rt.alloc(), 1, 8, &[1, 1]) else {
+    let Ok(mut opened) = Pairs::open(rt.alloc(), 1, 8, &[1, 1]) else {
         return;
     };
-    let mut seat = seats.pop().unwrap();
-    use_a_slot_again(&rt, &cell, &mut seat, &mut keeper);
+    let mut seat = opened.seats.pop().unwrap();
+    use_a_slot_again(
+        &rt,
+        &opened.live,
+        &opened.cell,
+        &mut seat,
+        &mut opened.keeper,
+    );
 }

@@ -15,7 +15,7 @@ mod parts;
 mod turnover;
 
 use crate::nodes::parts::next_online;
-use rcu_graph::{Graph, GraphSeat, GraphWatcher, Plan, Shape};
+use rcu_graph::{Graph, GraphEngine, GraphSeat, GraphWatcher, Plan, Shape};
 use std::sync::Wait;
 use std::thread;
 use std::thread::Threads;
@@ -37,9 +37,11 @@ impl Shape for Sorted {
     }
 }
 
-type Chain = Graph<4, 4, u64, Sorted>;
+pub(crate) type Chain = Graph<Sorted>;
 
-type Seat = GraphSeat<Sorted>;
+pub(crate) type Engine = GraphEngine<4, 4, u64, Sorted>;
+
+pub(crate) type Seat = GraphSeat<Sorted>;
 
 /// A root, and a node with a key and a value.
 const PLAN: Plan = Plan {
@@ -69,7 +71,8 @@ fn finds_it_whole(chain: &Chain, seat: &mut Seat) -> bool
 
 /// Searches the chain for the key 5 in a section of its own. Returns whether a node that was found
 /// has both its words.
-fn search(chain: &Chain, seat: &mut Seat) -> bool
+fn search(live: &Engine, chain: &Chain, seat: &mut Seat) -> bool
+    requires engine { live.now ≡ chain.now }
     requires sized { chain.now.plan ≡ plan_of 1 1 2 2 0 }
     requires seat { IsSeatOf chain.now seat.old }
     requires outside { seat.old.depth ≡ 0 }
@@ -78,11 +81,11 @@ fn search(chain: &Chain, seat: &mut Seat) -> bool
     ensures outside { seat.new.depth ≡ 0 }
     ensures idle { seat.new.view.client ≡ of_plan chain.now.plan Idle }
 {
-    if seat.enter(chain.live()).is_err() {
+    if seat.enter(live).is_err() {
         return false;
     }
     let right = finds_it_whole(chain, seat);
-    let Ok(_) = seat.exit(chain.live()) else {
+    let Ok(_) = seat.exit(live) else {
         unreachable!()
     };
     right
@@ -91,8 +94,10 @@ fn search(chain: &Chain, seat: &mut Seat) -> bool
 /// A reader, with its processor's seat.
 #[derive(Drop)]
 struct Reader<'a> {
+    live: &'a Engine,
     chain: &'a Chain,
     seat: Seat,
+    ghost engine: { live.now ≡ chain.now },
     ghost sized: { chain.now.plan ≡ plan_of 1 1 2 2 0 },
     ghost seat_of: { IsSeatOf chain.now seat },
     ghost outside: { seat.depth ≡ 0 },
@@ -102,8 +107,8 @@ struct Reader<'a> {
 impl<'a> Reader<'a> {
     /// Searches, and passes a quiescent state.
     fn search(&mut self) -> bool {
-        let right = search(self.chain, &mut self.seat);
-        let quiet = self.seat.quiesce(self.chain.live());
+        let right = search(self.live, self.chain, &mut self.seat);
+        let quiet = self.seat.quiesce(self.live);
         right && quiet.is_ok()
     }
 
@@ -113,12 +118,8 @@ impl<'a> Reader<'a> {
         for _ in 0..SEARCHES {
             right = self.search() && right;
         }
-        let Reader {
-            chain,
-            mut seat,
-            ..
-        } = self;
-        let _ = chain.live().offline(rt, &mut seat);
+        let Reader { live, mut seat, .. } = self;
+        let _ = live.offline(rt, &mut seat);
         right
     }
 }
@@ -160,17 +161,20 @@ fn run_beside<R: Threads + Wait + Sync>(
 
 #[test]
 fn readers_beside_a_published_node(rt: HostRuntime) {
-    let opened = Chain::open(rt.alloc(), 3, 4_000_000, PLAN);
-    let Ok((chain, mut seats, _, keeper)) = opened else {
+    let Ok(opened) = Chain::open(rt.alloc(), 3, 4_000_000, PLAN) else {
         return;
     };
+    let (mut seats, keeper) = (opened.seats, opened.own);
+    let (live, chain) = (&opened.live, &opened.graph);
     let a = Reader {
-        chain: &chain,
-        seat: next_online(&rt, &chain, &mut seats),
+        live,
+        chain,
+        seat: next_online(&rt, live, &mut seats),
     };
     let b = Reader {
-        chain: &chain,
-        seat: next_online(&rt, &chain, &mut seats),
+        live,
+        chain,
+        seat: next_online(&rt, live, &mut seats),
     };
-    assert_eq!(rt; run_beside(&rt, &chain, keeper, a, b), (true, true));
+    assert_eq!(rt; run_beside(&rt, chain, keeper, a, b), (true, true));
 }

@@ -31,4 +31,5 @@ are_dealt {C} cpus last most behind slots idle engine seats watchers size s w = 
   are_watchers =
       each_made _ _ _ (IsWatcherOf engine) w (λ cpu. (refl, ap base_of (sym size.count)));
   outside = each_made _ _ _ (λ (seat : Seated C). seat.depth ≡ 0) s (λ cpu. refl);
+  know = each_made _ _ _ (λ (seat : Seated C). seat.view.client ≡ idle) s (λ cpu. refl);
 }

@@ -38,7 +38,8 @@ module _ {C : Type 0} where
     pub each_seat : seats ≡ map (at_first engine.table (base_of cpus) idle) (range_with_len 0 cpus)
     pub each_watcher : watchers
         ≡ map (λ _. watcher_at_first engine.table (base_of cpus) idle) (range_with_len 0 cpus)
-    -- so there are so many, each reads this engine's words and is of it, and no section is open
+    -- so there are so many, each reads this engine's words and is of it, no section is open, and
+    -- each knows of the client what a seat knows that was dealt
     pub seat_count : length seats ≡ cpus
     pub watcher_count : length watchers ≡ cpus
     pub seats_read : All (λ seat. seat.table ≡ engine.table) seats
@@ -46,6 +47,7 @@ module _ {C : Type 0} where
     pub are_seats : All (IsSeatOf engine) seats
     pub are_watchers : All (IsWatcherOf engine) watchers
     pub outside : All (λ seat. seat.depth ≡ 0) seats
+    pub know : All (λ seat. seat.view.client ≡ idle) seats
 
   -- all parts of an engine as it is opened: its words and seats, its state, and the client's own
   -- watcher

@@ -42,8 +42,9 @@ impl<const LEAF: u32, const FAN: u32, T: Drop, P: Client> Model for Live<LEAF, F
 }
 
 impl<const LEAF: u32, const FAN: u32, T: Drop, P: Client> Live<LEAF, FAN, T, P> {
-    /// The engine of these words, put under its lock as it is opened.
-    pub(crate) fn new(board: Arc<Board<P>, Global>, engine: Engine<Tree<LEAF, FAN>, T, P>) -> Self
+    /// The engine of these words, put under its lock as it is opened: two of its
+    /// [`Parts`](crate::Parts).
+    pub fn new(board: Arc<Board<P>, Global>, engine: Engine<Tree<LEAF, FAN>, T, P>) -> Self
         requires { engine ≡ engine_at_first (arc_value board).table (arc_value board).cpus
             (arc_value board).last (arc_value board).most
             (P.idle (P.first (arc_value board).plan)) }

@@ -1,15 +1,13 @@
 -- What a map's keeper may do.
 use Rattle.std.proofs.Common.{◌≡◌, ℕ, suc, ◌<◌, ◌∙◌, Option, Some, None, List, sym, subst, arith}
 use Rattle.std.proofs.Common.{refl}
-use Rattle.rcu_live.specs.Board.{Object}
 use Rattle.rcu_live.specs.Watcher.{Watching}
 use Rattle.rcu_graph.specs.Absence.{next_of}
-use Rattle.rcu_graph.specs.Graph.{IsWatcherOf, word_to}
+use Rattle.rcu_graph.specs.Graph.{word_to}
 use Rattle.rcu_graph.specs.Nodes.{node_at, nodes_in, state_at}
 use Rattle.rcu_graph.specs.declared.known.Planned.{Planned}
 use Rattle.rcu_graph.specs.declared.known.Node.{Node}
 use Rattle.rcu_graph.specs.declared.node_state.NodeState.TheVariants.{Live}
-use Rattle.rcu_graph.specs.declared.plan.Plan.{Plan}
 use Rattle.rcu_map.specs.Chains.{IsMap, buckets_in, seed_in}
 use Rattle.rcu_map.specs.Keys.{GoesUp, IsWhole, key_in}
 use Rattle.rcu_map.specs.Splices.{CanPass, CanPut, IsPlace}
@@ -32,12 +30,11 @@ placed w v key k previous was o place e f h =
     previous n)
     h place))
 
-module _ (holds : List ℕ → Type 0) (graph : Object Plan) (keeper : Watching Planned)
+module _ (holds : List ℕ → Type 0) (keeper : Watching Planned)
     (one : keeper.view.client.plan.links ≡ 1)
     (m : IsMap holds keeper.view.client.plan.roots keeper.view.client.plan.seed
     keeper.view.client.plan.words
-    keeper.view.client.plan.nodes (nodes_in keeper.view.client.known))
-    (watches : IsWatcherOf graph keeper) where
+    keeper.view.client.plan.nodes (nodes_in keeper.view.client.known)) where
   abbrev buckets : ℕ
   buckets = keeper.view.client.plan.roots
 
@@ -66,10 +63,9 @@ module _ (holds : List ℕ → Type 0) (graph : Object Plan) (keeper : Watching 
         → IsPlace buckets seed (key_in words) A previous there
         → ((j : ℕ) → word_to next ≡ suc j → (state_at A j ≡ Live)
         × GoesUp buckets seed words (node_at A j).words)
-        → CanPut (IsWhole holds width) (λ _ from to. GoesUp buckets seed from to) graph keeper
+        → CanPut (IsWhole holds width) (λ _ from to. GoesUp buckets seed from to) keeper
         previous words next
     can_put there next place onward = record {
-      watches = watches;
       one = one;
       few = m.few;
       sized = whole.sized;
@@ -82,7 +78,7 @@ module _ (holds : List ℕ → Type 0) (graph : Object Plan) (keeper : Watching 
     pub can_insert : (next : Option ℕ)
         → IsPlace buckets seed (key_in words) A previous None
         → word_to next ≡ next_of A previous
-        → CanPut (IsWhole holds width) (λ _ from to. GoesUp buckets seed from to) graph keeper
+        → CanPut (IsWhole holds width) (λ _ from to. GoesUp buckets seed from to) keeper
         previous words next
     can_insert next place to = can_put None next place (λ j e.
         let leads : next_of A previous ≡ suc j = sym to ∙ e in
@@ -92,7 +88,7 @@ module _ (holds : List ℕ → Type 0) (graph : Object Plan) (keeper : Watching 
     pub can_replace : (old : ℕ) (next : Option ℕ)
         → IsPlace buckets seed (key_in words) A previous (Some old)
         → word_to next ≡ next_of A old
-        → CanPut (IsWhole holds width) (λ _ from to. GoesUp buckets seed from to) graph keeper
+        → CanPut (IsWhole holds width) (λ _ from to. GoesUp buckets seed from to) keeper
         previous words next
     can_replace old next place to = can_put (Some old) next place (λ j e.
         let first = led holds buckets seed width count A m previous old place.live place.leads.0 in
@@ -112,9 +108,8 @@ module _ (holds : List ℕ → Type 0) (graph : Object Plan) (keeper : Watching 
       (led holds buckets seed width count A m previous old place.live place.leads.0).0
 
   pub can_remove : (key previous old : ℕ) → IsPlace buckets seed key A previous (Some old)
-      → CanPass (λ _ from to. GoesUp buckets seed from to) graph keeper previous old
+      → CanPass (λ _ from to. GoesUp buckets seed from to) keeper previous old
   can_remove key previous old place = record {
-    watches = watches;
     one = one;
     few = m.few;
     live = place.live;

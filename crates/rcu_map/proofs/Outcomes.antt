@@ -2,14 +2,12 @@
 use Rattle.std.proofs.Common.{◌≡◌, ◌<◌, ℕ, true, List, Option, Some, Result, Ok}
 use Rattle.std.proofs.Common.{Err, ap, refl, sym, subst}
 use Rattle.std.specs.Prelude.{MatchResult}
-use Rattle.rcu_live.specs.Board.{Object}
 use Rattle.rcu_live.specs.Watcher.{Watching}
 use Rattle.rcu_graph.specs.Absence.{next_of}
 use Rattle.rcu_graph.specs.Graph.{word_to}
 use Rattle.rcu_graph.specs.Nodes.{nodes_in}
 use Rattle.rcu_graph.specs.declared.keeper.Full.{Full}
 use Rattle.rcu_graph.specs.declared.known.Planned.{Planned}
-use Rattle.rcu_graph.specs.declared.plan.Plan.{Plan}
 use Rattle.rcu_map.specs.Chains.{IsMap, buckets_in, seed_in}
 use Rattle.rcu_map.specs.Entries.{entries_in}
 use Rattle.rcu_map.specs.Keys.{GoesUp, IsWhole, key_in}
@@ -19,7 +17,7 @@ use Rattle.rcu_map.proofs.Chains.{free_node}
 use Rattle.rcu_map.proofs.Replacements.{replaced, replaced_count, replaced_map}
 
 -- an entry was put in the place of another one, or no node was free
-module _ (holds : List ℕ → Type 0) (graph : Object Plan) (before now : Watching Planned)
+module _ (holds : List ℕ → Type 0) (before now : Watching Planned)
     (m : IsMap holds before.view.client.plan.roots before.view.client.plan.seed
     before.view.client.plan.words
     before.view.client.plan.nodes (nodes_in before.view.client.known)) (previous old : ℕ)
@@ -41,7 +39,7 @@ module _ (holds : List ℕ → Type 0) (graph : Object Plan) (before now : Watch
 
   abbrev Ends : Result (Unit {0}) Full → Type 0
   Ends result = MatchResult result
-      (λ _. HasPut (IsWhole holds width) (λ _ from to. GoesUp buckets seed from to) graph before now
+      (λ _. HasPut (IsWhole holds width) (λ _ from to. GoesUp buckets seed from to) before now
       previous words next)
       (λ _. IsFull before now)
 

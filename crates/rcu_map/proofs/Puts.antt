@@ -2,19 +2,18 @@
 use Rattle.std.proofs.Common.{◌≡◌, ◌≢◌, ℕ, zero, suc, ◌<◌, List, [], ◌∷◌, Option, Some, None}
 use Rattle.std.proofs.Common.{length, map, refl, sym, ap, ◌∙◌, subst, arith}
 use Rattle.std.specs.Prelude.{All, IfSome, slice_index, slice_index_or}
-use Rattle.rcu_live.specs.Board.{Object}
 use Rattle.rcu_live.specs.Watcher.{Watching}
 use Rattle.rcu_graph.specs.Graph.{word_to}
 use Rattle.rcu_graph.specs.Keeper.{IsReady}
 use Rattle.rcu_graph.specs.Nodes.{IsTarget, node_at, nodes_in, renewed, state_at}
-use Rattle.rcu_graph.specs.Tended.{filled_with}
+use Rattle.rcu_graph.specs.Tended.{AreTended, filled_with}
 use Rattle.rcu_graph.specs.declared.known.Planned.{Planned}
 use Rattle.rcu_graph.specs.declared.known.Node.{Node}
 use Rattle.rcu_graph.specs.declared.node_state.NodeState.TheVariants.{Free, Live}
 use Rattle.rcu_graph.proofs.Counting.{live_inside, other_node, same_node}
 use Rattle.rcu_graph.proofs.Tending.{at_here, here_at}
 use Rattle.rcu_graph.specs.declared.plan.Plan.{Plan}
-use Rattle.rcu_map.specs.Splices.{CanPut}
+use Rattle.rcu_map.specs.Splices.{AreKept, CanPut}
 use Rattle.rcu_map.proofs.Gaps.{not_free}
 
 -- a link that leads to one of so many nodes, or nowhere, stands alone in a list
@@ -46,10 +45,33 @@ target_of joins words nodes x there j e =
     let r = there j e in
     (node_at nodes j, here_at nodes j (live_inside nodes j r.0), r.0, r.1)
 
-module _ (fits : List ℕ → Type 0) (joins : ℕ → List ℕ → List ℕ → Type 0) (graph : Object Plan)
+-- nodes are kept still, where a keeper of the same plan tends as many
+pub are_kept : (fits : Plan → List ℕ → Type 0) (joins : Plan → ℕ → List ℕ → List ℕ → Type 0)
+    (before now : Watching Planned)
+    → now.view.client.plan ≡ before.view.client.plan
+    → before.view.client.plan.links ≡ 1
+    → length (nodes_in now.view.client.known) ≡ now.view.client.plan.nodes
+    → AreTended (fits now.view.client.plan) (joins now.view.client.plan)
+    now.view.client.plan.roots now.view.client.plan.links (nodes_in now.view.client.known)
+    → AreKept (fits before.view.client.plan) (joins before.view.client.plan)
+    before.view.client.plan.roots before.view.client.plan.nodes (nodes_in now.view.client.known)
+are_kept fits joins before now planned one few tended =
+    let p : Plan = before.view.client.plan in
+    record {
+      few = few ∙ ap (λ (q : Plan). q.nodes) planned;
+      tended =
+          subst (λ (links : ℕ). AreTended (fits p) (joins p) p.roots links
+          (nodes_in now.view.client.known))
+          one
+          (subst (λ (q : Plan). AreTended (fits q) (joins q) q.roots q.links
+          (nodes_in now.view.client.known))
+          planned tended);
+    }
+
+module _ (fits : List ℕ → Type 0) (joins : ℕ → List ℕ → List ℕ → Type 0)
     (keeper : Watching Planned) (previous : ℕ) (words : List ℕ)
     (next : Option ℕ)
-    (can : CanPut fits joins graph keeper previous words next) (node : ℕ)
+    (can : CanPut fits joins keeper previous words next) (node : ℕ)
     (low : node < keeper.view.client.plan.nodes)
     (free : state_at (nodes_in keeper.view.client.known) node ≡ Free) where
   abbrev A : List Node

@@ -2,7 +2,6 @@
 use Rattle.std.proofs.Common.{◌≡◌, ℕ, Bool, true, false, List, Option, Some, None, Result, Ok, Err}
 use Rattle.std.proofs.Common.{ap, refl, subst, ◌∙◌}
 use Rattle.std.specs.Prelude.{is_some}
-use Rattle.rcu_live.specs.Board.{Object}
 use Rattle.rcu_live.specs.CpuSeat.{Seated}
 use Rattle.rcu_live.specs.Watcher.{Watching}
 use Rattle.rcu_graph.specs.Nodes.{nodes_in}
@@ -10,7 +9,6 @@ use Rattle.rcu_graph.specs.Tended.{AreAllUsed}
 use Rattle.rcu_graph.specs.declared.keeper.Full.{Full}
 use Rattle.rcu_graph.specs.declared.known.Planned.{Planned}
 use Rattle.rcu_graph.specs.declared.known.Node.{Node}
-use Rattle.rcu_graph.specs.declared.plan.Plan.{Plan}
 use Rattle.rcu_map.specs.Chains.{buckets_in}
 use Rattle.rcu_map.specs.Entries.{AreSameEntries, HasKey, IsEntryOf}
 use Rattle.rcu_map.specs.Keys.{key_in}
@@ -93,16 +91,16 @@ module _ {E : Type 0} (decode : List ℕ → E) (valid : E → Type 0) (key_of :
   }
 
 module _ {E : Type 0} (decode : List ℕ → E) (valid : E → Type 0) (key_of : E → ℕ) (key : ℕ)
-    (map : Object Plan) (how : Put) (words : List ℕ) (before after : Watching Planned)
+    (how : Put) (words : List ℕ) (before after : Watching Planned)
     (result : Result (Option E) Full)
-    (a : HasAnswered decode valid key_of map how key words before result after) where
+    (a : HasAnswered decode valid key_of how key words before result after) where
   -- no node was free
   pub when_full : (full : Full) → result ≡ Err full
       → IsWanted how (buckets_in before) (nodes_in before.view.client.known) key × IsFull before
       after
   when_full full e =
       let b = subst (λ (r : Result (Option E) Full).
-      HasAnswered decode valid key_of map how key words before r after)
+      HasAnswered decode valid key_of how key words before r after)
       e a in
       (b.wanted, b.full)
 
@@ -112,6 +110,6 @@ module _ {E : Type 0} (decode : List ℕ → E) (valid : E → Type 0) (key_of :
       × HasPutIn (buckets_in before) words (is_some old) (is_put how (is_some old)) before after
   when_told old e =
       let b = subst (λ (r : Result (Option E) Full).
-      HasAnswered decode valid key_of map how key words before r after)
+      HasAnswered decode valid key_of how key words before r after)
       e a in
       (b.old, b.put)

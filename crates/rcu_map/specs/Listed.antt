@@ -28,9 +28,8 @@ after_hops s known at =
 abbrev pub known_in : Listing → Known
 known_in s = s.seat.view.client.known
 
-module _ {LEAF FAN : ℕ} {T E : Type 0} {W : ℕ} where
-  abbrev pub listing : Entries LEAF FAN T E W → Listing
-  listing s = record { map = s.map.now; seat = s.seat.now; name = s.seat.ghost_name; at = s.at }
+abbrev pub listing : {E : Type 0} {W : ℕ} → Entries E W → Listing
+listing s = record { map = s.map.now; seat = s.seat.now; name = s.seat.ghost_name; at = s.at }
 
 -- a call went on to the next entry, of which the user's fact holds, or to the end where it returned
 -- none. Nothing changes but what the section knows and where it stands

@@ -1,16 +1,14 @@
 -- What a map's keeper makes of an entry that it is to put in, and of a key that it is to take out.
 use Rattle.std.specs.Prelude.{◌≡◌, ℕ, Bool, true, false, List, Option, Some, None, Result, IfOk}
 use Rattle.std.specs.Prelude.{IfSome, OnErr, is_some}
-use Rattle.rcu_live.specs.Board.{Object}
 use Rattle.rcu_live.specs.Watcher.{Watching}
-use Rattle.rcu_graph.specs.Graph.{IsWatcherOf}
+use Rattle.rcu_graph.specs.Graph.{IsOfSameGraph}
 use Rattle.rcu_graph.specs.Keeper.{after_store}
 use Rattle.rcu_graph.specs.Nodes.{nodes_in}
 use Rattle.rcu_graph.specs.Tended.{AreLed, AreTrimmed}
 use Rattle.rcu_graph.specs.declared.keeper.Full.{Full}
 use Rattle.rcu_graph.specs.declared.known.Planned.{Planned}
 use Rattle.rcu_graph.specs.declared.known.Node.{Node}
-use Rattle.rcu_graph.specs.declared.plan.Plan.{Plan}
 use Rattle.rcu_map.specs.Chains.{buckets_in, seed_in}
 use Rattle.rcu_map.specs.Entries.{HasKey, IsEntryOf, IsInserted, IsReplaced}
 use Rattle.rcu_map.specs.Keys.{GoesUp}
@@ -79,11 +77,10 @@ HasPutIn buckets words there false before after = after ≡ before
 -- the keeper was to put an entry of this key and these words in: it returned the one that had the
 -- key, and put the new one in where that was wanted; or it needed a node, and none was free
 pub record HasAnswered {E : Type 0} (decode : List ℕ → E) (valid : E → Type 0) (key_of : E → ℕ)
-    (map : Object Plan) (how : Put) (key : ℕ) (words : List ℕ)
-    (before : Watching Planned) (result : Result (Option E) Full) (after : Watching Planned) : Type
-    0
+    (how : Put) (key : ℕ) (words : List ℕ) (before : Watching Planned)
+    (result : Result (Option E) Full) (after : Watching Planned) : Type 0
   where
-    pub of_map : IsWatcherOf map after
+    pub same : IsOfSameGraph before after
     pub old : IfOk result (λ old.
         Holds decode valid key_of (buckets_in before) (nodes_in before.view.client.known) key
         old)

@@ -3,7 +3,7 @@ use Rattle.std.specs.Prelude.{◌≡◌, ◌<◌, ℕ, suc, List, [], ◌∷◌,
 use Rattle.rcu_live.specs.Board.{Object}
 use Rattle.rcu_live.specs.Watcher.{Watching}
 use Rattle.rcu_graph.specs.Absence.{key_at, next_of}
-use Rattle.rcu_graph.specs.Graph.{IsWatcherOf, word_to}
+use Rattle.rcu_graph.specs.Graph.{word_to}
 use Rattle.rcu_graph.specs.Keeper.{IsKeeperOf, after_store}
 use Rattle.rcu_graph.specs.Nodes.{IsTarget, node_at, nodes_in, renewed, state_at}
 use Rattle.rcu_graph.specs.Opening.{AreWhole}
@@ -50,9 +50,8 @@ pub record CanKeep (fits : List ℕ → Type 0) (first : ℕ → List ℕ) (grap
 -- the keeper may put a node of these words behind this one, which may lead to it, as it may to the
 -- next one
 pub record CanPut (fits : List ℕ → Type 0) (joins : ℕ → List ℕ → List ℕ → Type 0)
-    (graph : Object Plan) (keeper : Watching Planned) (previous : ℕ) (words : List ℕ)
+    (keeper : Watching Planned) (previous : ℕ) (words : List ℕ)
     (next : Option ℕ) : Type 0 where
-  pub watches : IsWatcherOf graph keeper
   pub one : keeper.view.client.plan.links ≡ 1
   pub few : length (nodes_in keeper.view.client.known) ≡ keeper.view.client.plan.nodes
   pub sized : length words ≡ keeper.view.client.plan.words
@@ -80,12 +79,11 @@ pub data IsOneStore (before stored : List Node) : Type 0 where
 -- a node that was free was put behind the previous one by one store, and what no live node leads to
 -- any more was left
 pub record HasPut (fits : List ℕ → Type 0) (joins : ℕ → List ℕ → List ℕ → Type 0)
-    (graph : Object Plan) (before now : Watching Planned) (previous : ℕ) (words : List ℕ)
+    (before now : Watching Planned) (previous : ℕ) (words : List ℕ)
     (next : Option ℕ) : Type 0 where
   pub node : ℕ
   pub inside : node < before.view.client.plan.nodes
   pub free : state_at (nodes_in before.view.client.known) node ≡ Free
-  pub watches : IsWatcherOf graph now
   pub state : now ≡ after_store before
       (put (nodes_in before.view.client.known) previous node words next)
       (nodes_in now.view.client.known)
@@ -102,9 +100,8 @@ pub record IsFull (before now : Watching Planned) : Type 0 where
   pub unchanged : now ≡ before
 
 -- the keeper may lead the one node to where the other one leads
-pub record CanPass (joins : ℕ → List ℕ → List ℕ → Type 0) (graph : Object Plan)
-    (keeper : Watching Planned) (previous old : ℕ) : Type 0 where
-  pub watches : IsWatcherOf graph keeper
+pub record CanPass (joins : ℕ → List ℕ → List ℕ → Type 0) (keeper : Watching Planned)
+    (previous old : ℕ) : Type 0 where
   pub one : keeper.view.client.plan.links ≡ 1
   pub few : length (nodes_in keeper.view.client.known) ≡ keeper.view.client.plan.nodes
   pub live : state_at (nodes_in keeper.view.client.known) previous ≡ Live
@@ -115,10 +112,9 @@ pub record CanPass (joins : ℕ → List ℕ → List ℕ → Type 0) (graph : O
 -- the previous node was led to where the old one leads, by one store, and what no live node leads
 -- to any more was left
 pub record HasPassed (fits : List ℕ → Type 0) (joins : ℕ → List ℕ → List ℕ → Type 0)
-    (graph : Object Plan) (before now : Watching Planned) (previous old : ℕ) : Type 0 where
+    (before now : Watching Planned) (previous old : ℕ) : Type 0 where
   pub next : Option ℕ
   pub leads : word_to next ≡ next_of (nodes_in before.view.client.known) old
-  pub watches : IsWatcherOf graph now
   pub state : now ≡ after_store before
       (relinked (nodes_in before.view.client.known) previous 0 next)
       (nodes_in now.view.client.known)

@@ -11,8 +11,8 @@ use crate::shape::MapSeat;
 /// An iterator over the entries of a map, bucket by bucket, by an open section. It borrows the
 /// processor's seat, so that the section can neither close nor read otherwise meanwhile.
 #[derive(Drop)]
-pub struct Entries<'a, const LEAF: u32, const FAN: u32, T: Drop, E: Entry<W>, const W: usize> {
-    pub(crate) map: &'a Map<LEAF, FAN, T, E, W>,
+pub struct Entries<'a, E: Entry<W>, const W: usize> {
+    pub(crate) map: &'a Map<E, W>,
     pub(crate) seat: &'a mut MapSeat<E, W>,
     pub(crate) at: Cursor,
     ghost may: { MayGoOn map.now seat.now at } by { Prim.hlevel (props, reader_once) },

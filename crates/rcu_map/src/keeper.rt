@@ -1,7 +1,7 @@
 //! The keeper of a map: it reads the entries without a section, and looks which nodes are free.
 ghost use Rattle.std.specs.Prelude.{◌≡◌, ◌≤◌, ◌<◌, ◌^◌, ◌↔◌, IfOk, IfSome, IsSome, IsTrue};
 ghost use Rattle.std.specs.Prelude.{MatchOption};
-ghost use Rattle.rcu_graph.specs.Graph.{IsWatcherOf};
+ghost use Rattle.rcu_graph.specs.Graph.{IsOfSameGraph};
 ghost use Rattle.rcu_graph.specs.Keeper.{IsKeeperOf, after_look};
 ghost use Rattle.rcu_graph.specs.Nodes.{node_at, nodes_in};
 ghost use Rattle.rcu_graph.specs.Steps.{IsClaimed};
@@ -53,11 +53,7 @@ pub(crate) struct Place {
 impl<E: Entry<W>, const W: usize> MapKeeper<E, W> {
     /// The keeper of a map that has no entry yet: the nodes of its graph are as at first. It takes
     /// all the memory that it will ever have.
-    pub fn new<const LEAF: u32, const FAN: u32, T: Drop>(
-        alloc: Global,
-        map: &Map<LEAF, FAN, T, E, W>,
-        seat: MapWatcher<E, W>,
-    ) -> Result<Self, AllocError>
+    pub fn new(alloc: Global, map: &Map<E, W>, seat: MapWatcher<E, W>) -> Result<Self, AllocError>
         requires keeper { IsKeeperOf map.now seat }
         requires nodes { IsClaimed (root_words map.now.plan.words) map.now.plan.roots
             map.now.plan.links map.now.plan.words map.now.plan.nodes seat.view.client.known }
@@ -69,15 +65,13 @@ impl<E: Entry<W>, const W: usize> MapKeeper<E, W> {
         Ok(MapKeeper { nodes, len: 0 })
     }
 
-    /// What a keeper of this map keeps: nothing is done. A caller learns the clauses by the call.
-    pub fn tends<const LEAF: u32, const FAN: u32, T: Drop>(&self, map: &Map<LEAF, FAN, T, E, W>)
-        requires graph { IsWatcherOf map.now self.now }
-        ensures keeper { IsKeeperOf map.now self.now }
-        ensures map { IsMap E.holds self.now.view.client.plan.roots self.now.view.client.plan.seed
+    /// What a keeper keeps: nothing is done. A caller learns the clause by the call.
+    pub fn tends(&self)
+        ensures { IsMap E.holds self.now.view.client.plan.roots self.now.view.client.plan.seed
             self.now.view.client.plan.words self.now.view.client.plan.nodes
             (nodes_in self.now.view.client.known) }
     {
-        self.nodes.tends(map.graph());
+        self.nodes.tends();
     }
 
     /// How many entries there are.
@@ -180,21 +174,16 @@ impl<E: Entry<W>, const W: usize> MapKeeper<E, W> {
     /// Looks at the number, by one load, and returns it: what was left is retired at it, and what
     /// was retired a full grace period ago is free. No entry changes. It costs what
     /// it retires and frees.
-    pub fn age<const LEAF: u32, const FAN: u32, T: Drop>(
-        &mut self,
-        map: &Map<LEAF, FAN, T, E, W>,
-    ) -> u64
-        requires { IsWatcherOf map.now self.old }
-        ensures graph { IsWatcherOf map.now self.new }
+    pub fn age(&mut self) -> u64
+        ensures same { IsOfSameGraph self.old self.new }
         ensures state { self.new ≡ after_look self.old result }
         ensures later { self.old.view.seen ≤ result }
         ensures bounded { result ≤ 2 ^ 62 }
         ensures entries { AreSameEntries (buckets_in self.old) (nodes_in self.old.view.client.known)
             (nodes_in self.new.view.client.known) }
     {
-        let graph = map.graph();
-        let number = self.nodes.age(graph);
-        self.nodes.tends(graph);
+        let number = self.nodes.age();
+        self.nodes.tends();
         number
     }
 }

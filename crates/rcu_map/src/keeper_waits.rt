@@ -12,9 +12,9 @@ ghost use Rattle.rcu_map.specs.declared.put.NotPut.{NotPut};
 
 use crate::entry::Entry;
 use crate::keeper::MapKeeper;
-use crate::map::Map;
 use crate::put::{NotPut, Put};
-use crate::shape::MapSeat;
+use crate::shape::{MapRule, MapSeat};
+use rcu_live::Live;
 use rcu_seq::{Cookie, Fault, Tag};
 use std::sync::Wait;
 
@@ -42,11 +42,11 @@ impl<E: Entry<W>, const W: usize> MapKeeper<E, W> {
     fn wait_until_free<const LEAF: u32, const FAN: u32, T: Drop>(
         &mut self,
         rt: &impl Wait,
-        map: &Map<LEAF, FAN, T, E, W>,
+        live: &Live<LEAF, FAN, T, MapRule<E, W>>,
         seat: &mut MapSeat<E, W>,
     ) -> Result<(), Fault>
-        requires { CanWait map.now seat.old self.old }
-        ensures of_map { AreOf map.now self.new seat.new }
+        requires { CanWait live.now seat.old self.old }
+        ensures of_map { AreOf live.now self.new seat.new }
         ensures rested { HasRested seat.old seat.new }
         ensures waited { OnOk result (HasMadeRoom (buckets_in self.old) seat.old seat.new self.old
             self.new) }
@@ -54,7 +54,7 @@ impl<E: Entry<W>, const W: usize> MapKeeper<E, W> {
         ensures given_up { OnErr result
             (HasGivenUp (buckets_in self.old) seat.old seat.new self.old self.new) }
     {
-        let cookie = Cookie::of(Tag::of_first_epoch(self.age(map)));
+        let cookie = Cookie::of(Tag::of_first_epoch(self.age()));
         let mut waited = Ok(());
         let mut rounds = 0;
         for _ in rt.forever() {
@@ -62,9 +62,9 @@ impl<E: Entry<W>, const W: usize> MapKeeper<E, W> {
                 return Ok(());
             }
             waited?;
-            waited = map.live().wait_once(rt, seat, cookie);
-            rounds = map.live().sleep_between(rt, seat, cookie, rounds);
-            self.age(map);
+            waited = live.wait_once(rt, seat, cookie);
+            rounds = live.sleep_between(rt, seat, cookie, rounds);
+            self.age();
         }
         unreachable!()
     }
@@ -73,18 +73,18 @@ impl<E: Entry<W>, const W: usize> MapKeeper<E, W> {
     fn wait_for_node<const LEAF: u32, const FAN: u32, T: Drop>(
         &mut self,
         rt: &impl Wait,
-        map: &Map<LEAF, FAN, T, E, W>,
+        live: &Live<LEAF, FAN, T, MapRule<E, W>>,
         seat: &mut MapSeat<E, W>,
     ) -> Result<(), NotPut>
-        requires { CanWait map.now seat.old self.old }
-        ensures of_map { AreOf map.now self.new seat.new }
+        requires { CanWait live.now seat.old self.old }
+        ensures of_map { AreOf live.now self.new seat.new }
         ensures rested { HasRested seat.old seat.new }
         ensures end { WaitedFor (buckets_in self.old) seat.old seat.new self.old result self.new }
     {
         if self.is_all_live() {
             return Err(NotPut::Full);
         }
-        self.wait_until_free(rt, map, seat)?;
+        self.wait_until_free(rt, live, seat)?;
         Ok(())
     }
 
@@ -103,14 +103,14 @@ impl<E: Entry<W>, const W: usize> MapKeeper<E, W> {
     pub fn put_or_wait<const LEAF: u32, const FAN: u32, T: Drop>(
         &mut self,
         rt: &impl Wait,
-        map: &Map<LEAF, FAN, T, E, W>,
+        live: &Live<LEAF, FAN, T, MapRule<E, W>>,
         seat: &mut MapSeat<E, W>,
         how: Put,
         entry: E,
     ) -> Result<Option<E>, NotPut>
-        requires of_map { AreOf map.now self.old seat.old }
+        requires of_map { AreOf live.now self.old seat.old }
         requires sound { E.valid entry }
-        ensures of_map { AreOf map.now self.new seat.new }
+        ensures of_map { AreOf live.now self.new seat.new }
         ensures rested { HasRested seat.old seat.new }
         ensures old { IfOk result (λ old. Holds E.decode E.valid E.key_of (buckets_in self.old)
             (nodes_in self.old.view.client.known) (E.key_of entry) old) }
@@ -131,11 +131,11 @@ impl<E: Entry<W>, const W: usize> MapKeeper<E, W> {
             HasStayed seat.old seat.new self.old self.new) }
     {
         check_outside(seat)?;
-        if let Ok(old) = self.put(map, how, entry) {
+        if let Ok(old) = self.put(how, entry) {
             return Ok(old);
         }
-        self.wait_for_node(rt, map, seat)?;
-        let Ok(old) = self.put(map, how, entry) else {
+        self.wait_for_node(rt, live, seat)?;
+        let Ok(old) = self.put(how, entry) else {
             unreachable!()
         };
         Ok(old)

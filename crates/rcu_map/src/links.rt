@@ -7,9 +7,9 @@ use rcu_graph::{Full, Graph, GraphWatcher, Keeper, Shape};
 use std::alloc::{AllocError, Global};
 
 /// The keeper of a graph whose nodes are as at first.
-pub(crate) fn keep<const LEAF: u32, const FAN: u32, T: Drop, F: Shape>(
+pub(crate) fn keep<F: Shape>(
     alloc: Global,
-    graph: &Graph<LEAF, FAN, T, F>,
+    graph: &Graph<F>,
     seat: GraphWatcher<F>,
 ) -> Result<Keeper<F>, AllocError>
     requires { CanKeep (F.fits graph.now.plan) (F.first graph.now.plan) graph.now seat }
@@ -17,46 +17,40 @@ pub(crate) fn keep<const LEAF: u32, const FAN: u32, T: Drop, F: Shape>(
         HasKept (F.fits graph.now.plan) (F.joins graph.now.plan) graph.now seat keeper) }
 {
     let keeper = Keeper::new(alloc, graph, seat)?;
-    keeper.tends(graph);
+    keeper.tends();
     Ok(keeper)
 }
 
 /// Writes these words to a free node, which leads to the next one, and leads the previous one to it
 /// by one store. What no live node leads to any more is left.
-pub(crate) fn put<const LEAF: u32, const FAN: u32, T: Drop, F: Shape>(
+pub(crate) fn put<F: Shape>(
     keeper: &mut Keeper<F>,
-    graph: &Graph<LEAF, FAN, T, F>,
     previous: usize,
     words: &[u64],
     next: Option<usize>,
 ) -> Result<(), Full>
     requires { CanPut (F.fits keeper.old.view.client.plan) (F.joins keeper.old.view.client.plan)
-        graph.now keeper.old previous words.now next }
+        keeper.old previous words.now next }
     ensures { MatchResult result
         (λ _. HasPut (F.fits keeper.old.view.client.plan) (F.joins keeper.old.view.client.plan)
-        graph.now keeper.old keeper.new previous words.now next)
+        keeper.old keeper.new previous words.now next)
         (λ _. IsFull keeper.old keeper.new) }
 {
     let node = keeper.free_node()?;
-    keeper.fill(graph, node, words, &[next]);
-    keeper.publish(graph, previous, 0, node);
-    keeper.tends(graph);
+    keeper.fill(node, words, &[next]);
+    keeper.publish(previous, 0, node);
+    keeper.tends();
     Ok(())
 }
 
 /// Leads the previous node to where the old one leads, by one store. What no live node leads to any
 /// more is left.
-pub(crate) fn pass<const LEAF: u32, const FAN: u32, T: Drop, F: Shape>(
-    keeper: &mut Keeper<F>,
-    graph: &Graph<LEAF, FAN, T, F>,
-    previous: usize,
-    old: usize,
-)
-    requires { CanPass (F.joins keeper.old.view.client.plan) graph.now keeper.old previous old }
+pub(crate) fn pass<F: Shape>(keeper: &mut Keeper<F>, previous: usize, old: usize)
+    requires { CanPass (F.joins keeper.old.view.client.plan) keeper.old previous old }
     ensures { HasPassed (F.fits keeper.old.view.client.plan) (F.joins keeper.old.view.client.plan)
-        graph.now keeper.old keeper.new previous old }
+        keeper.old keeper.new previous old }
 {
     let next = keeper.link_of(old, 0);
-    keeper.link(graph, previous, 0, next);
-    keeper.tends(graph);
+    keeper.link(previous, 0, next);
+    keeper.tends();
 }

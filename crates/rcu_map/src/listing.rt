@@ -13,13 +13,7 @@ use crate::entry::{Entry, words_are_two};
 use crate::map::Map;
 use crate::shape::MapSeat;
 
-impl<const LEAF: u32, const FAN: u32, T: Drop, E: Entry<W>, const W: usize> Map<
-    LEAF,
-    FAN,
-    T,
-    E,
-    W,
-> {
+impl<E: Entry<W>, const W: usize> Map<E, W> {
     /// Goes on from a cursor by one hop, and returns where that led: to a node, or to the root of
     /// the next bucket, where it led nowhere.
     fn step(&self, seat: &mut MapSeat<E, W>, at: Cursor) -> Cursor
@@ -70,7 +64,7 @@ impl<const LEAF: u32, const FAN: u32, T: Drop, E: Entry<W>, const W: usize> Map<
     }
 
     /// Lends the seat to an iterator over all entries, in an open section. Nothing is loaded yet.
-    pub fn entries<'a>(&'a self, seat: &'a mut MapSeat<E, W>) -> Entries<'a, LEAF, FAN, T, E, W>
+    pub fn entries<'a>(&'a self, seat: &'a mut MapSeat<E, W>) -> Entries<'a, E, W>
         requires { IsWalking self.now seat.old }
         ensures map { (listing result).map ≡ self.now }
         ensures seat { (listing result).seat ≡ seat.old }
@@ -86,8 +80,7 @@ impl<const LEAF: u32, const FAN: u32, T: Drop, E: Entry<W>, const W: usize> Map<
     }
 }
 
-impl<'a, const LEAF: u32, const FAN: u32, T: Drop, E: Entry<W>, const W: usize> Iterator
-    for Entries<'a, LEAF, FAN, T, E, W> {
+impl<'a, E: Entry<W>, const W: usize> Iterator for Entries<'a, E, W> {
     ghost use Rattle.std.specs.Iterator.{at_most};
 
     type Item = E;

@@ -10,20 +10,17 @@ ghost use Rattle.rcu_map.specs.Keys.{IsWhole, bucket_of, key_in, root_words};
 use crate::bucket::bucket_of;
 use crate::entry::Entry;
 use crate::shape::{MapSeat, MapShape};
-use rcu_graph::rule::GraphRule;
 use rcu_graph::{Graph, Plan};
-use rcu_live::Live;
 use std::marker::Model;
 
-/// Entries beside a running engine: a chain a bucket, whose keys go up. With one bucket it is a
-/// sorted list.
+/// Entries among the shared words of a running engine: a chain a bucket, whose keys go up. With one
+/// bucket it is a sorted list.
 #[derive(Drop)]
-pub struct Map<const LEAF: u32, const FAN: u32, T: Drop, E: Entry<W>, const W: usize> {
-    pub(crate) graph: Graph<LEAF, FAN, T, MapShape<E, W>>,
+pub struct Map<E: Entry<W>, const W: usize> {
+    pub(crate) graph: Graph<MapShape<E, W>>,
 }
 
-impl<const LEAF: u32, const FAN: u32, T: Drop, E: Entry<W>, const W: usize> Model
-    for Map<LEAF, FAN, T, E, W> {
+impl<E: Entry<W>, const W: usize> Model for Map<E, W> {
     ghost use Rattle.std.specs.Prelude.{◌≡◌, ◌<◌};
     ghost use Rattle.rcu_live.specs.Board.{Object};
     ghost use Rattle.rcu_graph.specs.declared.plan.Plan.{Plan};
@@ -39,28 +36,15 @@ impl<const LEAF: u32, const FAN: u32, T: Drop, E: Entry<W>, const W: usize> Mode
     } };
 }
 
-impl<const LEAF: u32, const FAN: u32, T: Drop, E: Entry<W>, const W: usize> Map<
-    LEAF,
-    FAN,
-    T,
-    E,
-    W,
-> {
+impl<E: Entry<W>, const W: usize> Map<E, W> {
     /// A map over a graph of one link a node, whose roots are those of the buckets.
-    pub fn over(graph: Graph<LEAF, FAN, T, MapShape<E, W>>) -> Map<LEAF, FAN, T, E, W>
+    pub fn over(graph: Graph<MapShape<E, W>>) -> Map<E, W>
         requires some { 0 < graph.plan.roots }
         requires one { graph.plan.links ≡ 1 }
         requires words { graph.plan.words ≡ W }
         ensures { result ≡ graph }
     {
         Map { graph }
-    }
-
-    /// The running engine.
-    pub fn live(&self) -> &Live<LEAF, FAN, T, GraphRule<MapShape<E, W>>>
-        ensures { result.now ≡ self.now }
-    {
-        self.graph.live()
     }
 
     /// How large it is: it has as many buckets as roots.
@@ -77,7 +61,7 @@ impl<const LEAF: u32, const FAN: u32, T: Drop, E: Entry<W>, const W: usize> Map<
     }
 
     /// The nodes, for who keeps them.
-    pub fn graph(&self) -> &Graph<LEAF, FAN, T, MapShape<E, W>>
+    pub fn graph(&self) -> &Graph<MapShape<E, W>>
         ensures { result.now ≡ self.now }
     {
         &self.graph

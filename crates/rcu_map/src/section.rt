@@ -8,20 +8,22 @@ ghost use Rattle.rcu_map.specs.Sections.{after_section};
 
 use crate::entry::Entry;
 use crate::map::Map;
-use crate::shape::MapSeat;
+use crate::shape::{MapRule, MapSeat};
+use rcu_live::Shared;
 use rcu_seq::Fault;
 
-impl<const LEAF: u32, const FAN: u32, T: Drop, E: Entry<W>, const W: usize> Map<
-    LEAF,
-    FAN,
-    T,
-    E,
-    W,
-> {
-    /// Reads the entry of a key in a section of its own. It takes no lock and waits for nobody.
+impl<E: Entry<W>, const W: usize> Map<E, W> {
+    /// Reads the entry of a key in a section of its own, of the map's engine. It takes no lock and
+    /// waits for nobody.
     ///
     /// Faults: `Offline` (2) where the processor is offline; `CpuIdle` (23) where it is idle.
-    pub fn get_section(&self, seat: &mut MapSeat<E, W>, key: u64) -> Result<Option<E>, Fault>
+    pub fn get_section<L: Shared<MapRule<E, W>>>(
+        &self,
+        live: &L,
+        seat: &mut MapSeat<E, W>,
+        key: u64,
+    ) -> Result<Option<E>, Fault>
+        requires engine { L.object live.now ≡ self.now }
         requires seat { IsSeatOf self.now seat.old }
         requires outside { seat.old.depth ≡ 0 }
         requires reader { IsReader seat.old.view.client.known }
@@ -35,9 +37,9 @@ impl<const LEAF: u32, const FAN: u32, T: Drop, E: Entry<W>, const W: usize> Map<
         ensures sound { IfOk result (λ found. IfSome found (λ entry. E.valid entry)) }
         ensures unchanged { OnErr result (seat.new ≡ seat.old) }
     {
-        seat.enter(self.live())?;
+        seat.enter(live)?;
         let found = self.get(seat, key);
-        let Ok(_) = seat.exit(self.live()) else {
+        let Ok(_) = seat.exit(live) else {
             unreachable!()
         };
         Ok(found)

@@ -1,5 +1,6 @@
 //! The facts that the nodes of a map meet, and the seats of its engine.
 use crate::entry::Entry;
+use rcu_graph::rule::GraphRule;
 use rcu_graph::{GraphSeat, GraphWatcher, Plan, Shape};
 use std::marker::PhantomData;
 
@@ -25,6 +26,9 @@ impl<E: Entry<W>, const W: usize> Shape for MapShape<E, W> {
         0
     }
 }
+
+/// The rule of a map, as a client of its engine.
+pub type MapRule<E, const W: usize> = GraphRule<MapShape<E, W>>;
 
 /// A processor's seat of a map's engine.
 pub type MapSeat<E, const W: usize> = GraphSeat<MapShape<E, W>>;

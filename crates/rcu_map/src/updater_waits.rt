@@ -9,20 +9,14 @@ ghost use Rattle.rcu_map.specs.declared.put.NotPut.{NotPut};
 use crate::entry::Entry;
 use crate::keeper_waits::check_outside;
 use crate::put::{NotPut, Put};
-use crate::shape::MapSeat;
-use crate::updater::{MapAndKeeper, Updater};
+use crate::shape::{MapRule, MapSeat};
+use crate::updater::Updater;
 use rcu_graph::Full;
+use rcu_live::Live;
 use rcu_seq::{Cookie, Tag};
 use std::sync::Wait;
 
-impl<'a, const LEAF: u32, const FAN: u32, T: Drop, E: Entry<W>, const W: usize> Updater<
-    'a,
-    LEAF,
-    FAN,
-    T,
-    E,
-    W,
-> {
+impl<E: Entry<W>, const W: usize> Updater<E, W> {
     /// Looks at the number, and puts an entry in, if that needs no node or one is free. Where a
     /// later number may free one, `Err` is the number.
     fn look_and_put(
@@ -37,10 +31,9 @@ impl<'a, const LEAF: u32, const FAN: u32, T: Drop, E: Entry<W>, const W: usize> 
         ensures old { IfOk result (λ answer. IfOk answer (λ old.
             IsOfKey E.valid E.key_of (E.key_of entry) old)) }
     {
-        let mut held = self.lock(rt);
-        let MapAndKeeper { map, keeper } = &mut *held;
-        let number = keeper.age(map);
-        match keeper.put(map, how, entry) {
+        let mut keeper = self.lock(rt);
+        let number = keeper.age();
+        match keeper.put(how, entry) {
             Ok(old) => Ok(Ok(old)),
             Err(Full) if keeper.is_all_live() => Ok(Err(NotPut::Full)),
             Err(Full) => Err(number),
@@ -55,16 +48,17 @@ impl<'a, const LEAF: u32, const FAN: u32, T: Drop, E: Entry<W>, const W: usize> 
     ///
     /// Faults: `InSection` (4) where a section is open on the seat; `Exhausted` (11) where the last
     /// number is reached, so that no node becomes free any more.
-    pub fn put_or_wait(
+    pub fn put_or_wait<const LEAF: u32, const FAN: u32, T: Drop>(
         &self,
         rt: &impl Wait,
+        live: &Live<LEAF, FAN, T, MapRule<E, W>>,
         seat: &mut MapSeat<E, W>,
         how: Put,
         entry: E,
     ) -> Result<Option<E>, NotPut>
-        requires seat { IsSeatOf self.now seat.old }
+        requires seat { IsSeatOf live.now seat.old }
         requires sound { E.valid entry }
-        ensures seat { IsSeatOf self.now seat.new }
+        ensures seat { IsSeatOf live.now seat.new }
         ensures rested { HasRested seat.old seat.new }
         ensures unchanged { 0 < seat.old.depth → seat.new ≡ seat.old }
         ensures in_section { 0 < seat.old.depth →
@@ -82,8 +76,8 @@ impl<'a, const LEAF: u32, const FAN: u32, T: Drop, E: Entry<W>, const W: usize> 
                 Err(number) => {
                     waited?;
                     let cookie = Cookie::of(Tag::of_first_epoch(number));
-                    waited = self.map.live().wait_once(rt, seat, cookie);
-                    rounds = self.map.live().sleep_between(rt, seat, cookie, rounds);
+                    waited = live.wait_once(rt, seat, cookie);
+                    rounds = live.sleep_between(rt, seat, cookie, rounds);
                 }
             }
         }

@@ -1,6 +1,6 @@
 //! What a map's keeper does to its entries, by one store each.
 ghost use Rattle.std.specs.Prelude.{◌≡◌, IfNone, IsSome, MatchResult, None, Some, false, true};
-ghost use Rattle.rcu_graph.specs.Graph.{IsWatcherOf};
+ghost use Rattle.rcu_graph.specs.Graph.{IsOfSameGraph};
 ghost use Rattle.rcu_graph.specs.Nodes.{nodes_in};
 ghost use Rattle.rcu_map.specs.Chains.{buckets_in, seed_in};
 ghost use Rattle.rcu_map.specs.Entries.{IsRemoved};
@@ -12,82 +12,62 @@ ghost use Rattle.rcu_map.specs.declared.put.Put.{Put};
 use crate::entry::Entry;
 use crate::keeper::MapKeeper;
 use crate::links::{pass, put};
-use crate::map::Map;
 use crate::put::Put;
 use rcu_graph::Full;
 
 impl<E: Entry<W>, const W: usize> MapKeeper<E, W> {
     /// Puts an entry of these words behind the node where its key belongs, which no entry has.
-    fn put_behind<const LEAF: u32, const FAN: u32, T: Drop>(
-        &mut self,
-        map: &Map<LEAF, FAN, T, E, W>,
-        previous: usize,
-        words: &[u64; W],
-    ) -> Result<(), Full>
-        requires graph { IsWatcherOf map.now self.old }
+    fn put_behind(&mut self, previous: usize, words: &[u64; W]) -> Result<(), Full>
         requires whole { E.holds words.now }
         requires place { IsPlace (buckets_in self.old) (seed_in self.old) (key_in words.now)
             (nodes_in self.old.view.client.known)
             previous None }
-        ensures graph { IsWatcherOf map.now self.new }
+        ensures same { IsOfSameGraph self.old self.new }
         ensures put { MatchResult result
             (λ _. HasChanged (IsPutIn (buckets_in self.old) words.now false) self.old self.new)
             (λ _. IsFull self.old self.new) }
     {
         self.nodes.plan();
         let next = self.nodes.link_of(previous, 0);
-        put(&mut self.nodes, map.graph(), previous, words, next)?;
+        put(&mut self.nodes, previous, words, next)?;
         self.len += 1;
         Ok(())
     }
 
     /// Puts an entry of these words in the place of the old one that has its key, behind this node.
-    fn put_over<const LEAF: u32, const FAN: u32, T: Drop>(
-        &mut self,
-        map: &Map<LEAF, FAN, T, E, W>,
-        previous: usize,
-        old: usize,
-        words: &[u64; W],
-    ) -> Result<(), Full>
-        requires graph { IsWatcherOf map.now self.old }
+    fn put_over(&mut self, previous: usize, old: usize, words: &[u64; W]) -> Result<(), Full>
         requires whole { E.holds words.now }
         requires place { IsPlace (buckets_in self.old) (seed_in self.old) (key_in words.now)
             (nodes_in self.old.view.client.known)
             previous (Some old) }
-        ensures graph { IsWatcherOf map.now self.new }
+        ensures same { IsOfSameGraph self.old self.new }
         ensures put { MatchResult result
             (λ _. HasChanged (IsPutIn (buckets_in self.old) words.now true) self.old self.new)
             (λ _. IsFull self.old self.new) }
     {
         let next = self.nodes.link_of(old, 0);
-        put(&mut self.nodes, map.graph(), previous, words, next)
+        put(&mut self.nodes, previous, words, next)
     }
 
     /// Puts an entry in so, by one store, and returns the one that had its key. `Full` tells that
     /// the entry needs a node, and that none is free. Costs a step for each node of its bucket up
     /// to there.
-    pub(crate) fn put<const LEAF: u32, const FAN: u32, T: Drop>(
-        &mut self,
-        map: &Map<LEAF, FAN, T, E, W>,
-        how: Put,
-        entry: E,
-    ) -> Result<Option<E>, Full>
-        requires graph { IsWatcherOf map.now self.old }
+    pub(crate) fn put(&mut self, how: Put, entry: E) -> Result<Option<E>, Full>
         requires sound { E.valid entry }
-        ensures { HasAnswered E.decode E.valid E.key_of map.now how (E.key_of entry)
+        ensures { HasAnswered E.decode E.valid E.key_of how (E.key_of entry)
             (E.in_words entry) self.old result self.new }
     {
         let words = entry.to_words();
         let place = self.place_of(entry.key());
         let Some(node) = place.node else {
             if how.puts(false) {
-                self.put_behind(map, place.previous, &words)?;
+                self.put_behind(place.previous, &words)?;
             }
             return Ok(None);
         };
         let old = E::of_words(&self.words_of(node));
         if how.puts(true) {
-            self.put_over(map, place.previous, node, &words)?;
+            self.put_over(place.previous, node, &words)?;
         }
         Ok(Some(old))
     }
@@ -95,59 +75,39 @@ impl<E: Entry<W>, const W: usize> MapKeeper<E, W> {
     /// Puts an entry in, by one store, where none has its key. Returns the one that has it: then
     /// nothing changed. `Full` tells that none has it, and that no node is free. Costs a step for
     /// each node of its bucket up to there.
-    pub fn insert<const LEAF: u32, const FAN: u32, T: Drop>(
-        &mut self,
-        map: &Map<LEAF, FAN, T, E, W>,
-        entry: E,
-    ) -> Result<Option<E>, Full>
-        requires graph { IsWatcherOf map.now self.old }
+    pub fn insert(&mut self, entry: E) -> Result<Option<E>, Full>
         requires sound { E.valid entry }
-        ensures { HasAnswered E.decode E.valid E.key_of map.now Put.Insert
+        ensures { HasAnswered E.decode E.valid E.key_of Put.Insert
             (E.key_of entry) (E.in_words entry) self.old result self.new }
     {
-        self.put(map, Put::Insert, entry)
+        self.put(Put::Insert, entry)
     }
 
     /// Puts an entry in the place of the one that has its key, by one store, and returns that: a
     /// section finds the old one or the new one. Where none has its key, nothing changes. `Full`
     /// tells that one has it, and that no node is free. Costs as [`insert`](Self::insert).
-    pub fn replace<const LEAF: u32, const FAN: u32, T: Drop>(
-        &mut self,
-        map: &Map<LEAF, FAN, T, E, W>,
-        entry: E,
-    ) -> Result<Option<E>, Full>
-        requires graph { IsWatcherOf map.now self.old }
+    pub fn replace(&mut self, entry: E) -> Result<Option<E>, Full>
         requires sound { E.valid entry }
-        ensures { HasAnswered E.decode E.valid E.key_of map.now Put.Replace
+        ensures { HasAnswered E.decode E.valid E.key_of Put.Replace
             (E.key_of entry) (E.in_words entry) self.old result self.new }
     {
-        self.put(map, Put::Replace, entry)
+        self.put(Put::Replace, entry)
     }
 
     /// Puts an entry in, by one store, in the place of the one that has its key, and returns that
     /// (as std's `insert` of a hash map). `Full` tells that no node is free. Costs as
     /// [`insert`](Self::insert).
-    pub fn upsert<const LEAF: u32, const FAN: u32, T: Drop>(
-        &mut self,
-        map: &Map<LEAF, FAN, T, E, W>,
-        entry: E,
-    ) -> Result<Option<E>, Full>
-        requires graph { IsWatcherOf map.now self.old }
+    pub fn upsert(&mut self, entry: E) -> Result<Option<E>, Full>
         requires sound { E.valid entry }
-        ensures { HasAnswered E.decode E.valid E.key_of map.now Put.Upsert
+        ensures { HasAnswered E.decode E.valid E.key_of Put.Upsert
             (E.key_of entry) (E.in_words entry) self.old result self.new }
     {
-        self.put(map, Put::Upsert, entry)
+        self.put(Put::Upsert, entry)
     }
 
     /// Takes the entry of this key out, by one store, and returns it, if there is one.
-    pub fn remove<const LEAF: u32, const FAN: u32, T: Drop>(
-        &mut self,
-        map: &Map<LEAF, FAN, T, E, W>,
-        key: u64,
-    ) -> Option<E>
-        requires { IsWatcherOf map.now self.old }
-        ensures graph { IsWatcherOf map.now self.new }
+    pub fn remove(&mut self, key: u64) -> Option<E>
+        ensures same { IsOfSameGraph self.old self.new }
         ensures old { Holds E.decode E.valid E.key_of (buckets_in self.old)
             (nodes_in self.old.view.client.known)
             key result }
@@ -166,7 +126,7 @@ impl<E: Entry<W>, const W: usize> MapKeeper<E, W> {
             return None;
         };
         let entry = E::of_words(&self.words_of(old));
-        pass(&mut self.nodes, map.graph(), place.previous, old);
+        pass(&mut self.nodes, place.previous, old);
         self.len -= 1;
         Some(entry)
     }

@@ -15,12 +15,18 @@ ghost use Rattle.rcu_graph.specs.declared.known.Known.TheVariants.{Idle};
 
 use crate::map::route::Route;
 use rcu_graph::NotOpened;
-use rcu_map::{Map, MapSeat};
+use rcu_live::Live;
+use rcu_map::{Map, MapRule, MapSeat};
 use rcu_seq::Fault;
 use std::alloc::Global;
 use std::process::Abort;
 
-type Routes = Map<4, 4, u64, Route, 2>;
+/// Routes of two words each.
+pub(crate) type Routes = Map<Route, 2>;
+
+pub(crate) type Engine = Live<4, 4, u64, MapRule<Route, 2>>;
+
+pub(crate) type Seat = MapSeat<Route, 2>;
 
 /// The bucket of a network, of so many, in a map of the seed 0: 2^64 over the golden ratio, times
 /// the network, without what runs over, as a share of 2^64.
@@ -30,39 +36,39 @@ pub(crate) fn bucket_of(network: u64, buckets: u64) -> u64 {
 }
 
 /// Looks a route up, and goes over all of them: there is none.
-fn finds_none<R: Abort>(rt: &R, map: &Routes, seat: &mut MapSeat<Route, 2>)
+fn finds_none<R: Abort>(rt: &R, live: &Engine, map: &Routes, seat: &mut Seat)
+    requires engine { live.now ≡ map.now }
     requires seat { IsSeatOf map.now seat.old }
     requires outside { seat.old.depth ≡ 0 }
     requires idle { seat.old.view.client ≡ of_plan map.now.plan Idle }
 {
-    assert_eq!(rt; map.get_section(seat, 5), Ok(None));
-    assert_eq!(rt; seat.enter(map.live()), Ok(1));
+    assert_eq!(rt; map.get_section(live, seat, 5), Ok(None));
+    assert_eq!(rt; seat.enter(live), Ok(1));
     let mut entries = map.entries(seat);
     assert_eq!(rt; entries.next(), None);
     assert_eq!(rt; entries.next(), None);
-    assert_eq!(rt; seat.exit(map.live()), Ok(0));
+    assert_eq!(rt; seat.exit(live), Ok(0));
 }
 
 #[test]
 fn map_opens_with_no_entry(rt: HostRuntime) {
-    let Ok((map, mut seats, watchers, _)) = Routes::open(rt.alloc(), 1, 8, 4, 16, 0) else {
+    let Ok(mut opened) = Routes::open(rt.alloc(), 1, 8, 4, 16, 0) else {
         return;
     };
-    assert_eq!(rt; (seats.len(), watchers.len()), (1, 1));
-    let mut seat = seats.pop().unwrap();
-    finds_none(&rt, &map, &mut seat);
+    assert_eq!(rt; (opened.seats.len(), opened.watchers.len()), (1, 1));
+    let mut seat = opened.seats.pop().unwrap();
+    finds_none(&rt, &opened.live, &opened.map, &mut seat);
 }
 
 /// Opens a map of so many processors, buckets and nodes. Returns for how many processors it deals
 /// seats, by a second call where the first is refused a growth.
 fn opens(alloc: Global, engine: (u32, u64), sizes: (usize, usize)) -> Result<usize, NotOpened> {
     let ((cpus, last), (buckets, nodes)) = (engine, sizes);
-    let mut opened = Map::<64, 64, u64, Route, 2>::open(alloc, cpus, last, buckets, nodes, 0);
+    let mut opened = Routes::open::<64, 64, u64>(alloc, cpus, last, buckets, nodes, 0);
     if matches!(opened, Err(NotOpened::Fault(Fault::NoMemory))) {
-        opened = Map::open(alloc, cpus, last, buckets, nodes, 0);
+        opened = Routes::open(alloc, cpus, last, buckets, nodes, 0);
     }
-    let (_, seats, _, _) = opened?;
-    Ok(seats.len())
+    Ok(opened?.seats.len())
 }
 
 /// Numbers of processors and last numbers, and what comes of opening a map of them.

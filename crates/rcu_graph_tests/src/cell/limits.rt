@@ -54,15 +54,14 @@ fn limits_are_replaced(rt: HostRuntime) {
     };
     let words = first.to_words();
     assert_eq!(rt; words, [10, 20]);
-    let opened = Cell::<4, 4, u64, Limits, 2, 2>::open(rt.alloc(), 1, 8, &words);
-    let Ok((cell, mut seats, _, mut keeper)) = opened else {
+    let opened = Cell::<Limits, 2, 2>::open::<4, 4, u64>(rt.alloc(), 1, 8, &words);
+    let Ok(mut opened) = opened else {
         return;
     };
-    let mut seat = seats.pop().unwrap();
-    assert_eq!(rt; cell.value_section(&mut seat), Ok(first));
-    assert_eq!(rt;
-        keeper.update_value(&cell, second),
-        Ok(Retired { slot: 0, by: 1 })
-    );
-    assert_eq!(rt; cell.value_section(&mut seat), Ok(second));
+    let (live, cell, keeper) = (&opened.live, &opened.cell, &mut opened.keeper);
+    let mut seat = opened.seats.pop().unwrap();
+    let retired = Retired { slot: 0, by: 1 };
+    assert_eq!(rt; cell.value_section(live, &mut seat), Ok(first));
+    assert_eq!(rt; keeper.update_value(second), Ok(retired));
+    assert_eq!(rt; cell.value_section(live, &mut seat), Ok(second));
 }

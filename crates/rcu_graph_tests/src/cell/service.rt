@@ -3,19 +3,21 @@
 ghost use Rattle.std.specs.Prelude.{◌≡◌, ◌≤◌, All};
 ghost use Rattle.std.specs.Thread.{IsSync};
 ghost use Rattle.rcu_live.specs.CpuSeat.{IsSeatOf};
-ghost use Rattle.rcu_live.specs.Watcher.{IsWatcherOf};
 
 use crate::cell::limits::Limits;
 use crate::cell::parts::{drive, next_online, next_seat};
-use rcu_cell::{Cell, CellSeat, Keeper, Value};
+use rcu_cell::{Cell, CellRule, CellSeat, Keeper, Value};
+use rcu_live::Live;
 use rcu_seq::Fault;
 use std::process::Abort;
 use std::sync::Wait;
 use std::thread;
 use std::thread::Threads;
 
-/// The limits, in one of four slots, beside an engine.
-type Shared = Cell<4, 4, u64, Limits, 2, 4>;
+/// The limits, in one of four slots.
+type Shared = Cell<Limits, 2, 4>;
+
+type Engine = Live<4, 4, u64, CellRule<Limits, 2, 4>>;
 
 /// How many requests a server answers.
 const REQUESTS: u32 = 100_000;
@@ -26,9 +28,11 @@ const CHANGES: u32 = 1_000;
 /// Who answers requests, with its processor's seat.
 #[derive(Drop)]
 struct Server<'a> {
+    live: &'a Engine,
     cell: &'a Shared,
     seat: CellSeat<Limits, 2, 4>,
-    ghost seat_of: { IsSeatOf cell.now seat },
+    ghost engine: { live.now ≡ cell.now },
+    ghost seat_of: { IsSeatOf live.now seat },
     ghost outside: { seat.depth ≡ 0 },
 }
 
@@ -36,8 +40,8 @@ impl<'a> Server<'a> {
     /// Whether so many requests at once are let in, by the limits that are shown. It waits for
     /// nobody, and nobody waits for it longer than up to its quiescent state.
     fn admits(&mut self, at_once: u32) -> Result<bool, Fault> {
-        let limits = self.cell.value_section(&mut self.seat)?;
-        self.seat.quiesce(self.cell.live())?;
+        let limits = self.cell.value_section(self.live, &mut self.seat)?;
+        self.seat.quiesce(self.live)?;
         Ok(at_once <= limits.burst)
     }
 
@@ -50,8 +54,8 @@ impl<'a> Server<'a> {
                 answered = answered.saturating_add(1);
             }
         }
-        let Server { cell, mut seat, .. } = self;
-        let _ = cell.live().offline(rt, &mut seat);
+        let Server { live, mut seat, .. } = self;
+        let _ = live.offline(rt, &mut seat);
         answered
     }
 }
@@ -59,11 +63,10 @@ impl<'a> Server<'a> {
 /// Who replaces the limits, and drives the engine, with the seat of processor 0.
 #[derive(Drop)]
 struct Control<'a> {
-    cell: &'a Shared,
+    live: &'a Engine,
     keeper: Keeper<Limits, 2, 4>,
     seat: CellSeat<Limits, 2, 4>,
-    ghost keeper_of: { IsWatcherOf cell.now keeper },
-    ghost seat_of: { IsSeatOf cell.now seat },
+    ghost seat_of: { IsSeatOf live.now seat },
 }
 
 impl<'a> Control<'a> {
@@ -72,10 +75,10 @@ impl<'a> Control<'a> {
         requires { limits.rate ≤ limits.burst }
     {
         for _ in rt.forever() {
-            if self.keeper.update_value(self.cell, limits).is_ok() {
+            if self.keeper.update_value(limits).is_ok() {
                 return;
             }
-            drive(rt, self.cell, &mut self.keeper, &mut self.seat, 2);
+            drive(rt, self.live, &mut self.keeper, &mut self.seat, 2);
         }
     }
 
@@ -92,18 +95,19 @@ impl<'a> Control<'a> {
 /// cell and its engine may go: what waits in a slot needs no grace period for it.
 fn run_service<R: Abort + Threads + Wait + Sync>(
     rt: &R,
+    live: &Engine,
     cell: &Shared,
     mut seats: Vec<CellSeat<Limits, 2, 4>>,
     keeper: Keeper<Limits, 2, 4>,
 ) -> u32
-    requires seats { All (IsSeatOf cell.now) seats.items }
+    requires engine { live.now ≡ cell.now }
+    requires seats { All (IsSeatOf live.now) seats.items }
     requires outside { All (λ seat. seat.depth ≡ 0) seats.items }
-    requires keeper { IsWatcherOf cell.now keeper }
 {
-    let seat = next_online(rt, cell, &mut seats);
-    let server = Server { cell, seat };
-    let seat = next_seat(rt, cell, &mut seats);
-    let control = Control { cell, keeper, seat };
+    let seat = next_online(rt, live, &mut seats);
+    let server = Server { live, cell, seat };
+    let seat = next_seat(rt, live, &mut seats);
+    let control = Control { live, keeper, seat };
     let ((), answered) = thread::join(rt, move || control.work(rt), move || server.serve(rt));
     answered
 }
@@ -111,9 +115,10 @@ fn run_service<R: Abort + Threads + Wait + Sync>(
 #[test]
 fn limits_are_replaced_while_requests_are_answered(rt: HostRuntime) {
     let first = Limits { rate: 1, burst: 1 };
-    let opened = Shared::open(rt.alloc(), 2, 4_000_000, &first.to_words());
-    let Ok((cell, seats, _, keeper)) = opened else {
+    let Ok(opened) = Shared::open(rt.alloc(), 2, 4_000_000, &first.to_words()) else {
         return;
     };
-    assert_eq!(rt; run_service(&rt, &cell, seats, keeper), REQUESTS);
+    let (seats, keeper) = (opened.seats, opened.keeper);
+    let answered = run_service(&rt, &opened.live, &opened.cell, seats, keeper);
+    assert_eq!(rt; answered, REQUESTS);
 }

@@ -7,12 +7,11 @@ use std::alloc::Global;
 /// Opens a cell of so many processors. Answers for how many it deals seats, by a second call where
 /// the first is refused a growth.
 fn opens(alloc: Global, cpus: u32, last: u64) -> Result<usize, Fault> {
-    let mut opened = Cell::<64, 64, u64, Any, 1, 1>::open(alloc, cpus, last, &[7]);
+    let mut opened = Cell::<Any, 1, 1>::open::<64, 64, u64>(alloc, cpus, last, &[7]);
     if matches!(opened, Err(Fault::NoMemory)) {
         opened = Cell::open(alloc, cpus, last, &[7]);
     }
-    let (_, seats, _, _) = opened?;
-    Ok(seats.len())
+    Ok(opened?.seats.len())
 }
 
 /// Numbers of processors and last numbers, and what comes of opening a cell of them.

@@ -3,10 +3,10 @@
 ghost use Rattle.std.specs.Prelude.{◌≡◌, All};
 ghost use Rattle.std.specs.Thread.{IsSync};
 ghost use Rattle.rcu_live.specs.CpuSeat.{IsSeatOf};
-ghost use Rattle.rcu_live.specs.Watcher.{IsWatcherOf};
 
 use crate::cell::parts::{drive, next_online, next_seat};
-use rcu_cell::{Cell, CellSeat, Invariant, Keeper};
+use rcu_cell::{Cell, CellRule, CellSeat, Invariant, Keeper};
+use rcu_live::Live;
 use std::process::Abort;
 use std::sync::Wait;
 use std::thread;
@@ -23,7 +23,9 @@ impl Invariant for Same {
         × (slice_index words 3 ≡ slice_index words 0) };
 }
 
-type Numbered = Cell<4, 4, u64, Same, 4, 64>;
+type Numbered = Cell<Same, 4, 64>;
+
+type Engine = Live<4, 4, u64, CellRule<Same, 4, 64>>;
 
 /// The last version that is published.
 const LAST: u64 = 25_000;
@@ -34,10 +36,12 @@ const READS: u32 = 4_000_000;
 /// A reader, with its processor's seat.
 #[derive(Drop)]
 struct Reader<'a> {
+    live: &'a Engine,
     cell: &'a Numbered,
     seat: CellSeat<Same, 4, 64>,
     newest: u64,
-    ghost seat_of: { IsSeatOf cell.now seat },
+    ghost engine: { live.now ≡ cell.now },
+    ghost seat_of: { IsSeatOf live.now seat },
     ghost outside: { seat.depth ≡ 0 },
 }
 
@@ -45,14 +49,14 @@ impl<'a> Reader<'a> {
     /// Reads a version, and passes a quiescent state. Answers whether the version is not torn, and
     /// none older than the one before.
     fn read(&mut self) -> bool {
-        let Ok(words) = self.cell.read_section(&mut self.seat) else {
+        let Ok(words) = self.cell.read_section(self.live, &mut self.seat) else {
             return false;
         };
         let number = words[0];
         let whole = words[1] == number && words[2] == number && words[3] == number;
         let before = self.newest;
         self.newest = number;
-        let quiet = self.seat.quiesce(self.cell.live());
+        let quiet = self.seat.quiesce(self.live);
         whole && before <= number && quiet.is_ok()
     }
 
@@ -66,8 +70,8 @@ impl<'a> Reader<'a> {
                 break;
             }
         }
-        let Reader { cell, mut seat, .. } = self;
-        let _ = cell.live().offline(rt, &mut seat);
+        let Reader { live, mut seat, .. } = self;
+        let _ = live.offline(rt, &mut seat);
         right
     }
 }
@@ -75,21 +79,20 @@ impl<'a> Reader<'a> {
 /// The updater, which drives the engine too, with the seat of processor 0.
 #[derive(Drop)]
 struct Updater<'a> {
-    cell: &'a Numbered,
+    live: &'a Engine,
     keeper: Keeper<Same, 4, 64>,
     seat: CellSeat<Same, 4, 64>,
-    ghost keeper_of: { IsWatcherOf cell.now keeper },
-    ghost seat_of: { IsSeatOf cell.now seat },
+    ghost seat_of: { IsSeatOf live.now seat },
 }
 
 impl<'a> Updater<'a> {
     /// Publishes a version, as soon as a slot is free.
     fn publish<R: Wait>(&mut self, rt: &R, version: u64) {
         for _ in rt.forever() {
-            if self.keeper.update(self.cell, &[version; 4]).is_ok() {
+            if self.keeper.update(&[version; 4]).is_ok() {
                 return;
             }
-            drive(rt, self.cell, &mut self.keeper, &mut self.seat, 4);
+            drive(rt, self.live, &mut self.keeper, &mut self.seat, 4);
         }
     }
 
@@ -123,16 +126,19 @@ fn run_beside<R: Threads + Wait + Sync>(
 /// A reader on the last processor that is left, which is online from now on.
 fn next_reader<'a, R: Abort + Wait>(
     rt: &R,
+    live: &'a Engine,
     cell: &'a Numbered,
     seats: &mut Vec<CellSeat<Same, 4, 64>>,
 ) -> Reader<'a>
-    requires seats { All (IsSeatOf cell.now) seats.old.items }
+    requires engine { live.now ≡ cell.now }
+    requires seats { All (IsSeatOf live.now) seats.old.items }
     requires outside { All (λ seat. seat.depth ≡ 0) seats.old.items }
-    ensures seats { All (IsSeatOf cell.now) seats.new.items }
+    ensures seats { All (IsSeatOf live.now) seats.new.items }
     ensures outside { All (λ seat. seat.depth ≡ 0) seats.new.items }
 {
-    let seat = next_online(rt, cell, seats);
+    let seat = next_online(rt, live, seats);
     Reader {
+        live,
         cell,
         seat,
         newest: 0,
@@ -142,27 +148,29 @@ fn next_reader<'a, R: Abort + Wait>(
 /// Runs three readers and an updater on the cell. Answers whether what each reader saw was right.
 fn run_on<R: Abort + Threads + Wait + Sync>(
     rt: &R,
+    live: &Engine,
     cell: &Numbered,
     mut seats: Vec<CellSeat<Same, 4, 64>>,
     keeper: Keeper<Same, 4, 64>,
 ) -> (bool, bool, bool)
-    requires seats { All (IsSeatOf cell.now) seats.items }
+    requires engine { live.now ≡ cell.now }
+    requires seats { All (IsSeatOf live.now) seats.items }
     requires outside { All (λ seat. seat.depth ≡ 0) seats.items }
-    requires keeper { IsWatcherOf cell.now keeper }
 {
-    let a = next_reader(rt, cell, &mut seats);
-    let b = next_reader(rt, cell, &mut seats);
-    let c = next_reader(rt, cell, &mut seats);
-    let seat = next_seat(rt, cell, &mut seats);
-    let updater = Updater { cell, keeper, seat };
+    let a = next_reader(rt, live, cell, &mut seats);
+    let b = next_reader(rt, live, cell, &mut seats);
+    let c = next_reader(rt, live, cell, &mut seats);
+    let seat = next_seat(rt, live, &mut seats);
+    let updater = Updater { live, keeper, seat };
     run_beside(rt, updater, a, b, c)
 }
 
 #[test]
 fn readers_beside_a_keeper(rt: HostRuntime) {
-    let opened = Numbered::open(rt.alloc(), 4, 4_000_000, &[0; 4]);
-    let Ok((cell, seats, _, keeper)) = opened else {
+    let Ok(opened) = Numbered::open(rt.alloc(), 4, 4_000_000, &[0; 4]) else {
         return;
     };
-    assert_eq!(rt; run_on(&rt, &cell, seats, keeper), (true, true, true));
+    let (seats, keeper) = (opened.seats, opened.keeper);
+    let right = run_on(&rt, &opened.live, &opened.cell, seats, keeper);
+    assert_eq!(rt; right, (true, true, true));
 }

@@ -3,8 +3,9 @@ ghost use Rattle.std.specs.Prelude.{◌≡◌, ◌≤◌};
 ghost use Rattle.rcu_cell.specs.Cell.{IsSeatOf, IsWatcherOf};
 
 use crate::cell::limits::Limits;
-use crate::cell::{Any, Pairs};
-use rcu_cell::{Cell, CellSeat, Keeper, Retired, Value};
+use crate::cell::{Any, Engine, Pairs};
+use rcu_cell::{Cell, CellRule, CellSeat, Keeper, Retired, Value};
+use rcu_live::Live;
 use rcu_seq::Fault;
 use std::process::Abort;
 use std::sync::Wait;
@@ -14,19 +15,19 @@ use std::thread::Threads;
 /// Has the keeper show these words, and compares what it answers.
 fn shows<R: Abort + Wait>(
     rt: &R,
-    cell: &Pairs,
+    live: &Engine,
     keeper: &mut Keeper<Any, 2, 2>,
     seat: &mut CellSeat<Any, 2, 2>,
     words: [u64; 2],
     wanted: Result<Retired, Fault>,
 )
-    requires keeper { IsWatcherOf cell.now keeper.old }
-    requires seat { IsSeatOf cell.now seat.old }
-    ensures keeper { IsWatcherOf cell.now keeper.new }
-    ensures seat { IsSeatOf cell.now seat.new }
+    requires keeper { IsWatcherOf live.now keeper.old }
+    requires seat { IsSeatOf live.now seat.old }
+    ensures keeper { IsWatcherOf live.now keeper.new }
+    ensures seat { IsSeatOf live.now seat.new }
     ensures depth { seat.new.depth ≡ seat.old.depth }
 {
-    let found = keeper.update_or_wait(rt, cell, seat, &words);
+    let found = keeper.update_or_wait(rt, live, seat, &words);
     assert_eq!(rt; (words, found), (words, wanted));
 }
 
@@ -34,19 +35,19 @@ fn shows<R: Abort + Wait>(
 /// the last number is reached.
 fn update_up_to_the_last_number<R: Abort + Wait>(
     rt: &R,
-    cell: &Pairs,
+    live: &Engine,
     keeper: &mut Keeper<Any, 2, 2>,
     seat: &mut CellSeat<Any, 2, 2>,
 )
-    requires keeper { IsWatcherOf cell.now keeper.old }
-    requires seat { IsSeatOf cell.now seat.old }
+    requires keeper { IsWatcherOf live.now keeper.old }
+    requires seat { IsSeatOf live.now seat.old }
 {
-    assert_eq!(rt; seat.enter(cell.live()), Ok(1));
-    shows(rt, cell, keeper, seat, [2, 2], Err(Fault::InSection));
-    assert_eq!(rt; seat.exit(cell.live()), Ok(0));
+    assert_eq!(rt; seat.enter(live), Ok(1));
+    shows(rt, live, keeper, seat, [2, 2], Err(Fault::InSection));
+    assert_eq!(rt; seat.exit(live), Ok(0));
     shows(
         rt,
-        cell,
+        live,
         keeper,
         seat,
         [2, 2],
@@ -54,27 +55,29 @@ fn update_up_to_the_last_number<R: Abort + Wait>(
     );
     shows(
         rt,
-        cell,
+        live,
         keeper,
         seat,
         [3, 3],
         Ok(Retired { slot: 1, by: 0 }),
     );
-    shows(rt, cell, keeper, seat, [4, 4], Err(Fault::Exhausted));
-    shows(rt, cell, keeper, seat, [4, 4], Err(Fault::Exhausted));
+    shows(rt, live, keeper, seat, [4, 4], Err(Fault::Exhausted));
+    shows(rt, live, keeper, seat, [4, 4], Err(Fault::Exhausted));
 }
 
 #[test]
 fn updates_wait_up_to_the_last_number(rt: HostRuntime) {
-    let Ok((cell, mut seats, _, mut keeper)) = Pairs::open(rt.alloc(), 1, 4, &[1, 1]) else {
+    let Ok(mut opened) = Pairs::open(rt.alloc(), 1, 4, &[1, 1]) else {
         return;
     };
-    let mut seat = seats.pop().unwrap();
-    update_up_to_the_last_number(&rt, &cell, &mut keeper, &mut seat);
+    let mut seat = opened.seats.pop().unwrap();
+    update_up_to_the_last_number(&rt, &opened.live, &mut opened.keeper, &mut seat);
 }
 
 /// The limits, in one of two slots: each change but the first waits for a grace period.
-type Shared = Cell<4, 4, u64, Limits, 2, 2>;
+type Shared = Cell<Limits, 2, 2>;
+
+type SharedEngine = Live<4, 4, u64, CellRule<Limits, 2, 2>>;
 
 /// How often the limits are replaced.
 const CHANGES: u32 = 200;
@@ -85,10 +88,12 @@ const READS: u32 = 2_000;
 /// A slow reader, with its processor's seat.
 #[derive(Drop)]
 struct Reader<'a> {
+    live: &'a SharedEngine,
     cell: &'a Shared,
     seat: CellSeat<Limits, 2, 2>,
     newest: u32,
-    ghost seat_of: { IsSeatOf cell.now seat },
+    ghost engine: { live.now ≡ cell.now },
+    ghost seat_of: { IsSeatOf live.now seat },
     ghost outside: { seat.depth ≡ 0 },
 }
 
@@ -96,13 +101,13 @@ impl<'a> Reader<'a> {
     /// Reads in a section, and lets other threads run. Returns whether the limits were none older
     /// than those before.
     fn read(&mut self) -> bool {
-        let Ok(limits) = self.cell.value_section(&mut self.seat) else {
+        let Ok(limits) = self.cell.value_section(self.live, &mut self.seat) else {
             return false;
         };
         thread::yield_now();
         let before = self.newest;
         self.newest = limits.rate;
-        let quiet = self.seat.quiesce(self.cell.live());
+        let quiet = self.seat.quiesce(self.live);
         before <= limits.rate && quiet.is_ok()
     }
 
@@ -114,8 +119,8 @@ impl<'a> Reader<'a> {
                 right = right.saturating_add(1);
             }
         }
-        let Reader { cell, mut seat, .. } = self;
-        let _ = cell.live().offline(rt, &mut seat);
+        let Reader { live, mut seat, .. } = self;
+        let _ = live.offline(rt, &mut seat);
         right
     }
 }
@@ -123,11 +128,11 @@ impl<'a> Reader<'a> {
 /// Who replaces the limits, with the seat of processor 0.
 #[derive(Drop)]
 struct Control<'a> {
-    cell: &'a Shared,
+    live: &'a SharedEngine,
     keeper: Keeper<Limits, 2, 2>,
     seat: CellSeat<Limits, 2, 2>,
-    ghost keeper_of: { IsWatcherOf cell.now keeper },
-    ghost seat_of: { IsSeatOf cell.now seat },
+    ghost keeper_of: { IsWatcherOf live.now keeper },
+    ghost seat_of: { IsSeatOf live.now seat },
 }
 
 impl<'a> Control<'a> {
@@ -135,7 +140,7 @@ impl<'a> Control<'a> {
         requires { limits.rate ≤ limits.burst }
     {
         self.keeper
-            .update_value_or_wait(rt, self.cell, &mut self.seat, limits)
+            .update_value_or_wait(rt, self.live, &mut self.seat, limits)
             .is_ok()
     }
 
@@ -164,22 +169,20 @@ fn run_beside<R: Threads + Wait + Sync>(
 #[test]
 fn limits_are_replaced_in_two_slots(rt: HostRuntime) {
     let first = Limits { rate: 0, burst: 1 };
-    let opened = Shared::open(rt.alloc(), 2, 4_000_000, &first.to_words());
-    let Ok((cell, mut seats, _, keeper)) = opened else {
+    let Ok(opened) = Shared::open(rt.alloc(), 2, 4_000_000, &first.to_words()) else {
         return;
     };
+    let (mut seats, keeper) = (opened.seats, opened.keeper);
+    let (live, cell) = (&opened.live, &opened.cell);
     let mut seat = seats.pop().unwrap();
-    assert_eq!(&rt; cell.live().online(&rt, &mut seat), Ok(()));
+    assert_eq!(&rt; live.online(&rt, &mut seat), Ok(()));
     let reader = Reader {
-        cell: &cell,
+        live,
+        cell,
         seat,
         newest: 0,
     };
     let seat = seats.pop().unwrap();
-    let control = Control {
-        cell: &cell,
-        keeper,
-        seat,
-    };
+    let control = Control { live, keeper, seat };
     assert_eq!(&rt; run_beside(&rt, control, reader), (CHANGES, READS));
 }

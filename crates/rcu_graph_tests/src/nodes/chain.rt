@@ -1,16 +1,14 @@
 //! A chain with its keeper: what a call asks for is tested first, by what the keeper knows.
 ghost use Rattle.std.specs.Prelude.{◌≡◌, ◌<◌, ℕ, IfOk, IfSome, IsTrue, replicate, slice_index};
-ghost use Rattle.rcu_graph.specs.Graph.{IsWatcherOf, word_to};
+ghost use Rattle.rcu_graph.specs.Graph.{word_to};
 ghost use Rattle.rcu_graph.specs.Keeper.{IsKeeperOf, IsReady};
 ghost use Rattle.rcu_graph.specs.Nodes.{IsTarget, node_at, nodes_in, state_at};
 ghost use Rattle.rcu_graph.specs.Planned.{plan_of};
 ghost use Rattle.rcu_graph.specs.Steps.{IsClaimed};
 
-use crate::nodes::Sorted;
-use rcu_graph::{Full, Graph, GraphSeat, GraphWatcher, Keeper, Plan};
+use crate::nodes::{Chain, Sorted};
+use rcu_graph::{Full, GraphWatcher, Keeper, Plan};
 use std::alloc::{AllocError, Global};
-
-pub(crate) type Chain = Graph<4, 4, u64, Sorted>;
 
 /// A root, and three nodes with a key and a value.
 pub(crate) const PLAN: Plan = Plan {
@@ -21,21 +19,17 @@ pub(crate) const PLAN: Plan = Plan {
     seed: 0,
 };
 
-pub(crate) type Seat = GraphSeat<Sorted>;
-
-/// The chain and who keeps it.
+/// Who keeps the chain.
 #[derive(Drop)]
-pub(crate) struct ChainAndKeeper<'a> {
-    pub(crate) chain: &'a Chain,
+pub(crate) struct ChainKeeper {
     pub(crate) keeper: Keeper<Sorted>,
-    ghost sized: { chain.now.plan ≡ plan_of 1 1 2 4 0 },
-    ghost keeper_of: { IsWatcherOf chain.now keeper },
+    ghost sized: { keeper.view.client.plan ≡ plan_of 1 1 2 4 0 },
 }
 
-impl<'a> ChainAndKeeper<'a> {
+impl ChainKeeper {
     pub(crate) fn new(
         alloc: Global,
-        chain: &'a Chain,
+        chain: &Chain,
         own: GraphWatcher<Sorted>,
     ) -> Result<Self, AllocError>
         requires sized { chain.now.plan ≡ plan_of 1 1 2 4 0 }
@@ -43,7 +37,7 @@ impl<'a> ChainAndKeeper<'a> {
         requires first { IsClaimed (λ _. replicate 2 0) 1 1 2 4 own.view.client.known }
     {
         let keeper = Keeper::new(alloc, chain, own)?;
-        Ok(ChainAndKeeper { chain, keeper })
+        Ok(ChainKeeper { keeper })
     }
 
     /// Whether a node's link may lead there: nowhere, or to a live node of a greater key.
@@ -53,7 +47,7 @@ impl<'a> ChainAndKeeper<'a> {
             (node_at (nodes_in self.now.keeper.view.client.known) from).words
             (nodes_in self.now.keeper.view.client.known) (word_to to) }
     {
-        self.keeper.tends(self.chain);
+        self.keeper.tends();
         let Some(node) = to else {
             return true;
         };
@@ -79,11 +73,10 @@ impl<'a> ChainAndKeeper<'a> {
     /// Fills a free node, which leads to another one or nowhere.
     pub(crate) fn fill_free(&mut self, words: &[u64; 2], to: Option<usize>) -> Result<usize, Full>
         requires { IfSome to (λ node. node < 4) }
-        ensures chain { self.new.chain ≡ self.old.chain }
-        ensures inside { IfOk result (λ node. node < 4) }
+        ensures { IfOk result (λ node. node < 4) }
     {
         let node = self.keeper.free_node()?;
-        self.keeper.fill(self.chain, node, words, &[to]);
+        self.keeper.fill(node, words, &[to]);
         Ok(node)
     }
 
@@ -91,7 +84,6 @@ impl<'a> ChainAndKeeper<'a> {
     pub(crate) fn publish(&mut self, from: usize, to: usize) -> bool
         requires from { from < 4 }
         requires to { to < 4 }
-        ensures { self.new.chain ≡ self.old.chain }
     {
         if !self.keeper.is_live(from) {
             return false;
@@ -102,18 +94,17 @@ impl<'a> ChainAndKeeper<'a> {
         if self.keeper.word(from, 0) >= self.keeper.word(to, 0) {
             return false;
         }
-        self.keeper.publish(self.chain, from, 0, to);
+        self.keeper.publish(from, 0, to);
         true
     }
 
     /// Leads the link of a live node elsewhere, where that may be. Returns whether it did.
     pub(crate) fn link(&mut self, from: usize, to: Option<usize>) -> bool
-        requires from { from < 4 }
-        ensures { self.new.chain ≡ self.old.chain }
+        requires { from < 4 }
     {
         let may = self.keeper.is_live(from) && self.may_lead(from, to);
         if may {
-            self.keeper.link(self.chain, from, 0, to);
+            self.keeper.link(from, 0, to);
         }
         may
     }
@@ -121,19 +112,16 @@ impl<'a> ChainAndKeeper<'a> {
     /// Leads the link of a live node nowhere. Returns whether it did.
     pub(crate) fn unlink(&mut self, from: usize) -> bool
         requires { from < 4 }
-        ensures { self.new.chain ≡ self.old.chain }
     {
         let may = self.keeper.is_live(from);
         if may {
-            self.keeper.unlink(self.chain, from, 0);
+            self.keeper.unlink(from, 0);
         }
         may
     }
 
     /// Looks at the number.
-    pub(crate) fn age(&mut self) -> u64
-        ensures { self.new.chain ≡ self.old.chain }
-    {
-        self.keeper.age(self.chain)
+    pub(crate) fn age(&mut self) -> u64 {
+        self.keeper.age()
     }
 }

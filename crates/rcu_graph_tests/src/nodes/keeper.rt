@@ -3,7 +3,8 @@
 ghost use Rattle.std.specs.Prelude.{◌≡◌, ◌<◌, All};
 ghost use Rattle.rcu_live.specs.CpuSeat.{IsSeatOf};
 
-use crate::nodes::chain::{Chain, ChainAndKeeper, PLAN, Seat};
+use crate::nodes::chain::{ChainKeeper, PLAN};
+use crate::nodes::{Chain, Engine, Seat};
 use rcu_graph::Full;
 use rcu_seq::Cookie;
 use rcu_state::Turned;
@@ -14,28 +15,25 @@ use std::sync::Wait;
 #[derive(Drop)]
 struct Periods<'a, R> {
     rt: &'a R,
-    chain: &'a Chain,
+    live: &'a Engine,
     seat: Seat,
-    ghost seat_of: { IsSeatOf chain.now seat },
+    ghost seat_of: { IsSeatOf live.now seat },
     ghost outside: { seat.depth ≡ 0 },
 }
 
 impl<'a, R: Abort + Wait> Periods<'a, R> {
     /// Those of the processor that has the last one of these seats.
-    fn of(rt: &'a R, chain: &'a Chain, mut seats: Vec<Seat>) -> Self
-        requires seats { All (IsSeatOf chain.now) seats.items }
+    fn of(rt: &'a R, live: &'a Engine, mut seats: Vec<Seat>) -> Self
+        requires seats { All (IsSeatOf live.now) seats.items }
         requires outside { All (λ seat. seat.depth ≡ 0) seats.items }
     {
         let seat = seats.pop().expect(rt, "a processor is left");
-        Periods { rt, chain, seat }
+        Periods { rt, live, seat }
     }
 
     /// Drives for who waits for this number, and compares what it answers.
     fn drives(&self, number: u64, wanted: Turned) {
-        let turned = self
-            .chain
-            .live()
-            .drive_for(self.rt, Cookie { epoch: 0, number });
+        let turned = self.live.drive_for(self.rt, Cookie { epoch: 0, number });
         assert_eq!(self.rt; turned, Ok(wanted));
     }
 
@@ -46,7 +44,7 @@ impl<'a, R: Abort + Wait> Periods<'a, R> {
 
     /// The grace period of this number ends.
     fn end(&mut self, number: u64) {
-        assert_eq!(self.rt; self.seat.quiesce(self.chain.live()), Ok(number));
+        assert_eq!(self.rt; self.seat.quiesce(self.live), Ok(number));
         let end = number.saturating_add(3);
         self.drives(end, Turned::Ended(end));
     }
@@ -54,10 +52,9 @@ impl<'a, R: Abort + Wait> Periods<'a, R> {
 
 /// Adds a node with a key behind another one, and compares what the keeper knows of it. Returns the
 /// node.
-fn add<R: Abort>(rt: &R, kept: &mut ChainAndKeeper<'_>, from: usize, key: u64) -> usize
+fn add<R: Abort>(rt: &R, kept: &mut ChainKeeper, from: usize, key: u64) -> usize
     requires { from < 4 }
-    ensures chain { kept.new.chain ≡ kept.old.chain }
-    ensures inside { result < 4 }
+    ensures { result < 4 }
 {
     let node = kept
         .fill_free(&[key, key / 2], None)
@@ -83,8 +80,7 @@ fn add<R: Abort>(rt: &R, kept: &mut ChainAndKeeper<'_>, from: usize, key: u64) -
 }
 
 /// A chain of all nodes.
-fn fill_up<R: Abort>(rt: &R, kept: &mut ChainAndKeeper<'_>) -> (usize, usize, usize)
-    ensures chain { kept.new.chain ≡ kept.old.chain }
+fn fill_up<R: Abort>(rt: &R, kept: &mut ChainKeeper) -> (usize, usize, usize)
     ensures first { result.0 < 4 }
     ensures second { result.1 < 4 }
     ensures third { result.2 < 4 }
@@ -97,7 +93,7 @@ fn fill_up<R: Abort>(rt: &R, kept: &mut ChainAndKeeper<'_>) -> (usize, usize, us
 }
 
 /// Whether nodes are free, and whether they are live.
-fn states(kept: &ChainAndKeeper<'_>, nodes: (usize, usize, usize)) -> [(bool, bool); 3]
+fn states(kept: &ChainKeeper, nodes: (usize, usize, usize)) -> [(bool, bool); 3]
     requires first { nodes.0 < 4 }
     requires second { nodes.1 < 4 }
     requires third { nodes.2 < 4 }
@@ -118,12 +114,7 @@ const LIVE: (bool, bool) = (false, true);
 const GONE: (bool, bool) = (false, false);
 
 /// A full chain is left before a grace period: that one frees its nodes.
-fn leave_before_a_period<R: Abort + Wait>(
-    periods: &mut Periods<'_, R>,
-    kept: &mut ChainAndKeeper<'_>,
-)
-    ensures { kept.new.chain ≡ kept.old.chain }
-{
+fn leave_before_a_period<R: Abort + Wait>(periods: &mut Periods<'_, R>, kept: &mut ChainKeeper) {
     let rt = periods.rt;
     let nodes = fill_up(rt, kept);
     assert!(rt; kept.unlink(0));
@@ -141,10 +132,7 @@ fn leave_before_a_period<R: Abort + Wait>(
 
 /// A full chain is left during a grace period, and one node before it: that one is free by its
 /// end, the others by the end of the next one.
-fn leave_during_a_period<R: Abort + Wait>(
-    periods: &mut Periods<'_, R>,
-    kept: &mut ChainAndKeeper<'_>,
-) {
+fn leave_during_a_period<R: Abort + Wait>(periods: &mut Periods<'_, R>, kept: &mut ChainKeeper) {
     let rt = periods.rt;
     let nodes = fill_up(rt, kept);
     assert!(rt; kept.link(nodes.0, Some(nodes.2)));
@@ -166,13 +154,14 @@ fn leave_during_a_period<R: Abort + Wait>(
 
 #[test]
 fn nodes_come_back_after_a_full_period(rt: HostRuntime) {
-    let Ok((chain, seats, _, own)) = Chain::open(rt.alloc(), 1, 4_000_000, PLAN) else {
+    let Ok(opened) = Chain::open(rt.alloc(), 1, 4_000_000, PLAN) else {
         return;
     };
-    let Ok(mut kept) = ChainAndKeeper::new(rt.alloc(), &chain, own) else {
+    let (seats, own) = (opened.seats, opened.own);
+    let Ok(mut kept) = ChainKeeper::new(rt.alloc(), &opened.graph, own) else {
         return;
     };
-    let mut periods = Periods::of(&rt, &chain, seats);
+    let mut periods = Periods::of(&rt, &opened.live, seats);
     leave_before_a_period(&mut periods, &mut kept);
     leave_during_a_period(&mut periods, &mut kept);
 }
@@ -181,7 +170,7 @@ fn nodes_come_back_after_a_full_period(rt: HostRuntime) {
 /// Returns the node.
 fn replace<R: Abort + Wait>(
     periods: &mut Periods<'_, R>,
-    kept: &mut ChainAndKeeper<'_>,
+    kept: &mut ChainKeeper,
     number: u64,
 ) -> usize {
     let node = add(periods.rt, kept, 0, 5);
@@ -194,13 +183,14 @@ fn replace<R: Abort + Wait>(
 
 #[test]
 fn steady_turnover_uses_the_same_two_nodes(rt: HostRuntime) {
-    let Ok((chain, seats, _, own)) = Chain::open(rt.alloc(), 1, 4_000_000, PLAN) else {
+    let Ok(opened) = Chain::open(rt.alloc(), 1, 4_000_000, PLAN) else {
         return;
     };
-    let Ok(mut kept) = ChainAndKeeper::new(rt.alloc(), &chain, own) else {
+    let (seats, own) = (opened.seats, opened.own);
+    let Ok(mut kept) = ChainKeeper::new(rt.alloc(), &opened.graph, own) else {
         return;
     };
-    let mut periods = Periods::of(&rt, &chain, seats);
+    let mut periods = Periods::of(&rt, &opened.live, seats);
     for turn in 0..100u64 {
         let first = replace(&mut periods, &mut kept, 8 * turn + 1);
         let second = replace(&mut periods, &mut kept, 8 * turn + 5);

@@ -8,8 +8,9 @@ ghost use Rattle.rcu_graph.specs.Graph.{IsWalking};
 ghost use Rattle.rcu_graph.specs.Planned.{of_plan, plan_of};
 ghost use Rattle.rcu_graph.specs.declared.known.Known.TheVariants.{Idle};
 
-use crate::nodes::chain::{Chain, ChainAndKeeper, PLAN, Seat};
+use crate::nodes::chain::{ChainKeeper, PLAN};
 use crate::nodes::parts::{next_online, next_seat};
+use crate::nodes::{Chain, Engine, Seat};
 use rcu_seq::Cookie;
 use std::sync::Wait;
 use std::thread;
@@ -45,7 +46,8 @@ fn look_twice(chain: &Chain, seat: &mut Seat) -> (u64, bool)
 }
 
 /// The same in a section of its own.
-fn look_in_a_section(chain: &Chain, seat: &mut Seat) -> (u64, bool)
+fn look_in_a_section(live: &Engine, chain: &Chain, seat: &mut Seat) -> (u64, bool)
+    requires engine { live.now ≡ chain.now }
     requires sized { chain.now.plan ≡ plan_of 1 1 2 4 0 }
     requires seat { IsSeatOf chain.now seat.old }
     requires outside { seat.old.depth ≡ 0 }
@@ -54,11 +56,11 @@ fn look_in_a_section(chain: &Chain, seat: &mut Seat) -> (u64, bool)
     ensures outside { seat.new.depth ≡ 0 }
     ensures idle { seat.new.view.client ≡ of_plan chain.now.plan Idle }
 {
-    if seat.enter(chain.live()).is_err() {
+    if seat.enter(live).is_err() {
         return (0, false);
     }
     let seen = look_twice(chain, seat);
-    let Ok(_) = seat.exit(chain.live()) else {
+    let Ok(_) = seat.exit(live) else {
         unreachable!()
     };
     seen
@@ -67,9 +69,11 @@ fn look_in_a_section(chain: &Chain, seat: &mut Seat) -> (u64, bool)
 /// A reader, with its processor's seat.
 #[derive(Drop)]
 struct Reader<'a> {
+    live: &'a Engine,
     chain: &'a Chain,
     seat: Seat,
     newest: u64,
+    ghost engine: { live.now ≡ chain.now },
     ghost sized: { chain.now.plan ≡ plan_of 1 1 2 4 0 },
     ghost seat_of: { IsSeatOf chain.now seat },
     ghost outside: { seat.depth ≡ 0 },
@@ -79,12 +83,12 @@ struct Reader<'a> {
 impl<'a> Reader<'a> {
     /// Searches, and passes a quiescent state. Returns whether all that it saw was right.
     fn search(&mut self) -> bool {
-        let (value, is_same) = look_in_a_section(self.chain, &mut self.seat);
+        let (value, is_same) = look_in_a_section(self.live, self.chain, &mut self.seat);
         let is_newer = value == 0 || self.newest <= value;
         if value > 0 {
             self.newest = value;
         }
-        let quiet = self.seat.quiesce(self.chain.live());
+        let quiet = self.seat.quiesce(self.live);
         is_same && is_newer && quiet.is_ok()
     }
 
@@ -97,12 +101,8 @@ impl<'a> Reader<'a> {
                 break;
             }
         }
-        let Reader {
-            chain,
-            mut seat,
-            ..
-        } = self;
-        let _ = chain.live().offline(rt, &mut seat);
+        let Reader { live, mut seat, .. } = self;
+        let _ = live.offline(rt, &mut seat);
         right
     }
 }
@@ -110,19 +110,18 @@ impl<'a> Reader<'a> {
 /// The keeper, who drives the engine too, with the seat of processor 0.
 #[derive(Drop)]
 struct Updater<'a> {
-    chain: &'a Chain,
-    kept: ChainAndKeeper<'a>,
+    live: &'a Engine,
+    kept: ChainKeeper,
     seat: Seat,
-    ghost seat_of: { IsSeatOf chain.now seat },
+    ghost seat_of: { IsSeatOf live.now seat },
 }
 
 impl<'a> Updater<'a> {
     /// Moves a grace period on, and looks which nodes are free.
     fn drive<R: Wait>(&mut self, rt: &R) {
         let number = self.kept.age().saturating_add(4);
-        let live = self.chain.live();
-        let _ = live.drive_for(rt, Cookie { epoch: 0, number });
-        let _ = self.seat.quiesce(live);
+        let _ = self.live.drive_for(rt, Cookie { epoch: 0, number });
+        let _ = self.seat.quiesce(self.live);
     }
 
     /// Publishes an entry in place of the one before, as soon as a node is free. Returns whether
@@ -172,27 +171,27 @@ fn run_beside<R: Threads + Wait + Sync>(
 
 #[test]
 fn readers_beside_a_turnover_of_nodes(rt: HostRuntime) {
-    let Ok((chain, mut seats, _, own)) = Chain::open(rt.alloc(), 3, 4_000_000, PLAN) else {
+    let Ok(opened) = Chain::open(rt.alloc(), 3, 4_000_000, PLAN) else {
         return;
     };
+    let (mut seats, own) = (opened.seats, opened.own);
+    let (live, chain) = (&opened.live, &opened.graph);
     let a = Reader {
-        chain: &chain,
-        seat: next_online(&rt, &chain, &mut seats),
+        live,
+        chain,
+        seat: next_online(&rt, live, &mut seats),
         newest: 0,
     };
     let b = Reader {
-        chain: &chain,
-        seat: next_online(&rt, &chain, &mut seats),
+        live,
+        chain,
+        seat: next_online(&rt, live, &mut seats),
         newest: 0,
     };
-    let seat = next_seat(&rt, &chain, &mut seats);
-    let Ok(kept) = ChainAndKeeper::new(rt.alloc(), &chain, own) else {
+    let seat = next_seat(&rt, live, &mut seats);
+    let Ok(kept) = ChainKeeper::new(rt.alloc(), chain, own) else {
         return;
     };
-    let updater = Updater {
-        chain: &chain,
-        kept,
-        seat,
-    };
+    let updater = Updater { live, kept, seat };
     assert_eq!(rt; run_beside(&rt, updater, a, b), (true, (true, true)));
 }

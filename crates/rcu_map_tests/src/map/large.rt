@@ -1,14 +1,12 @@
 //! A map of more than 65,536 cells: each entry is found, and none that was taken out.
 ghost use Rattle.std.specs.Prelude.{◌≡◌, ◌<◌};
 ghost use Rattle.rcu_live.specs.CpuSeat.{IsSeatOf};
-ghost use Rattle.rcu_graph.specs.Graph.{IsWatcherOf};
 ghost use Rattle.rcu_graph.specs.Planned.{of_plan};
 ghost use Rattle.rcu_graph.specs.declared.known.Known.TheVariants.{Idle};
 
 use crate::map::route::Route;
-use rcu_map::{Map, MapKeeper, MapSeat};
-
-type Routes = Map<4, 4, u64, Route, 2>;
+use crate::map::{Engine, Routes, Seat};
+use rcu_map::MapKeeper;
 
 /// 40,000 nodes of a link and two words: 120,000 cells.
 const NODES: u32 = 40_000;
@@ -21,10 +19,11 @@ const ROUTES: u32 = NODES - BUCKETS;
 /// A map of one processor, and its keeper.
 #[derive(Drop)]
 struct Scene<'a> {
+    live: &'a Engine,
     map: &'a Routes,
     keeper: MapKeeper<Route, 2>,
-    seat: MapSeat<Route, 2>,
-    ghost keeper_of: { IsWatcherOf map.now keeper },
+    seat: Seat,
+    ghost engine: { live.now ≡ map.now },
     ghost seat_of: { IsSeatOf map.now seat },
     ghost outside: { seat.depth ≡ 0 },
     ghost idle: { seat.view.client ≡ of_plan map.now.plan Idle },
@@ -36,38 +35,33 @@ impl<'a> Scene<'a> {
         let Some(route) = Route::to(network, !network) else {
             return false;
         };
-        self.keeper.insert(self.map, route) == Ok(None)
+        self.keeper.insert(route) == Ok(None)
     }
 
     /// Takes the route to a network out. Returns whether there was one.
     fn remove(&mut self, network: u32) -> bool {
-        self.keeper.remove(self.map, u64::from(network)).is_some()
+        self.keeper.remove(u64::from(network)).is_some()
     }
 
     /// Whether a section finds the route to a network as it was put in.
     fn finds(&mut self, network: u32) -> bool {
-        let found = self.map.get_section(&mut self.seat, u64::from(network));
+        let key = u64::from(network);
+        let found = self.map.get_section(self.live, &mut self.seat, key);
         matches!(found, Ok(Some(route)) if route.port == !network)
     }
 }
 
 #[test]
 fn each_of_35_904_routes_is_found(rt: HostRuntime) {
-    let opened = Routes::open(
-        rt.alloc(),
-        1,
-        4_000_000,
-        BUCKETS as usize,
-        NODES as usize,
-        0,
-    );
-    let Ok((map, mut seats, _, keeper)) = opened else {
+    let (buckets, nodes) = (BUCKETS as usize, NODES as usize);
+    let Ok(mut opened) = Routes::open(rt.alloc(), 1, 4_000_000, buckets, nodes, 0) else {
         return;
     };
     let mut scene = Scene {
-        map: &map,
-        keeper,
-        seat: seats.pop().unwrap(),
+        keeper: opened.keeper,
+        seat: opened.seats.pop().unwrap(),
+        live: &opened.live,
+        map: &opened.map,
     };
     let mut right = 0u32;
     for network in 1..=ROUTES {

@@ -4,22 +4,21 @@ ghost use Rattle.rcu_live.specs.CpuSeat.{IsSeatOf};
 ghost use Rattle.rcu_graph.specs.Graph.{IsWatcherOf};
 
 use crate::map::route::Route;
-use rcu_map::{Map, MapKeeper, MapSeat, Put};
+use crate::map::{Engine, Routes, Seat};
+use rcu_map::{MapKeeper, Put};
 use std::sync::Wait;
-
-type Routes = Map<4, 4, u64, Route, 2>;
 
 /// How many routes are put in and taken out again.
 const REMOVALS: u32 = 1_000_000;
 
-/// A map of one processor, and its keeper.
+/// The keeper of a map of one processor.
 #[derive(Drop)]
 struct Scene<'a> {
-    map: &'a Routes,
+    live: &'a Engine,
     keeper: MapKeeper<Route, 2>,
-    seat: MapSeat<Route, 2>,
-    ghost keeper_of: { IsWatcherOf map.now keeper },
-    ghost seat_of: { IsSeatOf map.now seat },
+    seat: Seat,
+    ghost keeper_of: { IsWatcherOf live.now keeper },
+    ghost seat_of: { IsSeatOf live.now seat },
 }
 
 impl<'a> Scene<'a> {
@@ -30,20 +29,20 @@ impl<'a> Scene<'a> {
     {
         let put = self
             .keeper
-            .put_or_wait(rt, self.map, &mut self.seat, Put::Insert, route);
-        put == Ok(None) && self.keeper.remove(self.map, route.network) == Some(route)
+            .put_or_wait(rt, self.live, &mut self.seat, Put::Insert, route);
+        put == Ok(None) && self.keeper.remove(route.network) == Some(route)
     }
 }
 
 #[test]
 fn a_million_removals_through_256_nodes(rt: HostRuntime) {
-    let Ok((map, mut seats, _, keeper)) = Routes::open(rt.alloc(), 1, 1 << 62, 16, 256, 0) else {
+    let Ok(mut opened) = Routes::open(rt.alloc(), 1, 1 << 62, 16, 256, 0) else {
         return;
     };
     let mut scene = Scene {
-        map: &map,
-        keeper,
-        seat: seats.pop().unwrap(),
+        keeper: opened.keeper,
+        seat: opened.seats.pop().unwrap(),
+        live: &opened.live,
     };
     let mut done = 0u32;
     for number in 0..REMOVALS {

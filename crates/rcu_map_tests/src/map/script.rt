@@ -10,23 +10,19 @@ ghost use Rattle.rcu_graph.specs.Planned.{of_plan};
 ghost use Rattle.rcu_graph.specs.declared.known.Known.TheVariants.{Idle};
 
 use crate::map::route::Route;
-use crate::map::script::caller::{Caller, MapAndKeeper, Shared};
+use crate::map::script::caller::{Alone, Caller, Shared};
+use crate::map::{Engine, Routes, Seat};
 use rcu_graph::Full;
 use rcu_map::Put::{Insert, Replace, Upsert};
-use rcu_map::{Entries, Map, MapSeat, MapWatcher, Put, Updater};
+use rcu_map::{Entries, MapWatcher, Put, Updater};
 use rcu_seq::Cookie;
 use std::process::Abort;
 use std::sync::Wait;
 
-/// Up to 4 routes, in 2 buckets.
-pub(crate) type Routes = Map<4, 4, u64, Route, 2>;
-
-type Seat = MapSeat<Route, 2>;
-
 type Watcher = MapWatcher<Route, 2>;
 
 /// The entries of a map that a section goes over.
-type Listing<'a> = Entries<'a, 4, 4, u64, Route, 2>;
+type Listing<'a> = Entries<'a, Route, 2>;
 
 /// A call, with the network and the port that it is given, and which port it returns.
 #[derive(Clone, Copy)]
@@ -96,15 +92,18 @@ fn puts(how: Put, port: Result<Option<u32>, Full>) -> bool {
     )
 }
 
-/// A map of one processor, who makes the calls, and the ports that its routes have by the script.
+/// A map of up to 4 routes in 2 buckets, who makes the calls, and the ports that its routes have by
+/// the script.
 #[derive(Drop)]
 struct Scene<'a, C: Caller + Drop> {
+    live: &'a Engine,
     map: &'a Routes,
     caller: C,
     seat: Seat,
     watcher: Watcher,
     ports: [u32; NETWORKS],
     order: [u32; NETWORKS],
+    ghost engine: { live.now ≡ map.now },
     ghost seat_of: { IsSeatOf map.now seat },
     ghost watcher_of: { IsWatcherOf map.now watcher },
     ghost outside: { seat.depth ≡ 0 },
@@ -154,14 +153,14 @@ impl<'a, C: Caller + Drop> Scene<'a, C> {
 
     /// One step of a grace period for this cookie, and a quiescent state.
     fn drive<R: Wait>(&mut self, rt: &R, cookie: Cookie) {
-        let _ = self.map.live().drive_for(rt, cookie);
-        let _ = self.seat.quiesce(self.map.live());
+        let _ = self.live.drive_for(rt, cookie);
+        let _ = self.seat.quiesce(self.live);
     }
 
     /// A grace period passes: the nodes that were left are free. The caller looks at its number
     /// before, which is 4 less than after it.
     fn age<R: Abort + Wait>(&mut self, rt: &R) {
-        let cookie = self.watcher.take(self.map.live());
+        let cookie = self.watcher.take(self.live);
         assert_eq!(rt; self.caller.age(rt).saturating_add(4), cookie.number);
         for _ in 0..4u32 {
             self.drive(rt, cookie);
@@ -205,7 +204,7 @@ impl<'a, C: Caller + Drop> Scene<'a, C> {
             (network, self.caller.contains(rt, key)),
             (network, wanted.is_some())
         );
-        let found = self.map.get_section(&mut self.seat, key);
+        let found = self.map.get_section(self.live, &mut self.seat, key);
         assert_eq!(rt; (network, found), (network, Ok(wanted)));
     }
 
@@ -214,9 +213,9 @@ impl<'a, C: Caller + Drop> Scene<'a, C> {
         let count = self.ports.iter().filter(|port| **port > 0).count();
         assert_eq!(rt; self.caller.len(rt), count);
         let wanted = self.in_order();
-        assert_eq!(rt; self.seat.enter(self.map.live()), Ok(1));
+        assert_eq!(rt; self.seat.enter(self.live), Ok(1));
         lists(rt, self.map, &mut self.seat, &wanted);
-        assert_eq!(rt; self.seat.exit(self.map.live()), Ok(0));
+        assert_eq!(rt; self.seat.exit(self.live), Ok(0));
     }
 
     /// Makes all calls of the script, and compares the map with the table after each.
@@ -235,15 +234,17 @@ impl<'a, C: Caller + Drop> Scene<'a, C> {
 #[test]
 fn map_is_as_its_script_says(rt: HostRuntime) {
     let (seed, order) = ORDER;
-    let opened = Routes::open(rt.alloc(), 1, 4_000_000, 2, 6, seed);
-    let Ok((map, mut seats, mut watchers, keeper)) = opened else {
+    let Ok(mut opened) = Routes::open(rt.alloc(), 1, 4_000_000, 2, 6, seed) else {
         return;
     };
     let mut scene = Scene {
-        map: &map,
-        caller: MapAndKeeper { map: &map, keeper },
-        seat: seats.pop().unwrap(),
-        watcher: watchers.pop().unwrap(),
+        caller: Alone {
+            keeper: opened.keeper,
+        },
+        seat: opened.seats.pop().unwrap(),
+        watcher: opened.watchers.pop().unwrap(),
+        live: &opened.live,
+        map: &opened.map,
         ports: [0; NETWORKS],
         order,
     };
@@ -253,17 +254,17 @@ fn map_is_as_its_script_says(rt: HostRuntime) {
 #[test]
 fn updater_does_as_the_script_says(rt: HostRuntime) {
     let (seed, order) = OTHER_ORDER;
-    let opened = Routes::open(rt.alloc(), 1, 4_000_000, 2, 6, seed);
-    let Ok((map, mut seats, mut watchers, keeper)) = opened else {
+    let Ok(mut opened) = Routes::open(rt.alloc(), 1, 4_000_000, 2, 6, seed) else {
         return;
     };
     let mut scene = Scene {
-        map: &map,
         caller: Shared {
-            updater: Updater::new(&map, keeper),
+            updater: Updater::new(opened.keeper),
         },
-        seat: seats.pop().unwrap(),
-        watcher: watchers.pop().unwrap(),
+        seat: opened.seats.pop().unwrap(),
+        watcher: opened.watchers.pop().unwrap(),
+        live: &opened.live,
+        map: &opened.map,
         ports: [0; NETWORKS],
         order,
     };

@@ -1,34 +1,32 @@
 //! Several steps under one lock: no other thread sees what is between them.
 ghost use Rattle.std.specs.Prelude.{◌<◌};
 
+use crate::map::Routes;
 use crate::map::route::Route;
-use rcu_map::{Map, MapAndKeeper, Updater};
+use rcu_map::Updater;
 use std::sync::Wait;
 use std::thread;
 use std::thread::Threads;
 
-type Roomy = Map<4, 4, u64, Route, 2>;
-
-type Control<'a> = Updater<'a, 4, 4, u64, Route, 2>;
+type Control = Updater<Route, 2>;
 
 /// How often a thread moves the one route.
 const MOVES: u32 = 200;
 
 /// Takes the route to a network out, and puts it in as one to the other network. Returns whether
 /// there was one, and none to the other network.
-fn move_on<R: Wait>(rt: &R, control: &Control<'_>, from: u32, to: u32) -> bool {
-    let mut held = control.lock(rt);
-    let MapAndKeeper { map, keeper } = &mut *held;
-    if let Some(route) = keeper.remove(map, u64::from(from))
+fn move_on<R: Wait>(rt: &R, control: &Control, from: u32, to: u32) -> bool {
+    let mut keeper = control.lock(rt);
+    if let Some(route) = keeper.remove(u64::from(from))
         && let Some(moved) = Route::to(to, route.port)
     {
-        return keeper.insert(map, moved) == Ok(None) && keeper.len() == 1;
+        return keeper.insert(moved) == Ok(None) && keeper.len() == 1;
     }
     false
 }
 
 /// Moves the route to and fro. Returns how often.
-fn work<R: Wait>(rt: &R, control: &Control<'_>) -> u32 {
+fn work<R: Wait>(rt: &R, control: &Control) -> u32 {
     let mut moves = 0u32;
     for _ in rt.forever() {
         if move_on(rt, control, 1, 2) || move_on(rt, control, 2, 1) {
@@ -42,17 +40,17 @@ fn work<R: Wait>(rt: &R, control: &Control<'_>) -> u32 {
 }
 
 /// Two threads at once. Where no thread can be made, the second one's part runs last.
-fn work_both<R: Threads + Wait + Sync>(rt: &R, control: &Control<'_>) -> (u32, u32) {
+fn work_both<R: Threads + Wait + Sync>(rt: &R, control: &Control) -> (u32, u32) {
     thread::join(rt, move || work(rt, control), move || work(rt, control))
 }
 
 #[test]
 fn route_is_moved_under_one_lock(rt: HostRuntime) {
     // One bucket, and a node for each move.
-    let Ok((map, _, _, keeper)) = Roomy::open(rt.alloc(), 1, 4_000, 1, 1024, 0) else {
+    let Ok(opened) = Routes::open::<4, 4, u64>(rt.alloc(), 1, 4_000, 1, 1024, 0) else {
         return;
     };
-    let control = Updater::new(&map, keeper);
+    let control = Updater::new(opened.keeper);
     if let Some(route) = Route::to(1, 7) {
         assert_eq!(&rt; control.insert(&rt, route), Ok(None));
     }

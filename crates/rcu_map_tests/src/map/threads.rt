@@ -15,7 +15,8 @@ use crate::map::route::Route;
 use crate::map::threads::admin::Admin;
 use crate::map::threads::history::{History, NETWORKS, Seen, route_after};
 use crate::map::threads::reader::Reader;
-use rcu_map::{Map, MapSeat, MapWatcher, Updater};
+use crate::map::{Engine, Routes, Seat};
+use rcu_map::{MapWatcher, Updater};
 use std::process::Abort;
 use std::sync::Wait;
 use std::thread;
@@ -23,22 +24,20 @@ use std::thread::Threads;
 
 pub(crate) const BUCKETS: usize = 4;
 
-/// Up to 28 routes, in 4 buckets.
-pub(crate) type Routes = Map<4, 4, u64, Route, 2>;
-
-pub(crate) type Control<'a> = Updater<'a, 4, 4, u64, Route, 2>;
-
-pub(crate) type Seat = MapSeat<Route, 2>;
+pub(crate) type Control = Updater<Route, 2>;
 
 pub(crate) type Watcher = MapWatcher<Route, 2>;
 
 /// The seats and the watchers that no thread has yet.
 #[derive(Drop)]
 struct Spare<'a> {
+    live: &'a Engine,
     map: &'a Routes,
+    control: &'a Control,
     history: &'a History,
     seats: Vec<Seat>,
     watchers: Vec<Watcher>,
+    ghost engine: { live.now ≡ map.now },
     ghost seats_of: { All (IsSeatOf map.now) seats.items },
     ghost outside: { All (λ seat. seat.depth ≡ 0) seats.items },
     ghost idle: { All (λ seat. seat.view.client ≡ of_plan map.now.plan Idle) seats.items },
@@ -50,6 +49,7 @@ impl<'a> Spare<'a> {
     fn next_reader<R: Abort>(&mut self, rt: &R) -> Reader<'a> {
         let seat = self.seats.pop().expect(rt, "a processor is left");
         Reader {
+            live: self.live,
             map: self.map,
             history: self.history,
             seat,
@@ -58,17 +58,12 @@ impl<'a> Spare<'a> {
     }
 
     /// An administrator on the last processor that is left, of each second network from this one.
-    fn next_admin<'b, R: Abort>(
-        &mut self,
-        rt: &R,
-        control: &'b Control<'a>,
-        first: u32,
-    ) -> Admin<'a, 'b> {
+    fn next_admin<R: Abort>(&mut self, rt: &R, first: u32) -> Admin<'a> {
         let seat = self.seats.pop().expect(rt, "a processor is left");
         let watcher = self.watchers.pop().expect(rt, "a watcher is left");
         Admin {
-            map: self.map,
-            control,
+            live: self.live,
+            control: self.control,
             history: self.history,
             seat,
             watcher,
@@ -84,10 +79,7 @@ fn read_both<R: Abort + Threads + Wait + Sync>(rt: &R, readers: (Reader<'_>, Rea
 }
 
 /// Runs two administrators.
-fn administer_both<R: Abort + Threads + Wait + Sync>(
-    rt: &R,
-    admins: (Admin<'_, '_>, Admin<'_, '_>),
-) {
+fn administer_both<R: Abort + Threads + Wait + Sync>(rt: &R, admins: (Admin<'_>, Admin<'_>)) {
     let (one, other) = admins;
     thread::join(rt, move || one.administer(rt), move || other.administer(rt));
 }
@@ -95,13 +87,10 @@ fn administer_both<R: Abort + Threads + Wait + Sync>(
 /// Runs all threads, and reads once more when they have ended. Where no thread can be made for the
 /// readers, they run last, since they go on until the administrators have ended. Those wait for
 /// nobody but readers that are online.
-fn run<'a, R: Abort + Threads + Wait + Sync>(rt: &R, control: &Control<'a>, mut spare: Spare<'a>) {
+fn run<R: Abort + Threads + Wait + Sync>(rt: &R, mut spare: Spare<'_>) {
     let readers = (spare.next_reader(rt), spare.next_reader(rt));
     let more = (spare.next_reader(rt), spare.next_reader(rt));
-    let admins = (
-        spare.next_admin(rt, control, 0),
-        spare.next_admin(rt, control, 1),
-    );
+    let admins = (spare.next_admin(rt, 0), spare.next_admin(rt, 1));
     let mut last = spare.next_reader(rt);
     last.rest();
     let reading = move || -> ((), ())
@@ -118,7 +107,7 @@ fn run<'a, R: Abort + Threads + Wait + Sync>(rt: &R, control: &Control<'a>, mut 
 }
 
 /// Puts the routes in that are there from the beginning.
-fn begin<R: Abort + Wait>(rt: &R, control: &Control<'_>) {
+fn begin<R: Abort + Wait>(rt: &R, control: &Control) {
     for network in 0..NETWORKS {
         if let Some(route) = route_after(network, 0) {
             assert_eq!(rt; control.insert(rt, route), Ok(None));
@@ -127,7 +116,7 @@ fn begin<R: Abort + Wait>(rt: &R, control: &Control<'_>) {
 }
 
 /// Compares all routes with the history at its end.
-fn is_as_told<R: Abort + Wait>(rt: &R, control: &Control<'_>, history: &History) {
+fn is_as_told<R: Abort + Wait>(rt: &R, control: &Control, history: &History) {
     let mut count = 0usize;
     for network in 0..NETWORKS {
         let wanted = route_after(network, history.ended(network));
@@ -142,19 +131,21 @@ fn is_as_told<R: Abort + Wait>(rt: &R, control: &Control<'_>, history: &History)
 
 #[test]
 fn readers_beside_updates_by_two_threads(rt: HostRuntime) {
-    let Ok((map, seats, watchers, keeper)) = Routes::open(rt.alloc(), 7, 4_000_000, BUCKETS, 32, 0)
-    else {
+    // Up to 28 routes.
+    let Ok(opened) = Routes::open(rt.alloc(), 7, 4_000_000, BUCKETS, 32, 0) else {
         return;
     };
     let history = History::new(4, 2);
-    let control = Control::new(&map, keeper);
+    let control = Control::new(opened.keeper);
     begin(&rt, &control);
     let spare = Spare {
-        map: &map,
+        seats: opened.seats,
+        watchers: opened.watchers,
+        live: &opened.live,
+        map: &opened.map,
+        control: &control,
         history: &history,
-        seats,
-        watchers,
     };
-    run(&rt, &control, spare);
+    run(&rt, spare);
     is_as_told(&rt, &control, &history);
 }

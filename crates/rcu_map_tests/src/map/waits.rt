@@ -5,15 +5,13 @@ ghost use Rattle.std.specs.Prelude.{◌<◌};
 ghost use Rattle.rcu_graph.specs.Graph.{IsSeatOf, IsWatcherOf};
 
 use crate::map::route::Route;
+use crate::map::{Engine, Routes, Seat};
 use rcu_map::Put::{Insert, Replace, Upsert};
-use rcu_map::{Map, MapKeeper, MapSeat, NotPut, Put};
+use rcu_map::{MapKeeper, NotPut, Put};
 use rcu_seq::Fault;
 use std::alloc::Global;
 use std::process::Abort;
 use std::sync::Wait;
-
-/// Two routes at most, in one bucket.
-type Two = Map<4, 4, u64, Route, 2>;
 
 /// A call, with the network and the port that it is given, and which port it returns.
 #[derive(Clone, Copy)]
@@ -27,11 +25,11 @@ enum Call {
 /// A keeper of a map, with the seat of its one processor.
 #[derive(Drop)]
 struct Scene<'a> {
-    map: &'a Two,
+    live: &'a Engine,
     keeper: MapKeeper<Route, 2>,
-    seat: MapSeat<Route, 2>,
-    ghost keeper_of: { IsWatcherOf map.now keeper },
-    ghost seat_of: { IsSeatOf map.now seat },
+    seat: Seat,
+    ghost keeper_of: { IsWatcherOf live.now keeper },
+    ghost seat_of: { IsSeatOf live.now seat },
 }
 
 impl<'a> Scene<'a> {
@@ -39,7 +37,7 @@ impl<'a> Scene<'a> {
         requires { 0 < route.network }
     {
         self.keeper
-            .put_or_wait(rt, self.map, &mut self.seat, how, route)
+            .put_or_wait(rt, self.live, &mut self.seat, how, route)
     }
 
     /// Makes a call, and compares what it returns.
@@ -53,32 +51,32 @@ impl<'a> Scene<'a> {
                 }
             }
             Call::Remove(network, wanted) => {
-                let found = self.keeper.remove(self.map, u64::from(network));
+                let found = self.keeper.remove(u64::from(network));
                 let found = found.map(|route| route.port);
                 assert_eq!(rt; (row, found), (row, wanted));
             }
             Call::Enter => {
-                let found = self.seat.enter(self.map.live());
+                let found = self.seat.enter(self.live);
                 assert_eq!(rt; (row, found.is_ok()), (row, true));
             }
             Call::Exit => {
-                let found = self.seat.exit(self.map.live());
+                let found = self.seat.exit(self.live);
                 assert_eq!(rt; (row, found.is_ok()), (row, true));
             }
         }
     }
 }
 
-/// Makes the calls in their order, up to this last number. Compares the routes to the networks 1 to
-/// 4 in the end: a port of 0 is none.
+/// Makes the calls in their order, up to this last number, on a map of two routes at most, in one
+/// bucket. Compares the routes to the networks 1 to 4 in the end: a port of 0 is none.
 fn makes<R: Abort + Wait>(rt: &R, alloc: Global, last: u64, calls: &[Call], ports: [u32; 4]) {
-    let Ok((map, mut seats, _, keeper)) = Two::open(alloc, 1, last, 1, 3, 0) else {
+    let Ok(mut opened) = Routes::open(alloc, 1, last, 1, 3, 0) else {
         return;
     };
     let mut scene = Scene {
-        map: &map,
-        keeper,
-        seat: seats.pop().unwrap(),
+        keeper: opened.keeper,
+        seat: opened.seats.pop().unwrap(),
+        live: &opened.live,
     };
     for (row, call) in calls.iter().enumerate() {
         scene.call(rt, row, *call);

@@ -1,18 +1,28 @@
-use Rattle.std.proofs.Common.{ℕ, subst}
+use Rattle.std.proofs.Common.{◌∙◌, ℕ, ap, length, subst}
+use Rattle.rcu_live.specs.Watcher.{Watching}
 use Rattle.rcu_graph.specs.Nodes.{nodes_in}
 use Rattle.rcu_graph.specs.Tended.{AreTended}
+use Rattle.rcu_graph.specs.declared.known.Planned.{Planned}
 use Rattle.rcu_graph.specs.declared.plan.Plan.{Plan}
+use Rattle.rcu_map.specs.Splices.{AreKept}
 use Rattle.rcu_map.proofs.links.keep.Goals as goal
 
 pub returns : goal.returns
 returns g c =
-    let p : Plan = c.args.graph.now.plan in
+    let keeper : Watching Planned = c.in_ok-keeper.keeper in
+    let planned = ap (λ (w : Watching Planned). w.view.client.plan) c.in_ok-keeper.ensures
+    ∙ c.requires.keeper.watches.planned in
     record {
       same = c.in_ok-keeper.ensures;
       kept = record {
-        few = c.tends.ensures.keeper.few;
-        tended = subst (λ (links : ℕ). AreTended (g.F.Shape.fits p) (g.F.Shape.joins p) p.roots
-            links (nodes_in c.in_ok-keeper.keeper.view.client.known))
-            c.requires.one c.tends.ensures.tended;
+        few = c.tends.ensures.few ∙ ap (λ (p : Plan). p.nodes) planned;
+        tended =
+            subst (λ (links : ℕ). AreTended (g.F.Shape.fits c.args.graph.now.plan)
+            (g.F.Shape.joins c.args.graph.now.plan) c.args.graph.now.plan.roots links
+            (nodes_in keeper.view.client.known))
+            c.requires.one
+            (subst (λ (p : Plan). AreTended (g.F.Shape.fits p) (g.F.Shape.joins p) p.roots p.links
+            (nodes_in keeper.view.client.known))
+            planned c.tends.ensures.tended);
       };
     }

@@ -1,9 +1,7 @@
 //! Who makes the calls of a script: a map's keeper, or the same behind a lock.
 ghost use Rattle.std.specs.Prelude.{◌<◌};
-ghost use Rattle.rcu_graph.specs.Graph.{IsWatcherOf};
 
 use crate::map::route::Route;
-use crate::map::script::Routes;
 use rcu_graph::Full;
 use rcu_map::{MapKeeper, Put, Updater};
 use std::sync::Wait;
@@ -26,29 +24,27 @@ pub(crate) trait Caller {
     fn len<R: Wait>(&self, rt: &R) -> usize;
 }
 
-/// A map and its keeper.
+/// A map's keeper.
 #[derive(Drop)]
-pub(crate) struct MapAndKeeper<'a> {
-    pub(crate) map: &'a Routes,
+pub(crate) struct Alone {
     pub(crate) keeper: MapKeeper<Route, 2>,
-    pub(crate) ghost keeper_of: { IsWatcherOf map.now keeper },
 }
 
-impl<'a> Caller for MapAndKeeper<'a> {
+impl Caller for Alone {
     fn put<R: Wait>(&mut self, _rt: &R, how: Put, route: Route) -> Result<Option<Route>, Full> {
         match how {
-            Put::Insert => self.keeper.insert(self.map, route),
-            Put::Replace => self.keeper.replace(self.map, route),
-            Put::Upsert => self.keeper.upsert(self.map, route),
+            Put::Insert => self.keeper.insert(route),
+            Put::Replace => self.keeper.replace(route),
+            Put::Upsert => self.keeper.upsert(route),
         }
     }
 
     fn remove<R: Wait>(&mut self, _rt: &R, network: u64) -> Option<Route> {
-        self.keeper.remove(self.map, network)
+        self.keeper.remove(network)
     }
 
     fn age<R: Wait>(&mut self, _rt: &R) -> u64 {
-        self.keeper.age(self.map)
+        self.keeper.age()
     }
 
     fn get<R: Wait>(&self, _rt: &R, network: u64) -> Option<Route> {
@@ -66,11 +62,11 @@ impl<'a> Caller for MapAndKeeper<'a> {
 
 /// A map's keeper behind a lock.
 #[derive(Drop)]
-pub(crate) struct Shared<'a> {
-    pub(crate) updater: Updater<'a, 4, 4, u64, Route, 2>,
+pub(crate) struct Shared {
+    pub(crate) updater: Updater<Route, 2>,
 }
 
-impl<'a> Caller for Shared<'a> {
+impl Caller for Shared {
     fn put<R: Wait>(&mut self, rt: &R, how: Put, route: Route) -> Result<Option<Route>, Full> {
         match how {
             Put::Insert => self.updater.insert(rt, route),

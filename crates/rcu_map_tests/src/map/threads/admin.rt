@@ -3,7 +3,8 @@ ghost use Rattle.std.specs.Prelude.{◌≡◌, ◌<◌};
 
 use crate::map::route::Route;
 use crate::map::threads::history::{History, NETWORKS, is_kept, route_after};
-use crate::map::threads::{Control, Routes, Seat, Watcher};
+use crate::map::threads::{Control, Watcher};
+use crate::map::{Engine, Seat};
 use rand_core::{Rng, SeedableRng};
 use rand_pcg::Pcg32;
 use rcu_graph::Full;
@@ -17,23 +18,22 @@ const CHANGES: u32 = 1_500;
 /// Who changes the route to each second network from this one on, with a processor's seat and a
 /// watcher.
 #[derive(Drop)]
-pub(crate) struct Admin<'a, 'b> {
-    pub(crate) map: &'a Routes,
-    pub(crate) control: &'b Control<'a>,
-    pub(crate) history: &'b History,
+pub(crate) struct Admin<'a> {
+    pub(crate) live: &'a Engine,
+    pub(crate) control: &'a Control,
+    pub(crate) history: &'a History,
     pub(crate) seat: Seat,
     pub(crate) watcher: Watcher,
     pub(crate) first: u32,
-    pub(crate) ghost seat_of: { seat.table ≡ map.now.table },
-    pub(crate) ghost watcher_of: { watcher.table ≡ map.now.table },
+    pub(crate) ghost seat_of: { seat.table ≡ live.now.table },
+    pub(crate) ghost watcher_of: { watcher.table ≡ live.now.table },
 }
 
-impl<'a, 'b> Admin<'a, 'b> {
+impl<'a> Admin<'a> {
     /// All nodes are used: waits for a grace period, so that what was left before makes room.
     fn make_room<R: Abort + Wait>(&mut self, rt: &R) {
         let before = self.control.age(rt);
-        let live = self.map.live();
-        let waited = live.synchronize(rt, &mut self.seat, &mut self.watcher);
+        let waited = self.live.synchronize(rt, &mut self.seat, &mut self.watcher);
         assert_eq!(rt; waited, Ok(()));
         let after = self.control.age(rt);
         assert!(rt; before.saturating_add(4) <= after, "{before} and {after}");
@@ -88,11 +88,11 @@ impl<'a, 'b> Admin<'a, 'b> {
         }
         self.history.end(network, number);
         assert_eq!(rt; self.control.get(rt, key), after);
-        let _ = self.seat.quiesce(self.map.live());
+        let _ = self.seat.quiesce(self.live);
     }
 
     fn arrive<R: Abort + Wait>(&mut self, rt: &R) {
-        assert_eq!(rt; self.map.live().online(rt, &mut self.seat), Ok(()));
+        assert_eq!(rt; self.live.online(rt, &mut self.seat), Ok(()));
     }
 
     /// The administrator's thread: it changes routes that it draws, beside the readers.
@@ -107,12 +107,12 @@ impl<'a, 'b> Admin<'a, 'b> {
             }
         }
         let Admin {
-            map,
+            live,
             history,
             mut seat,
             ..
         } = self;
         history.leave();
-        let _ = map.live().offline(rt, &mut seat);
+        let _ = live.offline(rt, &mut seat);
     }
 }

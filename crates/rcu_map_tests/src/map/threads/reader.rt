@@ -6,16 +6,16 @@ ghost use Rattle.rcu_graph.specs.Graph.{IsWalking};
 ghost use Rattle.rcu_graph.specs.Planned.{of_plan};
 ghost use Rattle.rcu_graph.specs.declared.known.Known.TheVariants.{Idle};
 
-use crate::map::bucket_of;
 use crate::map::route::Route;
+use crate::map::threads::BUCKETS;
 use crate::map::threads::history::{History, NETWORKS, Seen};
-use crate::map::threads::{BUCKETS, Routes, Seat};
+use crate::map::{Engine, Routes, Seat, bucket_of};
 use rcu_map::Entries;
 use std::process::Abort;
 use std::sync::Wait;
 
 /// The entries of a map that a section goes over.
-type Listing<'a> = Entries<'a, 4, 4, u64, Route, 2>;
+type Listing<'a> = Entries<'a, Route, 2>;
 
 /// What a section found that went over all routes.
 #[derive(Drop)]
@@ -82,10 +82,12 @@ fn list(map: &Routes, seat: &mut Seat) -> Listed
 /// A reader, with its processor's seat.
 #[derive(Drop)]
 pub(crate) struct Reader<'a> {
+    pub(crate) live: &'a Engine,
     pub(crate) map: &'a Routes,
     pub(crate) history: &'a History,
     pub(crate) seat: Seat,
     pub(crate) seen: Seen,
+    pub(crate) ghost engine: { live.now ≡ map.now },
     pub(crate) ghost seat_of: { IsSeatOf map.now seat },
     pub(crate) ghost outside: { seat.depth ≡ 0 },
     pub(crate) ghost idle: { seat.view.client ≡ of_plan map.now.plan Idle },
@@ -95,17 +97,18 @@ impl<'a> Reader<'a> {
     /// Looks a route up, and passes a quiescent state.
     fn look_up<R: Abort>(&mut self, rt: &R, network: u32) {
         self.seen.begin(self.history, network);
-        let found = self.map.get_section(&mut self.seat, u64::from(network));
+        let key = u64::from(network);
+        let found = self.map.get_section(self.live, &mut self.seat, key);
         let found = found.expect(rt, "the processor is online and awake");
         self.seen.end(rt, self.history, network, found);
-        let _ = self.seat.quiesce(self.map.live());
+        let _ = self.seat.quiesce(self.live);
     }
 
     /// All routes, by a section of its own.
     fn list<R: Abort>(&mut self, rt: &R) -> Listed {
-        assert_eq!(rt; self.seat.enter(self.map.live()), Ok(1));
+        assert_eq!(rt; self.seat.enter(self.live), Ok(1));
         let listed = list(self.map, &mut self.seat);
-        assert_eq!(rt; self.seat.exit(self.map.live()), Ok(0));
+        assert_eq!(rt; self.seat.exit(self.live), Ok(0));
         listed
     }
 
@@ -131,7 +134,7 @@ impl<'a> Reader<'a> {
 
     /// Its processor is online from now on.
     fn arrive<R: Abort + Wait>(&mut self, rt: &R) {
-        assert_eq!(rt; self.map.live().online(rt, &mut self.seat), Ok(()));
+        assert_eq!(rt; self.live.online(rt, &mut self.seat), Ok(()));
         self.history.arrive();
     }
 
@@ -144,18 +147,18 @@ impl<'a> Reader<'a> {
                 break;
             }
         }
-        let Reader { map, mut seat, .. } = self;
-        let _ = map.live().offline(rt, &mut seat);
+        let Reader { live, mut seat, .. } = self;
+        let _ = live.offline(rt, &mut seat);
     }
 
     /// Its processor is idle, so that nobody waits for it.
     pub(crate) fn rest(&mut self) {
-        let _ = self.seat.idle(self.map.live());
+        let _ = self.seat.idle(self.live);
     }
 
     /// Reads once more.
     pub(crate) fn read_at_last<R: Abort>(&mut self, rt: &R) {
-        let _ = self.seat.wake(self.map.live());
+        let _ = self.seat.wake(self.live);
         self.read(rt);
     }
 }

@@ -5,13 +5,11 @@ ghost use Rattle.rcu_graph.specs.Planned.{of_plan};
 ghost use Rattle.rcu_graph.specs.declared.known.Known.TheVariants.{Idle};
 
 use crate::map::route::Route;
-use rcu_map::{Map, MapKeeper, MapSeat, Put, Updater};
+use crate::map::{Engine, Routes, Seat};
+use rcu_map::{MapKeeper, Put, Updater};
 use std::sync::Wait;
 use std::thread;
 use std::thread::Threads;
-
-/// Two routes at most, which move on through three nodes, in one bucket. Ports tell the network.
-type Moving = Map<4, 4, u64, Route, 2>;
 
 /// How often a route is put in, each time to the next network.
 const CHANGES: u32 = 200;
@@ -22,19 +20,23 @@ const READS: u32 = 2_000;
 /// A slow reader, with its processor's seat.
 #[derive(Drop)]
 struct Reader<'a> {
-    map: &'a Moving,
-    seat: MapSeat<Route, 2>,
+    live: &'a Engine,
+    map: &'a Routes,
+    seat: Seat,
+    ghost engine: { live.now ≡ map.now },
     ghost seat_of: { IsSeatOf map.now seat },
     ghost outside: { seat.depth ≡ 0 },
     ghost idle: { seat.view.client ≡ of_plan map.now.plan Idle },
 }
 
 impl<'a> Reader<'a> {
-    /// Looks a route up, and lets other threads run. Returns whether it found none, or a whole one.
+    /// Looks a route up, and lets other threads run. Returns whether it found none, or a whole one:
+    /// its port tells the network.
     fn read(&mut self, network: u32) -> bool {
-        let found = self.map.get_section(&mut self.seat, u64::from(network));
+        let key = u64::from(network);
+        let found = self.map.get_section(self.live, &mut self.seat, key);
         thread::yield_now();
-        let quiet = self.seat.quiesce(self.map.live());
+        let quiet = self.seat.quiesce(self.live);
         match found {
             Ok(Some(route)) => route.port % 1_000 == network && quiet.is_ok(),
             Ok(None) => quiet.is_ok(),
@@ -50,8 +52,8 @@ impl<'a> Reader<'a> {
                 right = right.saturating_add(1);
             }
         }
-        let Reader { map, mut seat, .. } = self;
-        let _ = map.live().offline(rt, &mut seat);
+        let Reader { live, mut seat, .. } = self;
+        let _ = live.offline(rt, &mut seat);
         right
     }
 }
@@ -59,11 +61,11 @@ impl<'a> Reader<'a> {
 /// Who moves the routes, with the seat of processor 0.
 #[derive(Drop)]
 struct Control<'a> {
-    map: &'a Moving,
+    live: &'a Engine,
     keeper: MapKeeper<Route, 2>,
-    seat: MapSeat<Route, 2>,
-    ghost keeper_of: { IsWatcherOf map.now keeper },
-    ghost seat_of: { IsSeatOf map.now seat },
+    seat: Seat,
+    ghost keeper_of: { IsWatcherOf live.now keeper },
+    ghost seat_of: { IsSeatOf live.now seat },
 }
 
 impl<'a> Control<'a> {
@@ -74,15 +76,15 @@ impl<'a> Control<'a> {
     {
         let put = self
             .keeper
-            .put_or_wait(rt, self.map, &mut self.seat, Put::Insert, first);
+            .put_or_wait(rt, self.live, &mut self.seat, Put::Insert, first);
         let replaced = self
             .keeper
-            .put_or_wait(rt, self.map, &mut self.seat, Put::Replace, route);
+            .put_or_wait(rt, self.live, &mut self.seat, Put::Replace, route);
         put == Ok(None) && replaced == Ok(Some(first))
     }
 
     fn take_out(&mut self, network: u32) {
-        self.keeper.remove(self.map, u64::from(network));
+        self.keeper.remove(u64::from(network));
     }
 
     /// Puts a route to each network in, replaces it, and takes the one before it out. Returns how
@@ -113,35 +115,33 @@ fn run_beside<R: Threads + Wait + Sync>(
 
 #[test]
 fn routes_move_on_through_three_nodes(rt: HostRuntime) {
-    let Ok((map, mut seats, _, keeper)) = Moving::open(rt.alloc(), 2, 4_000_000, 1, 4, 0) else {
+    // Two routes at most, in one bucket.
+    let Ok(opened) = Routes::open(rt.alloc(), 2, 4_000_000, 1, 4, 0) else {
         return;
     };
+    let (mut seats, keeper) = (opened.seats, opened.keeper);
+    let (live, map) = (&opened.live, &opened.map);
     let mut seat = seats.pop().unwrap();
-    assert_eq!(&rt; map.live().online(&rt, &mut seat), Ok(()));
-    let reader = Reader { map: &map, seat };
+    assert_eq!(&rt; live.online(&rt, &mut seat), Ok(()));
+    let reader = Reader { live, map, seat };
     let seat = seats.pop().unwrap();
-    let control = Control {
-        map: &map,
-        keeper,
-        seat,
-    };
+    let control = Control { live, keeper, seat };
     assert_eq!(&rt; run_beside(&rt, control, reader), (CHANGES, READS));
 }
 
 /// Who puts routes in and takes them out, beside another one.
 #[derive(Drop)]
-struct Worker<'a, 'b> {
-    map: &'a Moving,
-    updater: &'b Updater<'a, 4, 4, u64, Route, 2>,
-    seat: MapSeat<Route, 2>,
+struct Worker<'a> {
+    live: &'a Engine,
+    updater: &'a Updater<Route, 2>,
+    seat: Seat,
     network: u32,
-    ghost of_updater: { IsSeatOf updater.now seat },
-    ghost of_map: { seat.table ≡ map.now.table },
+    ghost seat_of: { IsSeatOf live.now seat },
 }
 
-impl<'a, 'b> Worker<'a, 'b> {
+impl<'a> Worker<'a> {
     fn arrive<R: Wait>(&mut self, rt: &R) {
-        let _ = self.map.live().online(rt, &mut self.seat);
+        let _ = self.live.online(rt, &mut self.seat);
     }
 
     /// Puts a route in, replaces it and takes it out. Returns whether it did.
@@ -151,10 +151,10 @@ impl<'a, 'b> Worker<'a, 'b> {
     {
         let put = self
             .updater
-            .put_or_wait(rt, &mut self.seat, Put::Insert, first);
+            .put_or_wait(rt, self.live, &mut self.seat, Put::Insert, first);
         let replaced = self
             .updater
-            .put_or_wait(rt, &mut self.seat, Put::Upsert, route);
+            .put_or_wait(rt, self.live, &mut self.seat, Put::Upsert, route);
         put == Ok(None)
             && replaced == Ok(Some(first))
             && self.updater.remove(rt, first.network) == Some(route)
@@ -172,42 +172,39 @@ impl<'a, 'b> Worker<'a, 'b> {
                 changes = changes.saturating_add(1);
             }
         }
-        let Worker { map, mut seat, .. } = self;
-        let _ = map.live().offline(rt, &mut seat);
+        let Worker { live, mut seat, .. } = self;
+        let _ = live.offline(rt, &mut seat);
         changes
     }
 }
 
 /// Both beside one another.
-fn run_both<R: Threads + Wait + Sync>(
-    rt: &R,
-    one: Worker<'_, '_>,
-    other: Worker<'_, '_>,
-) -> (u32, u32) {
+fn run_both<R: Threads + Wait + Sync>(rt: &R, one: Worker<'_>, other: Worker<'_>) -> (u32, u32) {
     thread::join(rt, move || one.work(rt), move || other.work(rt))
 }
 
 /// Processor 0 never goes offline. No thread has it here: it is idle, and nobody waits for it.
 #[test]
 fn two_threads_share_three_nodes(rt: HostRuntime) {
-    let Ok((map, mut seats, _, keeper)) = Moving::open(rt.alloc(), 3, 4_000_000, 1, 4, 0) else {
+    let Ok(opened) = Routes::open(rt.alloc(), 3, 4_000_000, 1, 4, 0) else {
         return;
     };
-    let updater = Updater::new(&map, keeper);
+    let (mut seats, updater) = (opened.seats, Updater::new(opened.keeper));
+    let live = &opened.live;
     let one = Worker {
-        map: &map,
+        live,
         updater: &updater,
         seat: seats.pop().unwrap(),
         network: 1,
     };
     let other = Worker {
-        map: &map,
+        live,
         updater: &updater,
         seat: seats.pop().unwrap(),
         network: 2,
     };
     let mut first = seats.pop().unwrap();
-    assert_eq!(&rt; first.idle(map.live()), Ok(()));
+    assert_eq!(&rt; first.idle(live), Ok(()));
     assert_eq!(&rt; run_both(&rt, one, other), (CHANGES, CHANGES));
     assert_eq!(&rt; updater.len(&rt), 0);
 }

@@ -1,5 +1,6 @@
 use Rattle.std.proofs.Common.{List, ap, length, length-set, map, subst, sym, ◌∙◌}
 use Rattle.std.proofs.lemmas.List.{length-replicate}
+use Rattle.rcu_live.specs.Watcher.{Watching}
 use Rattle.rcu_cell.specs.Versions.{AreSized, IsKeeping, slot_in, slots_in, state_of}
 use Rattle.rcu_cell.specs.declared.known.Known.{Known}
 use Rattle.rcu_cell.specs.declared.slot_state.SlotState.{SlotState}
@@ -12,6 +13,10 @@ invariant_of-result g c =
     let t = c.claim.ensures.told in
     let states = c.requires.states in
     record {
+      watches = (
+        ap (λ (w : Watching Known). w.table) c.claim.ensures.state ∙ c.requires.cell.0,
+        ap (λ (w : Watching Known). w.view.base) c.claim.ensures.state ∙ c.requires.cell.1,
+      );
       keeps = subst IsKeeping (sym t.is) tt;
       shown = ap slot_in t.is;
       inside = c.requires.some;

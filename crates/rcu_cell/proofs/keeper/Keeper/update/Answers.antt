@@ -1,4 +1,4 @@
-use Rattle.std.proofs.Common.{arith, length-set, subst, sym, ◌∙◌}
+use Rattle.std.proofs.Common.{ap, arith, length-set, subst, sym, ◌∙◌}
 use Rattle.rcu_live.specs.Watcher.{Watching}
 use Rattle.rcu_cell.specs.Keeper.{IsFirstFree}
 use Rattle.rcu_cell.specs.Versions.{slots_in}
@@ -21,6 +21,12 @@ invariant_of-self g c =
     let now = kept_updated _ old c.fill.new.seat c.show.new.seat items c.self.inside.shown
     c.in-Some.by c.args.words.now was first c.told-words c.fill.ensures c.show.ensures in
     record {
+      watches = (
+        ap (λ (w : Watching Known). w.table) c.show.ensures
+            ∙ (ap (λ (w : Watching Known). w.table) c.fill.ensures ∙ k.watches.0),
+        ap (λ (w : Watching Known). w.view.base) c.show.ensures
+            ∙ (ap (λ (w : Watching Known). w.view.base) c.fill.ensures ∙ k.watches.1),
+      );
       keeps = now.keeps;
       shown = now.same;
       inside =

@@ -11,7 +11,10 @@ use Rattle.rcu_cell.proofs.keeper.Keeper.update_when_free.Goals as goal
 
 pub loop-init : goal.loop-init
 loop-init g c = record {
-  cell = c.age.ensures.cell;
+  cell = (
+    c.age.ensures.same.table ∙ c.requires.of_cell.keeper_of.0,
+    c.age.ensures.same.base ∙ c.requires.of_cell.keeper_of.1,
+  );
   seat = c.requires.of_cell.seat_of;
   depth = c.requires.shut;
   rested = rested_none c.args.seat.now;
@@ -42,7 +45,10 @@ loop-preserved g c =
     c.args.self.now c.update.new.self a.new.self rounds w.state w.unchanged
     (ap (λ (k : Watching Known). k.view.loads) a.ensures.state.state) in
     record {
-      cell = a.ensures.cell;
+      cell = (
+        a.ensures.same.table ∙ (c.in_default.ensures.same.table ∙ i.cell.0),
+        a.ensures.same.base ∙ (c.in_default.ensures.same.base ∙ i.cell.1),
+      );
       seat = (w.table ∙ i.seat.0, w.base ∙ i.seat.1);
       depth = w.depth ∙ i.depth;
       rested = rested_round r c.args.seat.now c.loop.seat c.wait_once-waited.new.seat i.rested

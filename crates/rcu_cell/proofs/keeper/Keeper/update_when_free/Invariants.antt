@@ -8,8 +8,8 @@ use Rattle.rcu_cell.proofs.keeper.Keeper.update_when_free.Given as goal
 
 abbrev pub invariant-loop : goal.invariant-loop
 invariant-loop g l = record {
-  cell : IsWatcherOf l.cell l.self;
-  seat : IsSeatOf l.cell l.seat;
+  cell : IsWatcherOf l.live l.self;
+  seat : IsSeatOf l.live l.seat;
   depth : l.seat.depth ≡ 0;
   rested : HasRested l.fn.seat l.seat;
   aged : HasAged l.fn.self l.self;

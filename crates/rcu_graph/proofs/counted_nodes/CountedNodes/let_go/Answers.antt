@@ -1,4 +1,5 @@
-use Rattle.std.proofs.Common.{◌≡◌, ◌∙◌, ◌+◌, ◌-◌, ◌<◌, ◌∷◌, ℕ, List, ap, arith, get_or, set, subst}
+use Rattle.std.proofs.Common.{◌≤◌, ◌≡◌, ◌∙◌, ◌+◌, ◌-◌, ◌<◌, ◌∷◌, ℕ, List, ap, arith, get_or, set}
+use Rattle.std.proofs.Common.{subst}
 use Rattle.std.proofs.Common.{sym}
 use Rattle.std.proofs.lemmas.Bool.{false≢true}
 use Rattle.std.proofs.lemmas.List.{get_or_read}
@@ -140,29 +141,20 @@ leave-requires g c =
     get_or_read counts c.in-Some.node _ low c.index.ensures 0 in
     let live : state_at nodes c.in-Some.node ≡ Live =
     test_live (state_at nodes c.in-Some.node)
-    (sym (c.is_live.ensures ∙ ap is_live c.state.ensures) ∙ c.if-not-is_live.false) in (
-      omega arith,
-      (
-        c.requires.graph,
-        (
-          led_inside p.nodes p.roots p.links r.0 nodes counts leaving r.1 c.args.left r.2
-              c.in-Some.node c.args.word c.in-Some.ensures r.3,
-          (
-            (let roots = ap (λ (q : Plan). q.roots) c.plan-plan.ensures.plan in
-                omega (arith, roots, c.if-node-plan.false)),
-            (
-              live,
-              let_go_unlinked p.nodes p.roots p.links r.0 nodes counts leaving r.1 c.args.left r.2
-                  c.in-Some.node c.args.word c.in-Some.ensures r.3 (c.index.result.now - 1)
-                  (omega (arith, some, value)) live (let roots = ap (λ (q : Plan). q.roots)
-                  c.plan-plan.ensures.plan in
-                  omega (arith, roots, c.if-node-plan.false))
-                  (omega (arith, c.if-count-gt0.false)),
-            ),
-          ),
-        ),
-      ),
-    )
+    (sym (c.is_live.ensures ∙ ap is_live c.state.ensures) ∙ c.if-not-is_live.false) in
+    let no_root : p.roots ≤ c.in-Some.node =
+    (let roots = ap (λ (q : Plan). q.roots) c.plan-plan.ensures.plan in
+    omega (arith, roots, c.if-node-plan.false)) in
+    record {
+      graph = c.requires.graph;
+      node = led_inside p.nodes p.roots p.links r.0 nodes counts leaving r.1 c.args.left r.2
+          c.in-Some.node c.args.word c.in-Some.ensures r.3;
+      no_root = no_root;
+      live = live;
+      unlinked = let_go_unlinked p.nodes p.roots p.links r.0 nodes counts leaving r.1 c.args.left
+          r.2 c.in-Some.node c.args.word c.in-Some.ensures r.3 (c.index.result.now - 1)
+          (omega (arith, some, value)) live no_root (omega (arith, c.if-count-gt0.false));
+    }
 
 pub index_mut-requires-2 : goal.index_mut-requires-2
 index_mut-requires-2 g c =

@@ -22,24 +22,22 @@ let_go-gone-requires g c =
     let low : l < p.links =
     subst (λ (q : Plan). l < q.links) c.plan-plan.ensures.plan c.loop-link-test.true in
     let nodes : List Node = nodes_in c.loop-link.self.nodes.view.client.known in
-    let rest : List ℕ = drop (l + 1) (node_at t.0 c.args.node).links in (
-      omega arith,
-      (
-        i.graph,
-        (
-          t.0,
-          t.1,
-          rest,
-          subst (λ (w : ℕ). IsTrimming p.nodes p.roots p.links t.0 nodes
-              c.loop-link.self.counts.items c.loop-link.self.leaving.items t.1 c.loop-link.gone
-              (w ∷ rest))
-              (sym c.link_word-word.ensures)
-              (next_link p.nodes p.roots p.links t.0 nodes c.loop-link.self.counts.items
-              c.loop-link.self.leaving.items t.1 c.loop-link.gone c.args.node c.requires.node l low
-              (i.trimming t.0 t.1 t.2)),
-        ),
-      ),
-    )
+    let rest : List ℕ = drop (l + 1) (node_at t.0 c.args.node).links in
+    record {
+      graph = i.graph;
+      trimming = (
+        t.0,
+        t.1,
+        rest,
+        subst (λ (w : ℕ). IsTrimming p.nodes p.roots p.links t.0 nodes
+            c.loop-link.self.counts.items c.loop-link.self.leaving.items t.1 c.loop-link.gone
+            (w ∷ rest))
+            (sym c.link_word-word.ensures)
+            (next_link p.nodes p.roots p.links t.0 nodes c.loop-link.self.counts.items
+            c.loop-link.self.leaving.items t.1 c.loop-link.gone c.args.node c.requires.node l low
+            (i.trimming t.0 t.1 t.2)),
+      );
+    }
 
 pub loop-link-preserved : goal.loop-link-preserved
 loop-link-preserved g c =

@@ -25,26 +25,17 @@ word_of-word-requires g c =
     (omega (arith, c.plan.ensures.nodes_fit))
 
 pub link-requires : goal.link-requires
-link-requires g c = (
-  omega arith,
-  (
-    c.requires.watches,
-    (
-      c.requires.from_inside,
-      (
-        c.requires.link_inside,
-        (
-          c.requires.live,
-          subst (λ (x : ℕ).
-              IsTarget (g.F.Shape.joins c.args.graph.now.plan c.args.link)
-              (node_at (nodes_in c.args.self.now.nodes.view.client.known) c.args.from).words
-              (nodes_in c.args.self.now.nodes.view.client.known) x)
-              (sym c.word_of-word.ensures) c.requires.target,
-        ),
-      ),
-    ),
-  ),
-)
+link-requires g c = record {
+  graph = c.requires.watches;
+  node = c.requires.from_inside;
+  link = c.requires.link_inside;
+  live = c.requires.live;
+  target = subst (λ (x : ℕ).
+      IsTarget (g.F.Shape.joins c.args.graph.now.plan c.args.link)
+      (node_at (nodes_in c.args.self.now.nodes.view.client.known) c.args.from).words
+      (nodes_in c.args.self.now.nodes.view.client.known) x)
+      (sym c.word_of-word.ensures) c.requires.target;
+}
 
 pub count-requires-clause-inside : goal.count-requires-clause-inside
 count-requires-clause-inside g c =
@@ -88,26 +79,25 @@ trim-requires g c =
     let counts_is : c.count.new.self.counts.items ≡ counted_up counts x =
     c.count.ensures.counts ∙ ap (λ (w : ℕ). counted_up counts w) c.word_of-word.ensures in
     let leaving_is : c.count.new.self.leaving.items ≡ leaving =
-    ap (λ v. v.items) c.count.ensures.leaving in (
-      omega arith,
-      (
-        subst (λ (w : Watching Planned). IsWatcherOf c.args.graph.now w) (sym c.count.ensures.nodes)
-            c.link.ensures.graph,
-        same_trimming c.args.graph.now.plan.nodes c.args.graph.now.plan.roots
-            c.args.graph.now.plan.links (nodes_in now.view.client.known) stored
-            (nodes_in now.view.client.known) stored c.count.new.self.counts.items
-            (counted_up counts x)
-            c.count.new.self.leaving.items leaving 0 0 (c.link_word-before.result ∷ [])
-            (slice_index (node_at nodes c.args.from).links c.args.link ∷ []) nodes_is nodes_is
-            counts_is leaving_is (ap (λ (w : ℕ). w ∷ []) c.link_word-before.ensures)
-            (relinked_starts (g.F.Shape.fits c.args.graph.now.plan)
-            (g.F.Shape.joins c.args.graph.now.plan) c.args.graph.now.plan.nodes
-            c.args.graph.now.plan.roots c.args.graph.now.plan.links c.args.graph.now.plan.words
-            nodes
-            counts leaving s.few s.sized c.requires.counted c.args.from c.args.link x
-            c.requires.live c.requires.link_inside c.requires.target),
-      ),
-    )
+    ap (λ v. v.items) c.count.ensures.leaving in
+    record {
+      graph = subst (λ (w : Watching Planned). IsWatcherOf c.args.graph.now w)
+          (sym c.count.ensures.nodes) c.link.ensures.graph;
+      trimming =
+          same_trimming c.args.graph.now.plan.nodes c.args.graph.now.plan.roots
+          c.args.graph.now.plan.links (nodes_in now.view.client.known) stored
+          (nodes_in now.view.client.known) stored c.count.new.self.counts.items
+          (counted_up counts x)
+          c.count.new.self.leaving.items leaving 0 0 (c.link_word-before.result ∷ [])
+          (slice_index (node_at nodes c.args.from).links c.args.link ∷ []) nodes_is nodes_is
+          counts_is leaving_is (ap (λ (w : ℕ). w ∷ []) c.link_word-before.ensures)
+          (relinked_starts (g.F.Shape.fits c.args.graph.now.plan)
+          (g.F.Shape.joins c.args.graph.now.plan) c.args.graph.now.plan.nodes
+          c.args.graph.now.plan.roots c.args.graph.now.plan.links c.args.graph.now.plan.words
+          nodes
+          counts leaving s.few s.sized c.requires.counted c.args.from c.args.link x
+          c.requires.live c.requires.link_inside c.requires.target);
+    }
 
 pub returns : goal.returns
 returns g c =

@@ -22,59 +22,50 @@ count_links_of-requires g c =
     let p : Plan = c.args.graph.now.plan in
     let nodes : List Node = nodes_in c.args.self.now.nodes.view.client.known in
     let counts : List ℕ = c.args.self.now.counts.items in
-    let leaving : List ℕ = c.args.self.now.leaving.items in (
-      omega arith,
-      (
-        c.requires.watches,
-        (
-          c.requires.to_inside,
-          (
-            c.requires.counted.many,
-            (
-              ready_inside (g.F.Shape.fits p) (g.F.Shape.joins p) p.nodes p.roots p.links p.words
-                  nodes counts
-                  leaving s.few s.sized c.requires.counted c.args.from c.args.link c.args.to
-                  c.requires.to_inside c.requires.ready,
-              (λ k low.
-                  let a = counts_fit (g.F.Shape.fits p) (g.F.Shape.joins p) p.nodes p.roots p.links
-                  p.words
-                  nodes counts leaving s.few s.sized c.requires.counted c.args.from c.args.link
-                  c.args.to
-                  c.requires.to_inside c.requires.ready k low in
-                  let fit = s.links_fit in
-                  omega (arith, a, fit)),
-            ),
-          ),
-        ),
-      ),
-    )
+    let leaving : List ℕ = c.args.self.now.leaving.items in
+    record {
+      graph = c.requires.watches;
+      node = c.requires.to_inside;
+      many = c.requires.counted.many;
+      inside =
+          ready_inside (g.F.Shape.fits p) (g.F.Shape.joins p) p.nodes p.roots p.links p.words
+          nodes counts
+          leaving s.few s.sized c.requires.counted c.args.from c.args.link c.args.to
+          c.requires.to_inside c.requires.ready;
+      few = λ k low.
+          let a = counts_fit (g.F.Shape.fits p) (g.F.Shape.joins p) p.nodes p.roots p.links
+          p.words
+          nodes counts leaving s.few s.sized c.requires.counted c.args.from c.args.link
+          c.args.to
+          c.requires.to_inside c.requires.ready k low in
+          let fit = s.links_fit in
+          omega (arith, a, fit);
+    }
 
 pub publish-requires : goal.publish-requires
 publish-requires g c =
-    let e = c.count_links_of.ensures.nodes in (
-      omega arith,
-      record {
-        watches = subst (λ (w : Watching Planned). IsWatcherOf c.args.graph.now w) (sym e)
-            c.requires.watches;
-        from_inside = c.requires.from_inside;
-        to_inside = c.requires.to_inside;
-        link_inside = c.requires.link_inside;
-        live =
-            subst (λ (w : Watching Planned). state_at (nodes_in w.view.client.known) c.args.from ≡
-            Live)
-            (sym e) c.requires.live;
-        ready = subst (λ (w : Watching Planned).
-            IsReady (g.F.Shape.fits c.args.graph.now.plan) (g.F.Shape.joins c.args.graph.now.plan)
-            c.args.graph.now.plan.links (nodes_in w.view.client.known)
-            c.args.to)
-            (sym e) c.requires.ready;
-        joined = subst (λ (w : Watching Planned).
-            g.F.Shape.joins c.args.graph.now.plan c.args.link
-            (node_at (nodes_in w.view.client.known) c.args.from).words
-            (node_at (nodes_in w.view.client.known) c.args.to).words)
-            (sym e) c.requires.joined;
-      },
-    )
+    let e = c.count_links_of.ensures.nodes in
+    record {
+      watches = subst (λ (w : Watching Planned). IsWatcherOf c.args.graph.now w) (sym e)
+          c.requires.watches;
+      from_inside = c.requires.from_inside;
+      to_inside = c.requires.to_inside;
+      link_inside = c.requires.link_inside;
+      live =
+          subst (λ (w : Watching Planned). state_at (nodes_in w.view.client.known) c.args.from ≡
+          Live)
+          (sym e) c.requires.live;
+      ready = subst (λ (w : Watching Planned).
+          IsReady (g.F.Shape.fits c.args.graph.now.plan) (g.F.Shape.joins c.args.graph.now.plan)
+          c.args.graph.now.plan.links (nodes_in w.view.client.known)
+          c.args.to)
+          (sym e) c.requires.ready;
+      joined = subst (λ (w : Watching Planned).
+          g.F.Shape.joins c.args.graph.now.plan c.args.link
+          (node_at (nodes_in w.view.client.known) c.args.from).words
+          (node_at (nodes_in w.view.client.known) c.args.to).words)
+          (sym e) c.requires.joined;
+    }
 
 pub word_of-requires : goal.word_of-requires
 word_of-requires g c = omega (arith, c.requires.to_inside, c.plan.ensures.nodes_fit)
@@ -133,27 +124,26 @@ trim-requires g c =
     let counts_is : c.count.new.self.counts.items ≡ counted_up new (suc c.args.to) =
     c.count.ensures.counts ∙ ap (λ (w : ℕ). counted_up new w) c.word_of.ensures in
     let leaving_is : c.count.new.self.leaving.items ≡ leaving =
-    ap (λ v. v.items) c.count.ensures.leaving ∙ ap (λ v. v.items) n.leaving in (
-      omega arith,
-      (
-        subst (λ (w : Watching Planned). IsWatcherOf c.args.graph.now w) (sym c.count.ensures.nodes)
-            c.publish.ensures.graph,
-        same_trimming c.args.graph.now.plan.nodes c.args.graph.now.plan.roots
-            c.args.graph.now.plan.links (nodes_in now.view.client.known) stored
-            (nodes_in now.view.client.known) stored c.count.new.self.counts.items
-            (counted_up new (suc c.args.to)) c.count.new.self.leaving.items leaving 0 0
-            (c.link_word-before.result ∷ [])
-            (slice_index (node_at nodes c.args.from).links c.args.link ∷ []) nodes_is nodes_is
-            counts_is leaving_is (ap (λ (w : ℕ). w ∷ []) c.link_word-before.ensures)
-            (published_starts (g.F.Shape.fits c.args.graph.now.plan)
-            (g.F.Shape.joins c.args.graph.now.plan) c.args.graph.now.plan.nodes
-            c.args.graph.now.plan.roots c.args.graph.now.plan.links c.args.graph.now.plan.words
-            nodes
-            counts leaving s.few s.sized c.requires.counted c.args.from c.args.link c.args.to
-            c.requires.to_inside c.requires.ready new n.many n.counts c.requires.live
-            c.requires.link_inside c.requires.joined),
-      ),
-    )
+    ap (λ v. v.items) c.count.ensures.leaving ∙ ap (λ v. v.items) n.leaving in
+    record {
+      graph = subst (λ (w : Watching Planned). IsWatcherOf c.args.graph.now w)
+          (sym c.count.ensures.nodes) c.publish.ensures.graph;
+      trimming =
+          same_trimming c.args.graph.now.plan.nodes c.args.graph.now.plan.roots
+          c.args.graph.now.plan.links (nodes_in now.view.client.known) stored
+          (nodes_in now.view.client.known) stored c.count.new.self.counts.items
+          (counted_up new (suc c.args.to)) c.count.new.self.leaving.items leaving 0 0
+          (c.link_word-before.result ∷ [])
+          (slice_index (node_at nodes c.args.from).links c.args.link ∷ []) nodes_is nodes_is
+          counts_is leaving_is (ap (λ (w : ℕ). w ∷ []) c.link_word-before.ensures)
+          (published_starts (g.F.Shape.fits c.args.graph.now.plan)
+          (g.F.Shape.joins c.args.graph.now.plan) c.args.graph.now.plan.nodes
+          c.args.graph.now.plan.roots c.args.graph.now.plan.links c.args.graph.now.plan.words
+          nodes
+          counts leaving s.few s.sized c.requires.counted c.args.from c.args.link c.args.to
+          c.requires.to_inside c.requires.ready new n.many n.counts c.requires.live
+          c.requires.link_inside c.requires.joined);
+    }
 
 pub returns : goal.returns
 returns g c =

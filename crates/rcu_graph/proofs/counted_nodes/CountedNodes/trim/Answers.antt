@@ -9,13 +9,10 @@ use Rattle.rcu_graph.proofs.Tending.{take_next}
 use Rattle.rcu_graph.proofs.counted_nodes.CountedNodes.trim.Goals as goal
 
 pub let_go-left-requires : goal.let_go-left-requires
-let_go-left-requires g c = (
-  omega arith,
-  (
-    c.requires.graph,
-    (nodes_in c.args.self.now.nodes.view.client.known, 0, [], c.requires.trimming),
-  ),
-)
+let_go-left-requires g c = record {
+  graph = c.requires.graph;
+  trimming = (nodes_in c.args.self.now.nodes.view.client.known, 0, [], c.requires.trimming);
+}
 
 pub leaving-init : goal.leaving-init
 leaving-init g c = record {
@@ -47,24 +44,20 @@ let_go_of-left-requires g c =
     let p : Plan = c.args.graph.now.plan in
     let room = in_room p.nodes p.roots p.links stored nodes counts leaving n c.leaving.left [] t in
     let node_is : c.index-node.result.now ≡ get_or leaving n 0 =
-    get_or_read leaving n _ (omega (arith, room, c.leaving-test.true)) c.index-node.ensures 0 in (
-      omega arith,
-      (
-        i.graph,
-        (
-          subst (λ (x : ℕ). x < p.nodes) (sym node_is) (t.ordered n c.leaving-test.true),
-          (
-            stored,
-            n + 1,
-            subst (λ (x : ℕ). IsTrimming p.nodes p.roots p.links stored nodes counts leaving (n + 1)
-                c.leaving.left (node_at stored x).links)
-                (sym node_is)
-                (take_next p.nodes p.roots p.links stored nodes counts leaving n c.leaving.left
-                c.leaving-test.true t),
-          ),
-        ),
-      ),
-    )
+    get_or_read leaving n _ (omega (arith, room, c.leaving-test.true)) c.index-node.ensures 0 in
+    record {
+      graph = i.graph;
+      node = subst (λ (x : ℕ). x < p.nodes) (sym node_is) (t.ordered n c.leaving-test.true);
+      trimming = (
+        stored,
+        n + 1,
+        subst (λ (x : ℕ). IsTrimming p.nodes p.roots p.links stored nodes counts leaving (n + 1)
+            c.leaving.left (node_at stored x).links)
+            (sym node_is)
+            (take_next p.nodes p.roots p.links stored nodes counts leaving n c.leaving.left
+            c.leaving-test.true t),
+      );
+    }
 
 pub overflow_add-done : goal.overflow_add-done
 overflow_add-done g c =

@@ -7,9 +7,10 @@ use Rattle.rcu_graph.proofs.Walking.{followed_at, followed_walks}
 use Rattle.rcu_graph.proofs.graph.Graph.follow.Goals as goal
 
 pub load_word-word-requires-clause-allowed : goal.load_word-word-requires-clause-allowed
-load_word-word-requires-clause-allowed g c = c.follow_is_allowed.ensures c.self.inside.live.plan
+load_word-word-requires-clause-allowed g c =
+    c.follow_is_allowed.ensures c.deref-board.result.now.plan
     (c.requires.at.walking.seat_of.planned
-    ∙ ap (λ (o : Object Plan). o.plan) (sym c.self.view_is))
+    ∙ ap (λ (o : Object Plan). o.plan) (sym (c.deref-board.ensures ∙ c.self.view_is)))
 
 pub returns-then-word-eq0-clause-came : goal.returns-then-word-eq0-clause-came
 returns-then-word-eq0-clause-came g c = λ words on.

@@ -1,4 +1,5 @@
 use Rattle.std.proofs.Common.{◌∙◌, ◌+◌, ◌<◌, ap, arith, length-set, subst, sym}
+use Rattle.std.specs.Arc.{arc_value}
 use Rattle.rcu_live.specs.Board.{Object}
 use Rattle.rcu_live.specs.Watcher.{after_word_step}
 use Rattle.rcu_graph.specs.Steps.{IsLeft}
@@ -9,15 +10,16 @@ use Rattle.rcu_graph.proofs.Planned.{same_plan, told_at}
 use Rattle.rcu_graph.proofs.graph.Graph.leave.Goals as goal
 
 pub load_word-requires-clause-allowed : goal.load_word-requires-clause-allowed
-load_word-requires-clause-allowed g c = c.leave_is_allowed.ensures c.self.inside.live.plan
-    (c.requires.keeper.watches.planned ∙ ap (λ (o : Object Plan). o.plan) (sym c.self.view_is))
+load_word-requires-clause-allowed g c = c.leave_is_allowed.ensures c.deref-board.result.now.plan
+    (c.requires.keeper.watches.planned
+    ∙ ap (λ (o : Object Plan). o.plan) (sym (c.deref-board.ensures ∙ c.self.view_is)))
 
 pub returns-clause-keeper : goal.returns-clause-keeper
 returns-clause-keeper g c =
     let e = c.load_word.ensures in
     let k = c.requires.keeper in
-    let is = same_plan c.args.self.now c.self.inside.live c.self.inside.plan c.self.view_is
-    c.self.invariant.planned in
+    let is = same_plan c.args.self.now (arc_value c.self.inside.board) c.self.inside.plan
+    c.self.view_is c.self.invariant.planned in
     keeps_on _ _ _ _ _ _ e.state e.told.0
     (told_at (λ (p : Plan). IsLeft p.links p.words) c.place-place.result
     c.args.seat.now.view.client c.load_word.result c.load_word.new.self.view.client
@@ -30,8 +32,8 @@ pub returns-clause-state : goal.returns-clause-state
 returns-clause-state g c =
     let e = c.load_word.ensures in
     let k = c.requires.keeper in
-    let is = same_plan c.args.self.now c.self.inside.live c.self.inside.plan c.self.view_is
-    c.self.invariant.planned in
+    let is = same_plan c.args.self.now (arc_value c.self.inside.board) c.self.inside.plan
+    c.self.view_is c.self.invariant.planned in
     let known = told_at (λ (p : Plan). IsLeft p.links p.words) c.place-place.result
     c.args.seat.now.view.client c.load_word.result c.load_word.new.self.view.client
     c.args.self.now.plan k.watches.planned e.told c.args.node 0

@@ -8,8 +8,9 @@ use Rattle.rcu_graph.proofs.Planned.{told_at}
 use Rattle.rcu_graph.proofs.graph.Graph.link.Goals as goal
 
 pub store_word-requires-clause-allowed : goal.store_word-requires-clause-allowed
-store_word-requires-clause-allowed g c = c.link_is_allowed.ensures c.self.inside.live.plan
-    (c.requires.keeper.watches.planned ∙ ap (λ (o : Object Plan). o.plan) (sym c.self.view_is))
+store_word-requires-clause-allowed g c = c.link_is_allowed.ensures c.deref-board.result.now.plan
+    (c.requires.keeper.watches.planned
+    ∙ ap (λ (o : Object Plan). o.plan) (sym (c.deref-board.ensures ∙ c.self.view_is)))
 
 pub link_is_allowed-requires-clause-target : goal.link_is_allowed-requires-clause-target
 link_is_allowed-requires-clause-target g c =

@@ -1,7 +1,12 @@
-use Rattle.std.proofs.Common.{List, [], ◌∷◌, None, ℕ, arith, map, rules, subst, sym}
+use Rattle.std.proofs.Common.{◌≡◌, ◌∙◌, List, [], ◌∷◌, None, ℕ, ap, arith, map, rules, subst, sym}
 use mathlib.Core.Option.{some}
+use Rattle.std.specs.Arc.{arc_value}
+use Rattle.rcu_live.specs.Board.{Object}
 use Rattle.rcu_live.specs.Client.{Slots}
+use Rattle.rcu_live.specs.Watcher.{watcher_at_first}
+use Rattle.rcu_live.specs.Words.{base_of}
 use Rattle.rcu_graph.specs.Opening.{IsSized}
+use Rattle.rcu_graph.specs.Planned.{of_plan}
 use Rattle.rcu_graph.specs.Rule.{IsKept}
 use Rattle.rcu_graph.specs.declared.known.Known.TheVariants.{Owner}
 use Rattle.rcu_graph.specs.declared.plan.Plan.{Plan}
@@ -38,7 +43,14 @@ open_for-requires g c =
 
 pub returns-clause-keeper : goal.returns-clause-keeper
 returns-clause-keeper g c =
-    keeps_first c.args.plan c.args.cpus (g.F.Shape.first c.in_ok-live.live.plan) c.in_ok-live.live
-    c.in_ok-live.own c.claim.new.seat c.in_ok-live.ensures.dealt.size.count
-    c.in_ok-live.ensures.plan c.in_ok-live.ensures.own
+    let shared : Object Plan = arc_value c.in-Ok-try_clone.shared in
+    let same : shared ≡ arc_value c.in_ok-board.field-0.board = c.in-Ok-try_clone.ensures in
+    let opened = c.in_ok-board.ensures.opened in
+    keeps_first c.args.plan c.args.cpus (g.F.Shape.first shared.plan) shared
+    c.in_ok-board.field-0.own c.claim.new.seat
+    (ap (λ (o : Object Plan). o.cpus) same ∙ opened.dealt.size.count)
+    (ap (λ (o : Object Plan). o.plan) same ∙ c.in_ok-board.ensures.plan)
+    (subst (λ (o : Object Plan). c.in_ok-board.field-0.own
+    ≡ watcher_at_first o.table (base_of c.args.cpus) (of_plan c.args.plan Owner)) (sym same)
+    opened.alone)
     c.claim.ensures

@@ -7,8 +7,9 @@ use Rattle.rcu_graph.proofs.Planned.{told_at}
 use Rattle.rcu_graph.proofs.graph.Graph.publish.Goals as goal
 
 pub store_word-requires-clause-allowed : goal.store_word-requires-clause-allowed
-store_word-requires-clause-allowed g c = c.publish_is_allowed.ensures c.self.inside.live.plan
-    (c.requires.keeper.watches.planned ∙ ap (λ (o : Object Plan). o.plan) (sym c.self.view_is))
+store_word-requires-clause-allowed g c = c.publish_is_allowed.ensures c.deref-board.result.now.plan
+    (c.requires.keeper.watches.planned
+    ∙ ap (λ (o : Object Plan). o.plan) (sym (c.deref-board.ensures ∙ c.self.view_is)))
 
 pub returns-clause-keeper : goal.returns-clause-keeper
 returns-clause-keeper g c =

@@ -4,6 +4,6 @@ use Rattle.rcu_graph.specs.declared.plan.Plan.{Plan}
 use Rattle.rcu_graph.proofs.graph.Graph.read.Goals as goal
 
 pub load_word-requires-clause-allowed : goal.load_word-requires-clause-allowed
-load_word-requires-clause-allowed g c = c.read_is_allowed.ensures c.self.inside.live.plan
+load_word-requires-clause-allowed g c = c.read_is_allowed.ensures c.deref-board.result.now.plan
     (c.requires.at.walking.seat_of.planned
-    ∙ ap (λ (o : Object Plan). o.plan) (sym c.self.view_is))
+    ∙ ap (λ (o : Object Plan). o.plan) (sym (c.deref-board.ensures ∙ c.self.view_is)))

@@ -13,18 +13,18 @@ pub invariant_of-self : goal.invariant_of-self
 invariant_of-self g c =
     let s : Watching Planned = c.self.inside.counted.nodes in
     let counted = c.self.inside.counted in
-    let p : Plan = s.view.client.plan in
-    subst (λ (w : Watching Planned). IsCounted (g.F.Shape.fits w.view.client.plan)
-    (g.F.Shape.joins w.view.client.plan) w.view.client.plan.nodes w.view.client.plan.roots
-    w.view.client.plan.links (nodes_in w.view.client.known) counted.counts.items
-    counted.leaving.items)
-    (sym c.look.ensures.state)
-    (counted_aged (g.F.Shape.fits p) (g.F.Shape.joins p) p.nodes p.roots p.links
-    (nodes_in s.view.client.known) counted.counts.items counted.leaving.items c.self.invariant
-    c.look.result (max c.look.result (latest_in s.view.client.known)))
-
-pub returns-clause-graph : goal.returns-clause-graph
-returns-clause-graph g c = c.look.ensures.graph
+    let p : Plan = c.self.inside.graph.plan in
+    record {
+      watches = c.look.ensures.graph;
+      counted = subst (λ (w : Watching Planned). IsCounted (g.F.Shape.fits p) (g.F.Shape.joins p)
+          p.nodes p.roots p.links (nodes_in w.view.client.known) counted.counts.items
+          counted.leaving.items)
+          (sym c.look.ensures.state)
+          (counted_aged (g.F.Shape.fits p) (g.F.Shape.joins p) p.nodes p.roots p.links
+          (nodes_in s.view.client.known) counted.counts.items counted.leaving.items
+          c.self.invariant.counted c.look.result
+          (max c.look.result (latest_in s.view.client.known)));
+    }
 
 pub returns-clause-state : goal.returns-clause-state
 returns-clause-state g c =

@@ -1,5 +1,7 @@
-use Rattle.std.proofs.Common.{List, ap, subst, sym}
+use Rattle.std.proofs.Common.{◌≡◌, List, ap, subst, sym}
+use Rattle.rcu_live.specs.Board.{Object}
 use Rattle.rcu_live.specs.Watcher.{Watching}
+use Rattle.rcu_graph.specs.Graph.{IsWatcherOf}
 use Rattle.rcu_graph.specs.Nodes.{nodes_in}
 use Rattle.rcu_graph.specs.Trimming.{IsCounted}
 use Rattle.rcu_graph.specs.declared.known.Planned.{Planned}
@@ -15,16 +17,22 @@ invariant_of-result g c =
     let p : Plan = c.args.graph.now.plan in
     let counts = made.counts.items in
     let leaving = made.leaving.items in
-    subst (λ (w : Watching Planned). IsCounted (g.F.Shape.fits w.view.client.plan)
-    (g.F.Shape.joins w.view.client.plan) w.view.client.plan.nodes w.view.client.plan.roots
-    w.view.client.plan.links (nodes_in w.view.client.known) counts leaving)
-    (sym e.nodes)
-    (subst (λ (q : Plan). IsCounted (g.F.Shape.fits q) (g.F.Shape.joins q) q.nodes q.roots q.links
-    (nodes_in c.args.seat.view.client.known) counts leaving)
-    (sym c.requires.keeper.watches.planned)
-    (subst (λ (l : List Node). IsCounted (g.F.Shape.fits p) (g.F.Shape.joins p) p.nodes p.roots
-    p.links l counts leaving)
-    (sym (ap nodes_in c.requires.nodes))
-    (counted_first (g.F.Shape.fits p) (g.F.Shape.joins p) p.nodes p.roots p.links p.words
-    (g.F.Shape.first p) c.plan.ensures.roots counts leaving c.requires.first.fit e.counts
-    e.leaving)))
+    let graph : c.in_ok-graph.graph ≡ c.args.graph.now = c.in_ok-graph.ensures in
+    record {
+      watches = subst (λ (o : Object Plan). IsWatcherOf o made.nodes) (sym graph)
+          (subst (λ (w : Watching Planned). IsWatcherOf c.args.graph.now w) (sym e.nodes)
+          c.requires.keeper.watches);
+      counted = subst (λ (o : Object Plan). IsCounted (g.F.Shape.fits o.plan)
+          (g.F.Shape.joins o.plan) o.plan.nodes o.plan.roots o.plan.links
+          (nodes_in made.nodes.view.client.known) counts leaving)
+          (sym graph)
+          (subst (λ (w : Watching Planned). IsCounted (g.F.Shape.fits p) (g.F.Shape.joins p) p.nodes
+          p.roots p.links (nodes_in w.view.client.known) counts leaving)
+          (sym e.nodes)
+          (subst (λ (l : List Node). IsCounted (g.F.Shape.fits p) (g.F.Shape.joins p) p.nodes
+          p.roots p.links l counts leaving)
+          (sym (ap nodes_in c.requires.nodes))
+          (counted_first (g.F.Shape.fits p) (g.F.Shape.joins p) p.nodes p.roots p.links p.words
+          (g.F.Shape.first p) c.plan.ensures.roots counts leaving c.requires.first.fit e.counts
+          e.leaving)));
+    }

@@ -8,21 +8,18 @@ use Rattle.rcu_graph.proofs.Filling.{all_filled, can_fill_on, low_in}
 use Rattle.rcu_graph.proofs.known_nodes.KnownNodes.fill.Goals as goal
 
 pub fill_words-requires : goal.fill_words-requires
-fill_words-requires g c = (
-  omega arith,
-  (
-    record {
-      watches = c.requires.graph;
-      keeps = c.plan.ensures.keeps;
-      few = c.plan.ensures.few;
-      inside = c.requires.node;
-      free = c.requires.free;
-      link_count = (c.plan.ensures.sized c.args.node c.requires.node).0;
-      word_count = (c.plan.ensures.sized c.args.node c.requires.node).1;
-    },
-    c.requires.words,
-  ),
-)
+fill_words-requires g c = record {
+  free = record {
+    watches = c.requires.graph;
+    keeps = c.plan.ensures.keeps;
+    few = c.plan.ensures.few;
+    inside = c.requires.node;
+    free = c.requires.free;
+    link_count = (c.plan.ensures.sized c.args.node c.requires.node).0;
+    word_count = (c.plan.ensures.sized c.args.node c.requires.node).1;
+  };
+  words = c.requires.words;
+}
 
 pub fill_links-requires : goal.fill_links-requires
 fill_links-requires g c =
@@ -34,14 +31,13 @@ fill_links-requires g c =
       free = c.requires.free;
       link_count = (c.plan.ensures.sized c.args.node c.requires.node).0;
       word_count = (c.plan.ensures.sized c.args.node c.requires.node).1;
-    } in (
-      omega arith,
-      (
-        can_fill_on c.args.self.now c.args.node c.args.graph.now c.args.words.now
-            c.fill_words.new.self can c.requires.words c.fill_words.ensures,
-        (c.requires.inside, c.requires.links),
-      ),
-    )
+    } in
+    record {
+      free = can_fill_on c.args.self.now c.args.node c.args.graph.now c.args.words.now
+          c.fill_words.new.self can c.requires.words c.fill_words.ensures;
+      inside = c.requires.inside;
+      links = c.requires.links;
+    }
 
 pub returns-clause-graph : goal.returns-clause-graph
 returns-clause-graph g c =

@@ -42,14 +42,12 @@ word_of-requires g c =
     c.requires.inside)
 
 pub write_link-requires : goal.write_link-requires
-write_link-requires g c = (
-  omega arith,
-  can_store c.args.self.now c.args.node c.args.graph.now.plan.links c.loop-link.link
-      c.args.graph.now c.loop-link.self
-      (with_links_to c.loop-link.link (map word_to c.args.links.now)) c.requires.free refl
-      c.loop-link.invariant
-      (omega (arith, c.loop-link-test.true, c.requires.links)),
-)
+write_link-requires g c =
+    can_store c.args.self.now c.args.node c.args.graph.now.plan.links c.loop-link.link
+    c.args.graph.now c.loop-link.self
+    (with_links_to c.loop-link.link (map word_to c.args.links.now)) c.requires.free refl
+    c.loop-link.invariant
+    (omega (arith, c.loop-link-test.true, c.requires.links))
 
 pub returns : goal.returns
 returns g c =

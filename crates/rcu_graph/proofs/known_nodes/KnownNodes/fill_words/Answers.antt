@@ -22,13 +22,11 @@ loop-word-preserved g c =
     c.write.new.self low inside small refl c.loop-word.invariant c.write.ensures
 
 pub write-requires : goal.write-requires
-write-requires g c = (
-  omega arith,
-  can_store c.args.self.now c.args.node c.args.graph.now.plan.words c.loop-word.word
-      c.args.graph.now c.loop-word.self (with_words_to c.loop-word.word c.args.words.now)
-      c.requires.free refl c.loop-word.invariant
-      (omega (arith, c.loop-word-test.true, c.requires.words)),
-)
+write-requires g c =
+    can_store c.args.self.now c.args.node c.args.graph.now.plan.words c.loop-word.word
+    c.args.graph.now c.loop-word.self (with_words_to c.loop-word.word c.args.words.now)
+    c.requires.free refl c.loop-word.invariant
+    (omega (arith, c.loop-word-test.true, c.requires.words))
 
 pub returns : goal.returns
 returns g c =

@@ -28,4 +28,10 @@ link-requires g c =
     (node_at (nodes_in w.view.client.known) c.args.node).words (nodes_in w.view.client.known)
     c.args.value)
     (sym is) c.requires.target in
-    (omega arith, (keeper, (c.requires.node, (c.requires.link, (live, target)))))
+    record {
+      keeper = keeper;
+      node = c.requires.node;
+      link = c.requires.link;
+      live = live;
+      target = target;
+    }

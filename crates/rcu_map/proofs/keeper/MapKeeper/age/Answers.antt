@@ -18,10 +18,9 @@ invariant_of-self g c =
     let k = c.self.invariant in
     let p : Plan = c.self.inside.nodes.view.client.plan in
     let latest = max c.age-number.result (latest_in c.self.inside.nodes.view.client.known) in
-    let planned = sym t.keeper.watches.planned
-    ∙ ap (λ (w : Watching Planned). w.view.client.plan) e in
+    let planned = ap (λ (w : Watching Planned). w.view.client.plan) e in
     let few = subst (λ (w : Watching Planned). length (nodes_in w.view.client.known) ≡ p.nodes) e
-    (t.keeper.few ∙ ap (λ (q : Plan). q.nodes) planned) in
+    (t.few ∙ ap (λ (q : Plan). q.nodes) planned) in
     let tended = subst (λ (w : Watching Planned). AreTended (IsWhole g.E.Invariant.holds p.words)
     (λ _ from to. GoesUp p.roots p.seed from to) p.roots 1 (nodes_in w.view.client.known))
     e

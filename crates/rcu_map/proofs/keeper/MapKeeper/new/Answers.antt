@@ -14,18 +14,15 @@ use Rattle.rcu_map.proofs.Openings.{roots_are_whole}
 use Rattle.rcu_map.proofs.keeper.MapKeeper.new.Goals as goal
 
 pub keep-requires : goal.keep-requires
-keep-requires g c = (
-  omega arith,
-  record {
-    one = c.map.invariant.one;
-    keeper = subst (λ (o : Object Plan). IsKeeperOf o c.args.seat) (sym c.map.view_is)
-        c.requires.keeper;
-    nodes = subst (λ (o : Object Plan). IsClaimed (root_words o.plan.words) o.plan.roots
-        o.plan.links o.plan.words o.plan.nodes c.args.seat.view.client.known)
-        (sym c.map.view_is) c.requires.nodes;
-    whole = roots_are_whole g.E.Invariant.holds c.map.inside.graph.plan;
-  },
-)
+keep-requires g c = record {
+  one = c.map.invariant.one;
+  keeper = subst (λ (o : Object Plan). IsKeeperOf o c.args.seat) (sym c.map.view_is)
+      c.requires.keeper;
+  nodes = subst (λ (o : Object Plan). IsClaimed (root_words o.plan.words) o.plan.roots
+      o.plan.links o.plan.words o.plan.nodes c.args.seat.view.client.known)
+      (sym c.map.view_is) c.requires.nodes;
+  whole = roots_are_whole g.E.Invariant.holds c.map.inside.graph.plan;
+}
 
 pub invariant_of-result : goal.invariant_of-result
 invariant_of-result g c =

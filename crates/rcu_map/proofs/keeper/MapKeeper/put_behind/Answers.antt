@@ -1,15 +1,13 @@
 use Rattle.std.proofs.Common.{◌+◌, ◌<◌, ◌∙◌, List, None, ap, arith, false, refl, subst, sym}
-use Rattle.rcu_live.specs.Board.{Object}
 use Rattle.rcu_live.specs.Watcher.{Watching}
-use Rattle.rcu_graph.specs.Graph.{IsWatcherOf}
 use Rattle.rcu_graph.specs.Nodes.{nodes_in}
 use Rattle.rcu_graph.specs.declared.known.Planned.{Planned}
 use Rattle.rcu_graph.specs.declared.known.Node.{Node}
 use Rattle.rcu_graph.specs.declared.plan.Plan.{Plan}
 use Rattle.rcu_map.specs.Chains.{IsKept, buckets_in}
-use Rattle.rcu_map.specs.Keys.{GoesUp, IsWhole, key_in}
+use Rattle.rcu_map.specs.Keys.{key_in}
 use Rattle.rcu_map.specs.Puts.{HasChanged, IsPutIn}
-use Rattle.rcu_map.specs.Splices.{CanPut, by_put, put}
+use Rattle.rcu_map.specs.Splices.{by_put, put}
 use Rattle.rcu_map.proofs.Allowed.{can_insert, placed}
 use Rattle.rcu_map.proofs.Chains.{free_node}
 use Rattle.rcu_map.proofs.Counted.{entries_few}
@@ -23,20 +21,9 @@ put-requires g c =
     let place = placed c.args.self.now c.self.inside.nodes (key_in words) (key_in words)
     c.args.previous None None c.requires.place c.self.view_is refl refl in
     let k = c.self.invariant in
-    let p : Plan = c.self.inside.nodes.view.client.plan in
-    let before : List Node = nodes_in c.self.inside.nodes.view.client.known in
-    let watches = subst (λ (w : Watching Planned). IsWatcherOf c.args.map.now w)
-    (sym c.self.view_is) c.requires.graph in (
-      omega arith,
-      subst (λ (o : Object Plan). CanPut (IsWhole g.E.Invariant.holds p.words)
-          (λ _ from to. GoesUp p.roots p.seed from to) o c.self.inside.nodes c.args.previous words
-          c.link_of-next.result)
-          (sym c.graph.ensures)
-          (can_insert g.E.Invariant.holds c.args.map.now c.self.inside.nodes k.one k.map watches
-          c.args.previous words some
-          (record { sized = c.told-words ∙ sym k.words; entry = λ up. c.requires.whole })
-          c.link_of-next.result place c.link_of-next.ensures),
-    )
+    can_insert g.E.Invariant.holds c.self.inside.nodes k.one k.map c.args.previous words some
+    (record { sized = c.told-words ∙ sym k.words; entry = λ up. c.requires.whole })
+    c.link_of-next.result place c.link_of-next.ensures
 
 pub overflow_add-self : goal.overflow_add-self
 overflow_add-self g c =

@@ -16,11 +16,11 @@ use Rattle.rcu_map.proofs.keeper.MapKeeper.put_or_wait.Goals as goal
 
 pub returns-in-Ok-clause-old : goal.returns-in-Ok-clause-old
 returns-in-Ok-clause-old g c =
-    (when_told _ _ _ _ _ _ _ _ _ _ c.put.ensures c.in-Ok.old c.in-Ok.is).0
+    (when_told _ _ _ _ _ _ _ _ _ c.put.ensures c.in-Ok.old c.in-Ok.is).0
 
 pub returns-in-Ok-clause-put : goal.returns-in-Ok-clause-put
 returns-in-Ok-clause-put g c =
-    let told = when_told _ _ _ _ _ _ _ _ _ _ c.put.ensures c.in-Ok.old c.in-Ok.is in
+    let told = when_told _ _ _ _ _ _ _ _ _ c.put.ensures c.in-Ok.old c.in-Ok.is in
     put_at_once (buckets_in c.args.self.now) (g.E.Value.in_words c.args.entry) (is_some c.in-Ok.old)
     c.args.seat.now c.args.self.now c.put.new.self c.in_ok-check_outside.ensures _ told.1
 
@@ -28,7 +28,7 @@ pub returns-in_err-wait_for_node-clause-full : goal.returns-in_err-wait_for_node
 returns-in_err-wait_for_node-clause-full g c =
     let p = err_from_is_err_and c.from_residual-in_err-wait_for_node.result
     c.from_residual-in_err-wait_for_node.ensures.1 in
-    let none = when_full _ _ _ _ _ _ _ _ _ _ c.put.ensures c.in_default.field-0
+    let none = when_full _ _ _ _ _ _ _ _ _ c.put.ensures c.in_default.field-0
     c.in_default.is in
     let told = why_full (buckets_in c.put.new.self) c.args.seat.now c.wait_for_node.new.seat
     c.put.new.self
@@ -51,7 +51,7 @@ returns-in_err-wait_for_node-clause-full g c =
 
 pub returns-clause-old : goal.returns-clause-old
 returns-clause-old g c =
-    let none = when_full _ _ _ _ _ _ _ _ _ _ c.put.ensures c.in_default.field-0
+    let none = when_full _ _ _ _ _ _ _ _ _ c.put.ensures c.in_default.field-0
     c.in_default.is in
     let room : HasMadeRoom (buckets_in c.args.self.now) c.args.seat.now c.wait_for_node.new.seat
     c.args.self.now c.wait_for_node.new.self =
@@ -66,12 +66,12 @@ returns-clause-old g c =
     × HasPutIn b (g.E.Value.in_words c.args.entry) (is_some c.in-Ok-put.old)
     (is_put c.args.how (is_some c.in-Ok-put.old)) c.wait_for_node.new.self c.put-2.new.self)
     (ap (λ (p : Plan). p.roots) planned)
-    (when_told _ _ _ _ _ _ _ _ _ _ c.put-2.ensures c.in-Ok-put.old c.in-Ok-put.is) in
+    (when_told _ _ _ _ _ _ _ _ _ c.put-2.ensures c.in-Ok-put.old c.in-Ok-put.is) in
     same_holder _ _ _ _ _ _ _ _ room.looked.entries told.0
 
 pub returns-clause-put : goal.returns-clause-put
 returns-clause-put g c =
-    let none = when_full _ _ _ _ _ _ _ _ _ _ c.put.ensures c.in_default.field-0
+    let none = when_full _ _ _ _ _ _ _ _ _ c.put.ensures c.in_default.field-0
     c.in_default.is in
     let room : HasMadeRoom (buckets_in c.args.self.now) c.args.seat.now c.wait_for_node.new.seat
     c.args.self.now c.wait_for_node.new.self =
@@ -86,7 +86,7 @@ returns-clause-put g c =
     × HasPutIn b (g.E.Value.in_words c.args.entry) (is_some c.in-Ok-put.old)
     (is_put c.args.how (is_some c.in-Ok-put.old)) c.wait_for_node.new.self c.put-2.new.self)
     (ap (λ (p : Plan). p.roots) planned)
-    (when_told _ _ _ _ _ _ _ _ _ _ c.put-2.ensures c.in-Ok-put.old c.in-Ok-put.is) in
+    (when_told _ _ _ _ _ _ _ _ _ c.put-2.ensures c.in-Ok-put.old c.in-Ok-put.is) in
     let puts = wanted_is_put _ _ _ _ _ _ _ c.in-Ok-put.old none.0
     (same_holder _ _ _ _ _ _ _ _ room.looked.entries told.0) in
     put_later (buckets_in c.args.self.now) (g.E.Value.in_words c.args.entry)
@@ -96,7 +96,7 @@ returns-clause-put g c =
 
 pub returns-clause-full : goal.returns-clause-full
 returns-clause-full g c =
-    let none = when_full _ _ _ _ _ _ _ _ _ _ c.put.ensures c.in_default.field-0
+    let none = when_full _ _ _ _ _ _ _ _ _ c.put.ensures c.in_default.field-0
     c.in_default.is in (
       λ e. absurd (cc),
       λ h. absurd (c.in_ok-wait_for_node.ensures.end.0

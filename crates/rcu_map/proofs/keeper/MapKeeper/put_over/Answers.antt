@@ -1,15 +1,13 @@
 use Rattle.std.proofs.Common.{◌<◌, ◌∙◌, Some, arith, refl, subst, sym, true}
 use Rattle.std.specs.Prelude.{MatchResult}
-use Rattle.rcu_live.specs.Board.{Object}
 use Rattle.rcu_live.specs.Watcher.{Watching}
-use Rattle.rcu_graph.specs.Graph.{IsWatcherOf}
 use Rattle.rcu_graph.specs.Nodes.{nodes_in}
 use Rattle.rcu_graph.specs.declared.known.Planned.{Planned}
 use Rattle.rcu_graph.specs.declared.plan.Plan.{Plan}
 use Rattle.rcu_map.specs.Chains.{IsKept, buckets_in}
-use Rattle.rcu_map.specs.Keys.{GoesUp, IsWhole, key_in}
+use Rattle.rcu_map.specs.Keys.{key_in}
 use Rattle.rcu_map.specs.Puts.{HasChanged, IsPutIn}
-use Rattle.rcu_map.specs.Splices.{CanPut, IsFull}
+use Rattle.rcu_map.specs.Splices.{IsFull}
 use Rattle.rcu_map.proofs.Allowed.{can_replace, old_inside, placed}
 use Rattle.rcu_map.proofs.Outcomes.{over_count, over_map, over_plan, over_put}
 use Rattle.rcu_map.proofs.keeper.MapKeeper.put_over.Goals as goal
@@ -21,11 +19,8 @@ link_of-next-requires-clause-node g c =
     let place = placed c.args.self.now c.self.inside.nodes (key_in words) (key_in words)
     c.args.previous (Some c.args.old) (Some c.args.old) c.requires.place c.self.view_is refl refl in
     let k = c.self.invariant in
-    let p : Plan = c.self.inside.nodes.view.client.plan in
-    let watches = subst (λ (w : Watching Planned). IsWatcherOf c.args.map.now w)
-    (sym c.self.view_is) c.requires.graph in
-    old_inside g.E.Invariant.holds c.args.map.now c.self.inside.nodes k.one k.map watches
-    (key_in words) c.args.previous c.args.old place
+    old_inside g.E.Invariant.holds c.self.inside.nodes k.one k.map (key_in words) c.args.previous
+    c.args.old place
 
 pub put-requires : goal.put-requires
 put-requires g c =
@@ -34,19 +29,9 @@ put-requires g c =
     let place = placed c.args.self.now c.self.inside.nodes (key_in words) (key_in words)
     c.args.previous (Some c.args.old) (Some c.args.old) c.requires.place c.self.view_is refl refl in
     let k = c.self.invariant in
-    let p : Plan = c.self.inside.nodes.view.client.plan in
-    let watches = subst (λ (w : Watching Planned). IsWatcherOf c.args.map.now w)
-    (sym c.self.view_is) c.requires.graph in (
-      omega arith,
-      subst (λ (o : Object Plan). CanPut (IsWhole g.E.Invariant.holds p.words)
-          (λ _ from to. GoesUp p.roots p.seed from to) o c.self.inside.nodes c.args.previous words
-          c.link_of-next.result)
-          (sym c.graph.ensures)
-          (can_replace g.E.Invariant.holds c.args.map.now c.self.inside.nodes k.one k.map watches
-          c.args.previous words some
-          (record { sized = c.told-words ∙ sym k.words; entry = λ up. c.requires.whole }) c.args.old
-          c.link_of-next.result place c.link_of-next.ensures),
-    )
+    can_replace g.E.Invariant.holds c.self.inside.nodes k.one k.map c.args.previous words some
+    (record { sized = c.told-words ∙ sym k.words; entry = λ up. c.requires.whole }) c.args.old
+    c.link_of-next.result place c.link_of-next.ensures
 
 pub invariant_of-self : goal.invariant_of-self
 invariant_of-self g c =
@@ -58,19 +43,19 @@ invariant_of-self g c =
     let p : Plan = c.self.inside.nodes.view.client.plan in
     subst (λ (q : Plan). IsKept g.E.Invariant.holds g.row.W q
     (nodes_in c.put.new.keeper.view.client.known) c.self.inside.len)
-    (sym (over_plan g.E.Invariant.holds _ c.self.inside.nodes c.put.new.keeper k.map c.args.previous
+    (sym (over_plan g.E.Invariant.holds c.self.inside.nodes c.put.new.keeper k.map c.args.previous
     c.args.old words c.link_of-next.result some place c.link_of-next.ensures c.put.result
     c.put.ensures))
     (record {
       some = k.some;
       one = k.one;
       words = k.words;
-      map = over_map g.E.Invariant.holds _ c.self.inside.nodes c.put.new.keeper k.map
+      map = over_map g.E.Invariant.holds c.self.inside.nodes c.put.new.keeper k.map
           c.args.previous c.args.old words c.link_of-next.result some place c.link_of-next.ensures
           c.put.result c.put.ensures;
       count =
           let now = k.count in
-          let same = over_count g.E.Invariant.holds _ c.self.inside.nodes c.put.new.keeper k.map
+          let same = over_count g.E.Invariant.holds c.self.inside.nodes c.put.new.keeper k.map
           c.args.previous c.args.old words c.link_of-next.result some place c.link_of-next.ensures
           c.put.result c.put.ensures in
           omega (arith, now, same);
@@ -88,6 +73,6 @@ returns-clause-put g c =
     (λ _. HasChanged (IsPutIn (buckets_in w) words true) w c.put.new.keeper)
     (λ _. IsFull w c.put.new.keeper))
     c.self.view_is
-    (over_put g.E.Invariant.holds _ c.self.inside.nodes c.put.new.keeper k.map c.args.previous
+    (over_put g.E.Invariant.holds c.self.inside.nodes c.put.new.keeper k.map c.args.previous
     c.args.old words c.link_of-next.result some place c.link_of-next.ensures c.put.result
     c.put.ensures)

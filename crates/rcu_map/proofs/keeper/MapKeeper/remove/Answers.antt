@@ -1,7 +1,5 @@
 use Rattle.std.proofs.Common.{◌<◌, ◌-◌, ℕ, List, Some, ap, arith, refl, subst, sym}
-use Rattle.rcu_live.specs.Board.{Object}
 use Rattle.rcu_live.specs.Watcher.{Watching}
-use Rattle.rcu_graph.specs.Graph.{IsWatcherOf}
 use Rattle.rcu_graph.specs.Nodes.{nodes_in}
 use Rattle.rcu_graph.specs.Tended.{relinked}
 use Rattle.rcu_graph.specs.declared.known.Planned.{Planned}
@@ -9,9 +7,8 @@ use Rattle.rcu_graph.specs.declared.known.Node.{Node}
 use Rattle.rcu_graph.specs.declared.plan.Plan.{Plan}
 use Rattle.rcu_map.specs.Chains.{IsKept, buckets_in}
 use Rattle.rcu_map.specs.Entries.{HasKey, IsRemoved}
-use Rattle.rcu_map.specs.Keys.{GoesUp}
 use Rattle.rcu_map.specs.Puts.{HasChanged}
-use Rattle.rcu_map.specs.Splices.{CanPass, by_passing}
+use Rattle.rcu_map.specs.Splices.{by_passing}
 use Rattle.rcu_map.proofs.Chains.{no_entry_of_0}
 use Rattle.rcu_map.proofs.Removals.{removed, removed_count, removed_map}
 use Rattle.rcu_map.proofs.Allowed.{can_remove, placed}
@@ -33,16 +30,8 @@ pass-requires g c =
     c.place_of-place.result.node (Some c.in-Some.old) c.place_of-place.ensures.place c.self.view_is
     refl c.in-Some.is in
     let k = c.self.invariant in
-    let p : Plan = c.self.inside.nodes.view.client.plan in
-    let watches = subst (λ (w : Watching Planned). IsWatcherOf c.args.map.now w)
-    (sym c.self.view_is) c.requires in (
-      omega arith,
-      subst (λ (o : Object Plan). CanPass (λ _ from to. GoesUp p.roots p.seed from to) o
-          c.self.inside.nodes previous c.in-Some.old)
-          (sym c.graph.ensures)
-          (can_remove g.E.Invariant.holds c.args.map.now c.self.inside.nodes k.one k.map watches
-          c.args.key previous c.in-Some.old place),
-    )
+    can_remove g.E.Invariant.holds c.self.inside.nodes k.one k.map c.args.key previous c.in-Some.old
+    place
 
 pub overflow_sub-self : goal.overflow_sub-self
 overflow_sub-self g c =

@@ -8,6 +8,7 @@ use Rattle.rcu_graph.specs.Nodes.{nodes_in}
 use Rattle.rcu_graph.specs.Tended.{AreAllUsed}
 use Rattle.rcu_graph.specs.declared.known.Planned.{Planned}
 use Rattle.rcu_graph.specs.declared.plan.Plan.{Plan}
+use Rattle.rcu_graph.proofs.Walking.{same_watches}
 use Rattle.rcu_map.specs.Chains.{buckets_in}
 use Rattle.rcu_map.specs.Entries.{AreSameEntries}
 use Rattle.rcu_map.specs.Waits.{HasGivenUp}
@@ -18,7 +19,10 @@ pub loop-init : goal.loop-init
 loop-init g c =
     let a = c.age.ensures in
     record {
-      of_map = record { keeper_of = a.graph; seat_of = c.requires.of_map.seat_of };
+      of_map = record {
+        keeper_of = same_watches _ _ _ a.same c.requires.of_map.keeper_of;
+        seat_of = c.requires.of_map.seat_of;
+      };
       depth = c.requires.outside;
       rested = rested_none c.args.seat.now;
       aged = aged_once (buckets_in c.args.self.now) c.args.self.now c.age.new.self c.age.result
@@ -84,7 +88,7 @@ loop-preserved g c =
     (ap (λ (k : Watching Planned). k.view.loads) a.ensures.state) in
     record {
       of_map = record {
-        keeper_of = a.ensures.graph;
+        keeper_of = same_watches _ _ _ a.ensures.same i.of_map.keeper_of;
         seat_of = (w.table ∙ i.of_map.seat_of.0, w.base ∙ i.of_map.seat_of.1);
       };
       depth = w.depth ∙ i.depth;

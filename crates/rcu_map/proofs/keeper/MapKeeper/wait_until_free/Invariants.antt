@@ -8,7 +8,7 @@ use Rattle.rcu_map.proofs.keeper.MapKeeper.wait_until_free.Given as goal
 
 abbrev pub invariant-loop : goal.invariant-loop
 invariant-loop g l = record {
-  of_map : AreOf l.map l.self l.seat;
+  of_map : AreOf l.live l.self l.seat;
   depth : l.seat.depth ≡ 0;
   rested : HasRested l.fn.seat l.seat;
   aged : HasAged (buckets_in l.fn.self) l.fn.self l.self;

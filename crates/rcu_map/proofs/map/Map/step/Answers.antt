@@ -19,18 +19,16 @@ follow-requires g c =
     let p : Plan = c.self.inside.graph.plan in
     let o = on_words p.nodes p.roots p.seed p.words c.args.seat.now.view.client.known c.args.at
     (let words = c.self.invariant.words in omega (arith, c.words_are_two.ensures, words)) inside
-    (may.on inside) in (
-      omega arith,
-      (
-        record {
-          walking = may.walking;
-          words = o.words;
-          on = o.on;
-          inside = (may.on inside).inside;
-        },
-        let one = c.self.invariant.one in omega (arith, one),
-      ),
-    )
+    (may.on inside) in
+    record {
+      at = record {
+        walking = may.walking;
+        words = o.words;
+        on = o.on;
+        inside = (may.on inside).inside;
+      };
+      link = let one = c.self.invariant.one in omega (arith, one);
+    }
 
 pub returns-in_default : goal.returns-in_default
 returns-in_default g c =

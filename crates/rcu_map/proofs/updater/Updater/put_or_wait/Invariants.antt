@@ -7,7 +7,7 @@ use Rattle.rcu_map.proofs.updater.Updater.put_or_wait.Given as goal
 
 abbrev pub invariant-loop : goal.invariant-loop
 invariant-loop g l = record {
-  seat : IsSeatOf l.self l.seat;
+  seat : IsSeatOf l.live l.seat;
   depth : l.seat.depth ≡ 0;
   rested : HasRested l.fn.seat l.seat;
   waited : IfErr l.waited (λ fault. fault ≡ Exhausted);

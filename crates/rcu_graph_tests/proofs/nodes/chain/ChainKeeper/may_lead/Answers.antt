@@ -6,7 +6,7 @@ use Rattle.rcu_graph.specs.Nodes.{is_live, node_at, nodes_in, state_at}
 use Rattle.rcu_graph.specs.declared.known.Node.{Node}
 use Rattle.rcu_graph.specs.declared.plan.Plan.{Plan}
 use Rattle.rcu_graph_tests.proofs.Targets.{greater_target}
-use Rattle.rcu_graph_tests.proofs.nodes.chain.ChainAndKeeper.may_lead.Goals as goal
+use Rattle.rcu_graph_tests.proofs.nodes.chain.ChainKeeper.may_lead.Goals as goal
 
 pub returns : goal.returns
 returns c = λ up.
@@ -14,7 +14,7 @@ returns c = λ up.
     let n : ℕ = c.in-Some.node in
     let here : word_to c.args.to ≡ suc n = ap word_to c.in-Some.is in
     let few : length nodes ≡ 4 =
-    c.tends.ensures.keeper.few ∙ ap (λ (p : Plan). p.nodes) c.args.self.now.sized in
+    c.tends.ensures.few ∙ ap (λ (p : Plan). p.nodes) c.args.self.now.sized in
     let low : n < length nodes = (let small = c.if-node-ge4.false in omega (arith, small, few)) in
     let live : is_live (state_at nodes n) ≡ true = search rules in
     let first : c.word.result ≡ slice_index (node_at nodes c.args.from).words 0 = c.word.ensures in
