@@ -33,7 +33,7 @@ is_inside opened nodes j may = dite (dec_lt j (length nodes))
     (λ (high : j < length nodes → ⊥). absurd (subst (λ (v : Node). MayRead opened v.state)
     (get_or_past nodes j no_node (omega (arith, high))) may))
 
-aged_at : (n m : ℕ) (nodes : List Node) (j : ℕ) → j < length nodes
+pub aged_at : (n m : ℕ) (nodes : List Node) (j : ℕ) → j < length nodes
     → node_at (aged n m nodes) j ≡ aged_node n m (node_at nodes j)
 aged_at n m nodes j low =
     let there : get_elem? (aged n m nodes) j ≡ some (aged_node n m (node_at nodes j)) =

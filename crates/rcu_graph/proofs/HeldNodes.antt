@@ -141,13 +141,17 @@ module _ (fits : List ℕ → Type 0) (joins : ℕ → List ℕ → List ℕ →
   is_there nodes i v e =
       some-injective _ _ (sym (at_inside nodes i no_node (inside nodes i v e)) ∙ e)
 
-  pub hop_true : (table : List ℕ) (homes : Slots (Unit {0})) (xs : Views Known)
-      (keeper id i l latest : ℕ) (who own cpu section : Option ℕ) (nodes : List Node)
+  -- a hop was true of the nodes at its load, which the keeper knows right after it still
+  pub hop_true_then : (table later_table : List ℕ) (homes later_homes : Slots (Unit {0}))
+      (xs ys : Views Known) (keeper id i l latest : ℕ) (who own cpu section : Option ℕ)
+      (later_who later_own later_cpu later_section : Option ℕ) (nodes : List Node)
       (stored : List (List Node)) (was now : Known) (words : List ℕ)
       → IsKept fits joins first roots links width count table homes xs
-      → IsKept fits joins first roots links width count table homes (set xs id (cpu, section, now))
+      → IsKept fits joins first roots links width count later_table later_homes ys
       → get_elem? xs keeper ≡ some (who, own, Keeper latest nodes stored)
+      → get_elem? ys keeper ≡ some (later_who, later_own, Keeper latest nodes stored)
       → get_elem? xs id ≡ some (cpu, section, was)
+      → get_elem? ys id ≡ some (later_cpu, later_section, now)
       → IsReader was
       → IsOn first roots was i words
       → l < links
@@ -158,9 +162,9 @@ module _ (fits : List ℕ → Type 0) (joins : ℕ → List ℕ → List ℕ →
       × (hop.from ≡ i)
       × (hop.link ≡ l)
       × IsTrueOf nodes hop
-  hop_true table homes xs keeper id i l latest who own cpu section nodes stored was now words h h'
-      kept
-      at reads on low told =
+  hop_true_then table later_table homes later_homes xs ys keeper id i l latest who own cpu section
+      later_who later_own later_cpu later_section nodes stored was now words h h' kept still at then
+      reads on low told =
       let x : ℕ = slice_index table (place_of (links + width) i l) in
       let f : Followed fits (joins l words) width count was i l x now =
       told i l words low refl on in
@@ -185,12 +189,7 @@ module _ (fits : List ℕ → Type 0) (joins : ℕ → List ℕ → List ℕ →
           → slice_index table (place_of (links + width) i l) ≡ suc j
           → f.words ≡ (node_at nodes j).words
       came f j e =
-          let apart : keeper ≢ id = λ same. not_reader was latest nodes stored
-          (ap (λ (y : ClientView Known). y.2)
-          (some-injective _ _ (sym at ∙ (ap (λ (n : ℕ). get_elem? xs n) (sym same) ∙ kept))))
-          reads in
-          let still = h'.seats keeper who own (Keeper latest nodes stored)
-          (set_else xs id keeper (cpu, section, now) apart ∙ kept) in
+          let known = h'.seats keeper later_who later_own (Keeper latest nodes stored) still in
           let held : IsHeld now j f.words = subst (λ (k : Known). IsHeld k j f.words) (sym f.is) (
             0,
             record {
@@ -203,13 +202,39 @@ module _ (fits : List ℕ → Type 0) (joins : ℕ → List ℕ → List ℕ →
             e,
             refl,
           ) in
-          let r : Reading h'.nodes section j f.words = holds_it table homes
-          (set xs id (cpu, section, now)) h' id j cpu section now f.words
-          (set_here xs id (cpu, section, now) (inside xs id (cpu, section, was) at))
-          (subst IsReader (sym f.is) tt) held in
+          let r : Reading h'.nodes later_section j f.words = holds_it later_table later_homes ys h'
+          id j later_cpu later_section now f.words then (subst IsReader (sym f.is) tt) held in
           sym (ap (λ (v : Node). v.words)
-          (ap (λ (s : List Node). node_at s j) still.1 ∙ is_there h'.nodes j r.on r.here)
+          (ap (λ (s : List Node). node_at s j) known.1 ∙ is_there h'.nodes j r.on r.here)
           ∙ r.same)
+
+  pub hop_true : (table : List ℕ) (homes : Slots (Unit {0})) (xs : Views Known)
+      (keeper id i l latest : ℕ) (who own cpu section : Option ℕ) (nodes : List Node)
+      (stored : List (List Node)) (was now : Known) (words : List ℕ)
+      → IsKept fits joins first roots links width count table homes xs
+      → IsKept fits joins first roots links width count table homes (set xs id (cpu, section, now))
+      → get_elem? xs keeper ≡ some (who, own, Keeper latest nodes stored)
+      → get_elem? xs id ≡ some (cpu, section, was)
+      → IsReader was
+      → IsOn first roots was i words
+      → l < links
+      → IsFollowed fits joins first roots links width count (place_of (links + width) i l) was
+      (slice_index table (place_of (links + width) i l)) now
+      → (hop : Hop)
+      × (hops_in now ≡ hop ∷ hops_in was)
+      × (hop.from ≡ i)
+      × (hop.link ≡ l)
+      × IsTrueOf nodes hop
+  hop_true table homes xs keeper id i l latest who own cpu section nodes stored was now words h h'
+      kept at reads on low told =
+      let apart : keeper ≢ id = λ same. not_reader was latest nodes stored
+      (ap (λ (y : ClientView Known). y.2)
+      (some-injective _ _ (sym at ∙ (ap (λ (n : ℕ). get_elem? xs n) (sym same) ∙ kept))))
+      reads in
+      hop_true_then table table homes homes xs (set xs id (cpu, section, now)) keeper id i l latest
+      who own cpu section who own cpu section nodes stored was now words h h' kept
+      (set_else xs id keeper (cpu, section, now) apart ∙ kept) at
+      (set_here xs id (cpu, section, now) (inside xs id (cpu, section, was) at)) reads on low told
 
   -- at each moment the nodes are chained, where the keys go up and a link stays in its chain
   pub chains : (ours : List ℕ → Bool) (root : ℕ) (table : List ℕ) (homes : Slots (Unit {0}))

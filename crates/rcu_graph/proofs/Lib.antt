@@ -8,9 +8,13 @@ pub mod Keeping
 pub mod Walking
 pub mod Starts
 pub mod Searching
+pub mod GoingOn
+pub mod SmallMoments
 pub mod SmallRuns
 pub mod Chains
 pub mod Hindsight
+pub mod Beside
+pub mod Stores
 pub mod Counting
 pub mod FirstNodes
 pub mod Filling

@@ -1,4 +1,5 @@
 pub mod Absence
+pub mod Beside
 pub mod Counts
 pub mod Cycle
 pub mod Filling

@@ -1,11 +1,23 @@
 //! What the words of searches and of their keeper's steps say, on a small run.
-ghost use Rattle.std.specs.Prelude.{◌≡◌, ◌≤◌, [], ◌∷◌, ℕ, List, Some, suc, true};
+ghost use Rattle.std.specs.Prelude.{◌≡◌, ◌<◌, ◌≤◌, ◌+◌, [], ◌∷◌, ℕ, List, Some, length};
+ghost use Rattle.std.specs.Prelude.{max, suc, true};
 ghost use Rattle.rcu_graph.specs.Absence.{AreMadeBy, AreSameFor, IsHistory, IsLinkedKey};
+ghost use Rattle.rcu_graph.specs.Beside.{AreOnChain, CanGoOn, GoesOn, IsChainOf, IsKeeperMove};
+ghost use Rattle.rcu_graph.specs.Beside.{IsKeptAt, IsKeptOver, IsOnChain, IsOpenAt, IsOpenOver};
+ghost use Rattle.rcu_graph.specs.Beside.{IsSectionMove, Moment, nodes_at};
+ghost use Rattle.rcu_graph.specs.Keeper.{IsReady};
+ghost use Rattle.rcu_graph.specs.Nodes.{IsOn, IsTarget, IsUnlinked, aged, hops_in, in_state};
+ghost use Rattle.rcu_graph.specs.Nodes.{latest_in, linked_to, node_at, nodes_in, renewed};
+ghost use Rattle.rcu_graph.specs.Nodes.{state_at, stored_in, worded};
 ghost use Rattle.rcu_graph.specs.Search.{IsSearched, key_after};
-ghost use Rattle.rcu_graph.specs.SmallRun.{first_hop, second_hop, small_nodes};
-ghost use Rattle.rcu_graph.specs.Steps.{IsLedTo};
+ghost use Rattle.rcu_graph.specs.SmallRun.{first_hop, second_hop, small_first, small_fits};
+ghost use Rattle.rcu_graph.specs.SmallRun.{small_joins, small_moment, small_moments, small_nodes};
+ghost use Rattle.rcu_graph.specs.SmallRun.{small_plan};
+ghost use Rattle.rcu_graph.specs.Steps.{IsLedTo, keeping, storing};
+ghost use Rattle.rcu_graph.specs.declared.known.Hop.{Hop};
 ghost use Rattle.rcu_graph.specs.declared.known.Known.{Known};
-ghost use Rattle.rcu_graph.specs.declared.known.Known.TheVariants.{Reader};
+ghost use Rattle.rcu_graph.specs.declared.known.Known.TheVariants.{Keeper, Reader};
+ghost use Rattle.rcu_graph.specs.declared.node_state.NodeState.TheVariants.{Free, Left, Live};
 ghost use Rattle.rcu_graph.specs.declared.plan.Plan.{Plan};
 
 use crate::rule::Shape;
@@ -23,6 +35,92 @@ pub fn a_search_may_go_on_beside_its_keeper()
     ensures not_aside { (opened : ℕ) → AreSameFor opened (small_nodes 0) (small_nodes 1) → ⊥ }
     ensures searched { IsSearched 0 7 (Reader []) (Some 2)
         (Reader (second_hop ∷ first_hop ∷ [])) }
+{}
+
+/// A section makes a hop, the keeper publishes a node, and the section goes on to it, each by one
+/// move. No move takes it to that node before, and none takes the store back. The node that leads
+/// to the new one is on the chain of the root, and on none behind the new one.
+pub fn a_section_goes_on_over_a_run()
+    ensures kept { (kept : IsKeptOver small_fits small_joins small_first small_plan 0 3
+        small_moments) × AreOnChain small_fits small_joins small_first small_plan (λ _. true) 0 0 3
+        small_moments kept }
+    ensures walks { IsOpenOver small_fits small_joins small_first small_plan 1 0 3 small_moments }
+    ensures chain { IsChainOf small_joins small_first small_plan (λ _. true) 0 }
+    ensures nodes { (t : ℕ) → t ≤ 1 → nodes_at small_moments (suc t) ≡ small_nodes t }
+    ensures not_before { IsSectionMove small_fits small_joins small_first small_plan
+        (small_moment 0 (first_hop ∷ [])) (small_moment 0 (second_hop ∷ first_hop ∷ [])) → ⊥ }
+    ensures not_back { IsKeeperMove small_plan (small_moment 1 []) (small_moment 0 []) → ⊥ }
+    ensures not_on_chain { (move : IsKeeperMove small_plan (small_moments 1) (small_moments 2)) →
+        IsOnChain small_plan (small_moments 1) (small_moments 2) (λ _. true) 2 move → ⊥ }
+    ensures not_keeper { IsKeptAt small_fits small_joins small_first small_plan 1
+        (small_moment 0 []) → ⊥ }
+    ensures not_later { IsOpenAt small_fits small_joins small_first small_plan 1 1
+        (small_moment 0 []) → ⊥ }
+    ensures not_chain { IsChainOf small_joins small_first small_plan (λ _. true) 1 → ⊥ }
+{}
+
+/// A run goes on by each step that a section or the keeper may make: it leads from such a moment to
+/// such a one, by a move.
+pub fn runs_go_on_by_steps<F: Shape>()
+    ensures followed { (plan : Plan) (keeper seat opened number node link : ℕ) (words : List ℕ)
+        (before : Moment) →
+        CanGoOn F.fits F.joins F.first plan keeper seat opened number before →
+        link < plan.links → IsOn (F.first plan) plan.roots before.section node words →
+        (after : Moment) × GoesOn F.fits F.joins F.first plan keeper seat opened before after
+        × (hop : Hop) × (hops_in after.section ≡ hop ∷ hops_in before.section)
+        × (hop.from ≡ node) × (hop.link ≡ link) }
+    ensures wrote { (plan : Plan) (keeper seat opened number node word value : ℕ)
+        (before : Moment) →
+        CanGoOn F.fits F.joins F.first plan keeper seat opened number before →
+        node < length (nodes_in before.keeper) → state_at (nodes_in before.keeper) node ≡ Free →
+        word < plan.words →
+        (after : Moment) × GoesOn F.fits F.joins F.first plan keeper seat opened before after
+        × (after.keeper ≡ keeping before.keeper
+        (renewed (nodes_in before.keeper) node (worded word value))) }
+    ensures wrote_link { (plan : Plan) (keeper seat opened number node link value : ℕ)
+        (before : Moment) →
+        CanGoOn F.fits F.joins F.first plan keeper seat opened number before →
+        node < length (nodes_in before.keeper) → state_at (nodes_in before.keeper) node ≡ Free →
+        link < plan.links →
+        (after : Moment) × GoesOn F.fits F.joins F.first plan keeper seat opened before after
+        × (after.keeper ≡ keeping before.keeper
+        (renewed (nodes_in before.keeper) node (linked_to link value))) }
+    ensures led { (plan : Plan) (keeper seat opened number node link value : ℕ)
+        (before : Moment) →
+        CanGoOn F.fits F.joins F.first plan keeper seat opened number before →
+        node < length (nodes_in before.keeper) → link < plan.links →
+        state_at (nodes_in before.keeper) node ≡ Live →
+        IsTarget (F.joins plan link) (node_at (nodes_in before.keeper) node).words
+        (nodes_in before.keeper) value →
+        (after : Moment) × GoesOn F.fits F.joins F.first plan keeper seat opened before after
+        × (after.keeper ≡ storing before.keeper
+        (renewed (nodes_in before.keeper) node (linked_to link value))) }
+    ensures published { (plan : Plan) (keeper seat opened number from link to : ℕ)
+        (before : Moment) →
+        CanGoOn F.fits F.joins F.first plan keeper seat opened number before →
+        from < length (nodes_in before.keeper) → to < length (nodes_in before.keeper) →
+        link < plan.links → state_at (nodes_in before.keeper) from ≡ Live →
+        IsReady (F.fits plan) (F.joins plan) plan.links (nodes_in before.keeper) to →
+        F.joins plan link (node_at (nodes_in before.keeper) from).words
+        (node_at (nodes_in before.keeper) to).words →
+        (after : Moment) × GoesOn F.fits F.joins F.first plan keeper seat opened before after
+        × (after.keeper ≡ storing before.keeper
+        (renewed (renewed (nodes_in before.keeper) to (in_state Live)) from
+        (linked_to link (suc to)))) }
+    ensures left { (plan : Plan) (keeper seat opened number node : ℕ) (before : Moment) →
+        CanGoOn F.fits F.joins F.first plan keeper seat opened number before →
+        node < length (nodes_in before.keeper) → 0 < plan.links + plan.words →
+        plan.roots ≤ node → state_at (nodes_in before.keeper) node ≡ Live →
+        IsUnlinked plan.links (nodes_in before.keeper) node →
+        (after : Moment) × GoesOn F.fits F.joins F.first plan keeper seat opened before after
+        × (after.keeper ≡ keeping before.keeper
+        (renewed (nodes_in before.keeper) node (in_state Left))) }
+    ensures looked { (plan : Plan) (keeper seat opened number : ℕ) (before : Moment) →
+        CanGoOn F.fits F.joins F.first plan keeper seat opened number before →
+        (after : Moment) × GoesOn F.fits F.joins F.first plan keeper seat opened before after
+        × (after.keeper ≡ Keeper (max number (latest_in before.keeper))
+        (aged number (max number (latest_in before.keeper)) (nodes_in before.keeper))
+        (stored_in before.keeper)) }
 {}
 
 /// What a search finds is where its last hop led, and has the key.

@@ -1,6 +1,7 @@
 //! What the rule says of nodes that open sections hold, and of what their hops find, over the
 //! definitions alone.
-ghost use Rattle.std.specs.Prelude.{◌≡◌, ◌≢◌, ◌<◌, ◌≤◌, ◌+◌, ◌∷◌, Bool, IsSome, IsTrue};
+ghost use Rattle.std.specs.Prelude.{◌≡◌, ◌≢◌, ◌<◌, ◌≤◌, ◌+◌, ◌↔◌, ◌++◌, ◌∷◌, Bool};
+ghost use Rattle.std.specs.Prelude.{IsSome, IsTrue};
 ghost use Rattle.std.specs.Prelude.{List, Option, Some, ℕ, slice_index, slice_set, suc, true};
 ghost use mathlib.Core.Option.{some};
 ghost use lib.ListN.{get_elem?};
@@ -9,10 +10,12 @@ ghost use Rattle.rcu_live.specs.Numbers.{is_open_at};
 ghost use Rattle.rcu_live.specs.Watcher.{Watching};
 ghost use Rattle.rcu_graph.specs.Absence.{AreMadeBy, IsChained, IsHistory, IsKeeperStep};
 ghost use Rattle.rcu_graph.specs.Absence.{IsLinkedKey, IsOnIfOurs, IsTrueOf};
+ghost use Rattle.rcu_graph.specs.Beside.{AreOnChain, IsChainOf, IsKeptOver, IsOpenOver, Moment};
+ghost use Rattle.rcu_graph.specs.Beside.{nodes_at};
 ghost use Rattle.rcu_graph.specs.Keeper.{after_leave, after_link, after_look, after_publish};
 ghost use Rattle.rcu_graph.specs.Keeper.{after_write, after_write_link};
 ghost use Rattle.rcu_graph.specs.Nodes.{IsHeld, IsOn, IsReader, hops_in, nodes_in, place_of};
-ghost use Rattle.rcu_graph.specs.Nodes.{state_at};
+ghost use Rattle.rcu_graph.specs.Nodes.{state_at, stored_in};
 ghost use Rattle.rcu_graph.specs.Planned.{IsKeptBy, of_plan, tells_follow};
 ghost use Rattle.rcu_graph.specs.Search.{Ascends, IsSearched};
 ghost use Rattle.rcu_graph.specs.declared.known.Hop.{Hop};
@@ -149,4 +152,61 @@ pub fn found_keys_were_linked()
         IsHistory ours opened root last nodes →
         AreMadeBy nodes last (search.last ∷ search.path) →
         (t : ℕ) × (t ≤ last) × IsLinkedKey root key (nodes t) }
+{}
+
+/// The hops that a section makes over a run are made by the run's moments: each is true of the
+/// nodes at its load, and they are in order.
+pub fn hops_are_made_by_their_run<F: Shape>()
+    ensures { (plan : Plan) (keeper seat opened last : ℕ) (moments : ℕ → Moment) →
+        IsKeptOver F.fits F.joins F.first plan keeper last moments →
+        IsOpenOver F.fits F.joins F.first plan seat opened last moments →
+        (hops : List Hop)
+        × (hops_in (moments last).section ≡ hops ++ hops_in (moments 0).section)
+        × AreMadeBy (nodes_at moments) last hops }
+{}
+
+/// The nodes at the moments of a run beside an open section are a history, where each live node
+/// that the keeper led elsewhere was on its chain.
+pub fn runs_are_histories<F: Shape>()
+    ensures { (plan : Plan) (ours : List ℕ → Bool) (root keeper seat opened last : ℕ)
+        (moments : ℕ → Moment) → IsChainOf F.joins F.first plan ours root →
+        (kept : IsKeptOver F.fits F.joins F.first plan keeper last moments) →
+        IsOpenOver F.fits F.joins F.first plan seat opened last moments →
+        AreOnChain F.fits F.joins F.first plan ours root keeper last moments kept →
+        IsHistory ours opened root last (nodes_at moments) }
+{}
+
+/// Where the keeper leads no live node elsewhere between two moments of a run, the same keys are
+/// linked at both.
+pub fn keys_stay_linked_between_stores<F: Shape>()
+    ensures { (plan : Plan) (ours : List ℕ → Bool) (root key keeper last before after : ℕ)
+        (moments : ℕ → Moment) → IsChainOf F.joins F.first plan ours root →
+        IsKeptOver F.fits F.joins F.first plan keeper last moments →
+        before ≤ after → after ≤ last →
+        stored_in (moments after).keeper ≡ stored_in (moments before).keeper →
+        IsLinkedKey root key (nodes_at moments before) ↔
+        IsLinkedKey root key (nodes_at moments after) }
+{}
+
+/// A key that is linked at each moment of a run, from the search's beginning to its end, is found:
+/// the search's hops are the loads of the run.
+pub fn keys_linked_over_a_run_are_found<F: Shape>()
+    ensures { (plan : Plan) (ours : List ℕ → Bool) (root key keeper seat opened last : ℕ)
+        (moments : ℕ → Moment) (found : Option ℕ) → IsChainOf F.joins F.first plan ours root →
+        (kept : IsKeptOver F.fits F.joins F.first plan keeper last moments) →
+        IsOpenOver F.fits F.joins F.first plan seat opened last moments →
+        AreOnChain F.fits F.joins F.first plan ours root keeper last moments kept →
+        IsSearched root key (moments 0).section found (moments last).section →
+        ((t : ℕ) → t ≤ last → IsLinkedKey root key (nodes_at moments t)) → IsSome found }
+{}
+
+/// What a search over a run finds was linked at a moment of it.
+pub fn keys_found_over_a_run_were_linked<F: Shape>()
+    ensures { (plan : Plan) (ours : List ℕ → Bool) (root key keeper seat opened last node : ℕ)
+        (moments : ℕ → Moment) → IsChainOf F.joins F.first plan ours root →
+        (kept : IsKeptOver F.fits F.joins F.first plan keeper last moments) →
+        IsOpenOver F.fits F.joins F.first plan seat opened last moments →
+        AreOnChain F.fits F.joins F.first plan ours root keeper last moments kept →
+        IsSearched root key (moments 0).section (Some node) (moments last).section →
+        (t : ℕ) × (t ≤ last) × IsLinkedKey root key (nodes_at moments t) }
 {}

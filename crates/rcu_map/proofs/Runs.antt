@@ -8,7 +8,7 @@ use Rattle.std.proofs.Math.Nat.{le-max_left}
 use Rattle.rcu_live.specs.Numbers.{is_open_at}
 use Rattle.rcu_live.specs.Watcher.{Watching}
 use Rattle.rcu_graph.specs.Absence.{AreSameFor, IsChained, IsHistory, IsKeeperStep, IsLinkedKey}
-use Rattle.rcu_graph.specs.Absence.{IsOnIfOurs, Reaches, arrived, aside, key_at, linked, next_of}
+use Rattle.rcu_graph.specs.Absence.{IsOnIfOurs, arrived, aside, key_at, linked, next_of}
 use Rattle.rcu_graph.specs.Absence.{onwards, published}
 use Rattle.rcu_graph.specs.Graph.{word_to}
 use Rattle.rcu_graph.specs.Keeper.{after_look}
@@ -20,6 +20,7 @@ use Rattle.rcu_graph.specs.declared.node_state.NodeState.TheVariants.{Free, Live
 use Rattle.rcu_graph.specs.declared.plan.Plan.{Plan}
 use Rattle.rcu_graph.proofs.Chains.{same_aged, unseen_where_free}
 use Rattle.rcu_graph.proofs.Counting.{kept_at, other_node}
+use Rattle.rcu_graph.proofs.Stores.{linked_on, reached_on}
 use Rattle.rcu_map.specs.Chains.{AreOfOneBucket, IsMap}
 use Rattle.rcu_map.specs.Entries.{HasEntry, HasKey}
 use Rattle.rcu_map.specs.Keys.{GoesUp, bucket_in, bucket_of, key_in, root_words}
@@ -57,29 +58,6 @@ chained_by buckets seed width root nodes led live own wide = record {
     there i j on leads =
         target_there (λ from to. GoesUp buckets seed from to) (node_at nodes i).words nodes
         (next_of nodes i) j (led i 0 on (omega arith)) leads
-
--- what is linked by live nodes is so in all nodes that have the same links and words
-module _ (ours : List ℕ → Bool) (root : ℕ) (A B : List Node) (c : IsChained ours root A)
-    (same : (y : ℕ) → state_at A y ≡ Live
-    → (next_of B y ≡ next_of A y) × (key_at B y ≡ key_at A y)) where
-  reached_on : (to from : ℕ) → state_at A from ≡ Live → Reaches A to from → Reaches B to from
-  reached_on to from live (arrived _ e) = arrived from e
-  reached_on to from live (onwards _ n is r) =
-      onwards from n ((same from live).0 ∙ is) (reached_on to n (c.live from n live is) r)
-
-  live_at_end : (to from : ℕ) → state_at A from ≡ Live → Reaches A to from → state_at A to ≡ Live
-  live_at_end to from live (arrived _ e) = subst (λ (n : ℕ). state_at A n ≡ Live) e live
-  live_at_end to from live (onwards _ n is r) = live_at_end to n (c.live from n live is) r
-
-  linked_on : (key : ℕ) → IsLinkedKey root key A → IsLinkedKey root key B
-  linked_on key k =
-      let first = c.live root k.begin c.rooted k.begins in record {
-        begin = k.begin;
-        holder = k.holder;
-        begins = (same root c.rooted).0 ∙ k.begins;
-        reached = reached_on k.holder k.begin first k.reached;
-        has = (same k.holder (live_at_end k.holder k.begin first k.reached)).1 ∙ k.has;
-      }
 
 -- one timeline after another
 module _ (ours : List ℕ → Bool) (opened root : ℕ) where
@@ -163,7 +141,7 @@ module _ (holds : List ℕ → Type 0) (buckets seed width count opened key : �
     c = map_chained A m
 
     -- a live node of the bucket is on its chain
-    on_chain : (i : ℕ) → state_at A i ≡ Live → IsOnIfOurs ours root A i
+    pub on_chain : (i : ℕ) → state_at A i ≡ Live → IsOnIfOurs ours root A i
     on_chain i live mine = ⊎_elim
         (λ (is_root : i < buckets). arrived root
         (sym (eqb-true (bucket_in buckets seed (node_at A i).words) root mine)

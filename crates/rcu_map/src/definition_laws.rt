@@ -1,15 +1,17 @@
 //! What the words of runs of a keeper's calls say.
-ghost use Rattle.std.specs.Prelude.{◌≡◌, ◌∷◌, ℕ, Bool, List, true};
+ghost use Rattle.std.specs.Prelude.{◌≡◌, ◌↔◌, ◌≤◌, ◌∷◌, ℕ, Bool, List, true};
 ghost use Rattle.rcu_live.specs.Numbers.{is_open_at};
 ghost use Rattle.rcu_live.specs.Watcher.{Watching};
+ghost use Rattle.rcu_graph.specs.Beside.{Moment};
 ghost use Rattle.rcu_graph.specs.Keeper.{after_look};
 ghost use Rattle.rcu_graph.specs.Nodes.{nodes_in, stored_in};
 ghost use Rattle.rcu_graph.specs.declared.known.Planned.{Planned};
 ghost use Rattle.rcu_graph.specs.declared.plan.Plan.{Plan};
+ghost use Rattle.rcu_map.specs.Beside.{AreMadeOver, HadKey};
 ghost use Rattle.rcu_map.specs.Entries.{HasKey};
 ghost use Rattle.rcu_map.specs.Keys.{key_in};
 ghost use Rattle.rcu_map.specs.Puts.{HasChanged, IsByOneStore, IsPutIn};
-ghost use Rattle.rcu_map.specs.Runs.{HasKeyThroughout, IsMapOf, IsRun};
+ghost use Rattle.rcu_map.specs.Runs.{HasKeyThroughout, IsMapOf, IsRun, begun, changed};
 
 use crate::entry::Entry;
 
@@ -38,4 +40,31 @@ pub fn runs_go_on_by_calls<E: Entry<W>, const W: usize>()
 pub fn a_change_is_one_store()
     ensures { (before after : Watching Planned) (by : IsByOneStore before after) →
         stored_in after.view.client.known ≡ by.stored ∷ stored_in before.view.client.known }
+{}
+
+/// Calls are made over moments where the keeper knows what it does between them: the first at the
+/// moment 0, and each at or after the one before. A key that is there throughout was there, and
+/// where there was no call it was there at the beginning.
+pub fn calls_are_made_over_moments<E: Entry<W>, const W: usize>()
+    ensures begun { (plan : Plan) (opened t : ℕ) (moments : ℕ → Moment) (now : Watching Planned)
+        (map : IsMapOf E.holds plan now) →
+        AreMadeOver E.holds plan opened moments t now (begun now map) ↔
+        ((t ≡ 0) × ((moments t).keeper ≡ now.view.client.known)) }
+    ensures changed { (plan : Plan) (opened s t : ℕ) (moments : ℕ → Moment)
+        (before now : Watching Planned) (run : IsRun E.holds plan opened before)
+        (by : IsByOneStore before now) (map : IsMapOf E.holds plan now) →
+        AreMadeOver E.holds plan opened moments s before run → s ≤ t →
+        (moments t).keeper ≡ now.view.client.known →
+        AreMadeOver E.holds plan opened moments t now (changed before now run by map) }
+    ensures in_order { (plan : Plan) (opened t : ℕ) (moments : ℕ → Moment)
+        (before now : Watching Planned) (run : IsRun E.holds plan opened before)
+        (by : IsByOneStore before now) (map : IsMapOf E.holds plan now) →
+        AreMadeOver E.holds plan opened moments t now (changed before now run by map) →
+        (s : ℕ) × (s ≤ t) × AreMadeOver E.holds plan opened moments s before run }
+    ensures had { (plan : Plan) (opened key : ℕ) (now : Watching Planned)
+        (run : IsRun E.holds plan opened now) → HasKeyThroughout E.holds plan opened key now run →
+        HadKey E.holds plan opened key now run }
+    ensures had_at_first { (plan : Plan) (opened key : ℕ) (now : Watching Planned)
+        (map : IsMapOf E.holds plan now) → HadKey E.holds plan opened key now (begun now map) →
+        HasKey plan.roots (nodes_in now.view.client.known) key }
 {}

@@ -1,14 +1,17 @@
 //! What is said of the keys of a map, and of going over its entries, over the definitions alone.
-ghost use Rattle.std.specs.Prelude.{◌≡◌, ◌↔◌, ◌<◌, ◌≤◌, ◌++◌, ◌∷◌, ℕ, Bool, IsSome, List, Option};
-ghost use Rattle.std.specs.Prelude.{Some};
+ghost use Rattle.std.specs.Prelude.{◌≡◌, ◌↔◌, ◌<◌, ◌≤◌, ◌+◌, ◌++◌, ◌∷◌, ℕ, Bool, IsSome, List};
+ghost use Rattle.std.specs.Prelude.{Option, Some};
 ghost use Rattle.rcu_live.specs.Watcher.{Watching};
 ghost use Rattle.rcu_graph.specs.Absence.{AreMadeBy, IsHistory, IsLinkedKey};
+ghost use Rattle.rcu_graph.specs.Beside.{Moment};
+ghost use Rattle.rcu_graph.specs.Nodes.{hops_in};
 ghost use Rattle.rcu_graph.specs.Search.{IsSearched};
 ghost use Rattle.rcu_graph.specs.declared.known.Hop.{Hop};
 ghost use Rattle.rcu_graph.specs.declared.known.Known.{Known};
 ghost use Rattle.rcu_graph.specs.declared.known.Node.{Node};
 ghost use Rattle.rcu_graph.specs.declared.known.Planned.{Planned};
 ghost use Rattle.rcu_graph.specs.declared.plan.Plan.{Plan};
+ghost use Rattle.rcu_map.specs.Beside.{AreMadeOver, HadKey, IsMapOver, IsReadOver, since};
 ghost use Rattle.rcu_map.specs.Chains.{IsMap};
 ghost use Rattle.rcu_map.specs.Entries.{HasKey};
 ghost use Rattle.rcu_map.specs.Keys.{bucket_of};
@@ -17,7 +20,11 @@ ghost use Rattle.rcu_map.specs.Runs.{HasKeyThroughout, IsRun, last_of, seen_in};
 ghost use Rattle.rcu_map.specs.declared.cursor.Cursor.{Cursor};
 
 use crate::entry::Entry;
-use rcu_graph::laws::{found_keys_were_linked, linked_keys_are_found};
+use crate::shape::MapShape;
+use rcu_graph::laws::{
+    found_keys_were_linked, hops_are_made_by_their_run, keys_found_over_a_run_were_linked,
+    keys_linked_over_a_run_are_found, linked_keys_are_found, runs_are_histories,
+};
 
 /// A key is in a map exactly where the chain of its bucket leads to it. So what is said of keys
 /// that are linked, as that a section finds them, is said of the keys of entries.
@@ -78,4 +85,55 @@ pub fn found_keys_were_there<E: Entry<W>, const W: usize>()
         (seen_in E.holds plan opened now run t) }
 {
     found_keys_were_linked();
+}
+
+/// A key that is in the map when a run begins, and after each of its calls, is found by a search
+/// that begins and ends in the run. The run is one of the shared words by atomic steps: the
+/// section's hops are its loads, and the keeper's calls are made of its steps.
+pub fn keys_that_stay_are_found_over_a_run<E: Entry<W>, const W: usize>()
+    ensures { (plan : Plan) (opened key keeper seat from done last : ℕ) (moments : ℕ → Moment)
+        (now : Watching Planned) (run : IsRun E.holds plan opened now) (found : Option ℕ) →
+        0 < plan.roots → plan.links ≡ 1 → plan.words ≡ W → 0 < key → from + done ≤ last →
+        IsMapOver E.holds plan keeper last moments →
+        AreMadeOver E.holds plan opened moments last now run →
+        HasKeyThroughout E.holds plan opened key now run →
+        IsReadOver E.holds plan seat opened done (since from moments) →
+        IsSearched (bucket_of plan.roots plan.seed key) key (moments from).section found
+        (moments (from + done)).section → IsSome found }
+{
+    keys_linked_over_a_run_are_found::<MapShape<E, W>>();
+}
+
+/// What a search in such a run finds was in the map when the run began, or after one of its calls.
+pub fn keys_found_over_a_run_were_there<E: Entry<W>, const W: usize>()
+    ensures { (plan : Plan) (opened key keeper seat from done last node : ℕ)
+        (moments : ℕ → Moment) (now : Watching Planned) (run : IsRun E.holds plan opened now) →
+        0 < plan.roots → plan.links ≡ 1 → plan.words ≡ W → 0 < key → from + done ≤ last →
+        IsMapOver E.holds plan keeper last moments →
+        AreMadeOver E.holds plan opened moments last now run →
+        IsReadOver E.holds plan seat opened done (since from moments) →
+        IsSearched (bucket_of plan.roots plan.seed key) key (moments from).section (Some node)
+        (moments (from + done)).section → HadKey E.holds plan opened key now run }
+{
+    keys_found_over_a_run_were_linked::<MapShape<E, W>>();
+}
+
+/// A key that stays in the map over such a run is among the entries that a listing's hops came to,
+/// which begins and ends in the run.
+pub fn keys_that_stay_are_listed_over_a_run<E: Entry<W>, const W: usize>()
+    ensures { (plan : Plan) (opened key keeper seat from done last : ℕ) (moments : ℕ → Moment)
+        (now : Watching Planned) (run : IsRun E.holds plan opened now) (hops : List Hop)
+        (at : Cursor) →
+        0 < plan.roots → plan.links ≡ 1 → plan.words ≡ W → 0 < key → from + done ≤ last →
+        IsMapOver E.holds plan keeper last moments →
+        AreMadeOver E.holds plan opened moments last now run →
+        HasKeyThroughout E.holds plan opened key now run →
+        IsReadOver E.holds plan seat opened done (since from moments) →
+        hops_in (moments (from + done)).section ≡ hops ++ hops_in (moments from).section →
+        GoOn plan.roots plan.seed (at_root 0) hops at → at.bucket ≡ plan.roots →
+        IsListed key hops }
+{
+    hops_are_made_by_their_run::<MapShape<E, W>>();
+    runs_are_histories::<MapShape<E, W>>();
+    linked_keys_are_listed();
 }

@@ -1,0 +1,35 @@
+use Rattle.rcu_graph.proofs.SmallMoments.{small_chain, small_kept_on, small_nodes_at}
+use Rattle.rcu_graph.proofs.SmallMoments.{small_not_back, small_not_before, small_not_chain}
+use Rattle.rcu_graph.proofs.SmallMoments.{small_not_keeper, small_not_later, small_not_on}
+use Rattle.rcu_graph.proofs.SmallMoments.{small_open}
+use Rattle.rcu_graph.proofs.definition_laws.a_section_goes_on_over_a_run.Goals as goal
+
+pub returns-clause-kept : goal.returns-clause-kept
+returns-clause-kept c = small_kept_on
+
+pub returns-clause-walks : goal.returns-clause-walks
+returns-clause-walks c = small_open
+
+pub returns-clause-chain : goal.returns-clause-chain
+returns-clause-chain c = small_chain
+
+pub returns-clause-nodes : goal.returns-clause-nodes
+returns-clause-nodes c = small_nodes_at
+
+pub returns-clause-not_before : goal.returns-clause-not_before
+returns-clause-not_before c = small_not_before
+
+pub returns-clause-not_back : goal.returns-clause-not_back
+returns-clause-not_back c = small_not_back
+
+pub returns-clause-not_on_chain : goal.returns-clause-not_on_chain
+returns-clause-not_on_chain c = small_not_on
+
+pub returns-clause-not_keeper : goal.returns-clause-not_keeper
+returns-clause-not_keeper c = small_not_keeper
+
+pub returns-clause-not_later : goal.returns-clause-not_later
+returns-clause-not_later c = small_not_later
+
+pub returns-clause-not_chain : goal.returns-clause-not_chain
+returns-clause-not_chain c = small_not_chain
