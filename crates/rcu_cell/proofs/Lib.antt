@@ -1,7 +1,4 @@
-pub mod Filling
-pub mod Keeping
-pub mod Moves
-pub mod States
-pub mod Starts
-pub mod Loaded
-pub mod Ages
+pub mod Loads
+pub mod Kept
+pub mod Updates
+pub mod Waits

@@ -1,48 +1,73 @@
--- A cell's seats and watchers, which are its engine's, and what sections leave of the seats.
-use Rattle.std.specs.Prelude.{◌≡◌, ◌+◌, ℕ, IsSome, None}
-use Rattle.rcu_seq.specs.Numbers.{Number}
+-- What a section reads of a cell.
+use Rattle.std.specs.Prelude.{◌≡◌, ◌<◌, ℕ, zero, suc, List, [], ◌∷◌, length}
 use Rattle.rcu_live.specs.Board.{Object}
-pub use Rattle.rcu_live.specs.CpuSeat.{IsSeatOf}
-use Rattle.rcu_live.specs.CpuSeat.{Seated, after_word_step}
-pub use Rattle.rcu_live.specs.Watcher.{IsWatcherOf}
-use Rattle.rcu_live.specs.Watcher.{Watching}
-use Rattle.rcu_cell.specs.Versions.{IsReading, slot_in}
-use Rattle.rcu_cell.specs.declared.known.Known.{Known}
-use Rattle.rcu_cell.specs.declared.known.Known.TheVariants.{Idle}
+use Rattle.rcu_live.specs.CpuSeat.{IsSeatOf, Seated, after_word_step}
+use Rattle.rcu_graph.specs.Graph.{IsWalking}
+use Rattle.rcu_graph.specs.Nodes.{hops_in}
+use Rattle.rcu_graph.specs.Planned.{of_plan}
+use Rattle.rcu_graph.specs.declared.known.Hop.{Hop}
+use Rattle.rcu_graph.specs.declared.known.Known.{Known}
+use Rattle.rcu_graph.specs.declared.known.Known.TheVariants.{Idle}
+use Rattle.rcu_graph.specs.declared.known.Planned.{Planned}
+use Rattle.rcu_graph.specs.declared.plan.Plan.{Plan}
 
--- the seat of a processor whose section was opened, loaded a version and was closed again: its last
--- load saw n
-abbrev pub after_section : Seated Known → Number → Seated Known
-after_section s n = record s {
-  view = record s.view { seen = n; loads = s.view.loads + 2; section = None; client = Idle };
-}
+-- the slot that is shown where the root's link has this word: the node that it leads to, or else
+-- the root
+abbrev pub slot_of : ℕ → ℕ
+slot_of zero = 0
+slot_of (suc node) = node
 
--- a processor's seat of the cell, whose open section may load a version
-pub record MayLoad (cell : Object (Unit {0})) (seat : Seated Known) : Type 0 where
-  pub seat_of : IsSeatOf cell seat
-  pub is_open : IsSome seat.view.section
+-- the version of that slot: the first one where the link leads nowhere, and else the words that
+-- were found
+abbrev pub version_of : List ℕ → ℕ → List ℕ → List ℕ
+version_of first zero words = first
+version_of first (suc node) words = words
+
+-- the latest of these hops: the word of the link, and the words that were found
+abbrev pub latest_to : List Hop → ℕ
+latest_to [] = 0
+latest_to (hop ∷ before) = hop.to
+
+abbrev pub latest_words : List Hop → List ℕ
+latest_words [] = []
+latest_words (hop ∷ before) = hop.words
+
+-- the slot that the section reads, and its version: those of its latest load
+abbrev pub slot_in : Known → ℕ
+slot_in known = slot_of (latest_to (hops_in known))
+
+abbrev pub version_in : List ℕ → Known → List ℕ
+version_in first known =
+    version_of first (latest_to (hops_in known)) (latest_words (hops_in known))
+
+-- the root's link was loaded, by a hop more, and showed this slot, whose version is whole
+pub record IsLoaded (holds : List ℕ → Type 0) (first : List ℕ) (width : ℕ) (was : Known) (slot : ℕ)
+    (now : Known) : Type 0 where
+  pub hop : Hop
+  pub are : hops_in now ≡ hop ∷ hops_in was
+  pub from : hop.from ≡ 0
+  pub link : hop.link ≡ 0
+  pub shown : slot ≡ slot_of hop.to
+  pub size : length (version_in first now) ≡ width
+  pub whole : holds (version_in first now)
+
+-- the open section reads the version of this slot
+pub record ReadsSlot (cell : Object Plan) (seat : Seated Planned) (slot : ℕ) : Type 0 where
+  pub walking : IsWalking cell seat
+  pub loaded : 0 < length (hops_in seat.view.client.known)
+  pub latest : slot_in seat.view.client.known ≡ slot
+  pub inside : slot < cell.plan.nodes
+  pub sized : 0 < latest_to (hops_in seat.view.client.known)
+      → length (latest_words (hops_in seat.view.client.known)) ≡ cell.plan.words
 
 -- a processor's seat of the cell, with no section open
-pub record IsOutside (cell : Object (Unit {0})) (seat : Seated Known) : Type 0 where
+pub record IsOutside (cell : Object Plan) (seat : Seated Planned) : Type 0 where
   pub seat_of : IsSeatOf cell seat
   pub outside : seat.depth ≡ 0
-
--- a keeper of the cell, by its seat, and a processor's seat of it
-pub record AreOf (cell : Object (Unit {0})) (keeper : Watching Known) (seat : Seated Known) : Type 0
-  where
-    pub keeper_of : IsWatcherOf cell keeper
-    pub seat_of : IsSeatOf cell seat
-
--- after it was one seat, a watcher's seat is one of the same cell
-pub record IsOfSameCell (before after : Watching Known) : Type 0 where
-  pub table : after.table ≡ before.table
-  pub base : after.view.base ≡ before.view.base
+  pub idle : seat.view.client ≡ of_plan cell.plan Idle
 
 -- the open section reads a version from now on, and nothing else of its seat changed
-pub record ReadsOn (before after : Seated Known) : Type 0 where
+pub record ReadsOn (cell : Object Plan) (before after : Seated Planned) : Type 0 where
   pub state : after ≡ after_word_step before after.view.client
-  pub reading : IsReading after.view.client
-
--- the seat reads the version of this slot
-abbrev pub ReadsSlot : Seated Known → ℕ → Type 0
-ReadsSlot seat slot = IsReading seat.view.client × (slot_in seat.view.client ≡ slot)
+  pub walking : IsWalking cell after
+  pub loaded : 0 < length (hops_in after.view.client.known)

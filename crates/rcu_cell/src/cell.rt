@@ -1,67 +1,74 @@
 //! A cell: what a section reads of it, without a lock, a wait or a store.
 ghost use Rattle.std.specs.Prelude.{◌≡◌, ◌<◌, slice_index};
-ghost use Rattle.rcu_live.specs.CpuSeat.{IsSeatOf, KnowsBy};
-ghost use Rattle.rcu_cell.specs.Cell.{MayLoad, ReadsSlot};
-ghost use Rattle.rcu_cell.specs.Steps.{IsLoaded};
-ghost use Rattle.rcu_cell.specs.Versions.{words_in};
+ghost use Rattle.rcu_live.specs.CpuSeat.{after_word_step};
+ghost use Rattle.rcu_graph.specs.Graph.{IsWalking};
+ghost use Rattle.rcu_cell.specs.Cell.{IsLoaded, ReadsSlot, version_in};
 
-use crate::allowed::{load_is_allowed, read_is_allowed};
-use crate::places::{SHOWN, word_of};
-use crate::rule::{CellRule, CellSeat, Invariant, Load, Read};
-use rcu_live::Board;
-use std::alloc::Global;
+use crate::shape::{CellSeat, OneLink, Version};
+use rcu_graph::Graph;
 use std::marker::Model;
-use std::sync::Arc;
 
-/// A value of `W` words in one of `N` slots, among the shared words of a running engine. Each
-/// version that is published meets `F`.
+/// A value of `W` words among the shared words of a running engine. Each version that is published
+/// meets `F`, and has a node of a graph, its slot. The root's link leads to the one that is shown.
 #[derive(Drop)]
-pub struct Cell<F: Invariant, const W: usize, const N: usize> {
-    pub(crate) board: Arc<Board<CellRule<F, W, N>>, Global>,
+pub struct Cell<F: Version<W>, const W: usize> {
+    pub(crate) graph: Graph<OneLink<F, W>>,
 }
 
-impl<F: Invariant, const W: usize, const N: usize> Model for Cell<F, W, N> {
-    ghost use Rattle.std.specs.Prelude.{◌≡◌, ◌+◌, ◌*◌, ◌^◌, ◌<◌};
-    ghost use Rattle.std.specs.Arc.{arc_value};
+impl<F: Version<W>, const W: usize> Model for Cell<F, W> {
+    ghost use Rattle.std.specs.Prelude.{◌≡◌, length};
     ghost use Rattle.rcu_live.specs.Board.{Object};
-    ghost use Rattle.rcu_live.specs.Words.{base_of};
-    ghost use Rattle.rcu_cell.specs.Versions.{first_place};
+    ghost use Rattle.rcu_graph.specs.declared.plan.Plan.{Plan};
 
-    ghost Value = { Object (Unit {0}) };
+    ghost Value = { Object Plan };
 
-    ghost view = { λ cell. arc_value cell.board };
+    ghost view = { λ cell. cell.graph };
 
     ghost invariant = { λ cell. record {
-      room : (arc_value cell.board).table.words ≡ base_of (arc_value cell.board).cpus
-          + (first_place + W * N);
-      small : first_place + W * N < 2 ^ 64;
+      root : cell.graph.plan.roots ≡ 1;
+      one : cell.graph.plan.links ≡ 1;
+      words : cell.graph.plan.words ≡ W;
+      sized : length F.first ≡ W;
+      whole : F.holds F.first;
     } };
 }
 
-impl<F: Invariant, const W: usize, const N: usize> Cell<F, W, N> {
+impl<F: Version<W>, const W: usize> Cell<F, W> {
+    /// A cell over a graph of one root, and of one link a node.
+    pub(crate) fn over(graph: Graph<OneLink<F, W>>) -> Cell<F, W>
+        requires root { graph.plan.roots ≡ 1 }
+        requires one { graph.plan.links ≡ 1 }
+        requires words { graph.plan.words ≡ W }
+        ensures { result ≡ graph }
+    {
+        F::first_word(0);
+        Cell { graph }
+    }
+
     /// Loads which slot is shown, and returns it: the open section reads its version from now on,
     /// as it was published, until it closes or loads again (Linux's `rcu_dereference`).
-    pub fn load(&self, seat: &mut CellSeat<F, W, N>) -> u64
-        requires { MayLoad self.now seat.old }
-        ensures { KnowsBy (λ _ now. IsLoaded F.holds W N result now) seat.old seat.new }
+    pub fn load(&self, seat: &mut CellSeat<F, W>) -> usize
+        requires { IsWalking self.now seat.old }
+        ensures state { seat.new ≡ after_word_step seat.old seat.new.view.client }
+        ensures loaded { IsLoaded F.holds F.first W seat.old.view.client.known result
+            seat.new.view.client.known }
+        ensures reads { ReadsSlot self.now seat.new result }
     {
-        load_is_allowed::<F, W, N>(seat);
-        seat.load_word::<_, Load<F, W, N>>(&*self.board, SHOWN)
+        // A borrow of a field shows the prover what the type keeps: that there is one root.
+        let graph = &self.graph;
+        graph.plan();
+        graph.follow(seat, 0, 0).unwrap_or(0)
     }
 
     /// Loads a word of the version that the section reads: the one that it had when it was loaded.
-    pub fn read(&self, seat: &mut CellSeat<F, W, N>, slot: usize, word: usize) -> u64
-        requires seat { IsSeatOf self.now seat.old }
-        requires holds { ReadsSlot seat.old slot }
-        requires slot { slot < N }
+    pub fn read(&self, seat: &mut CellSeat<F, W>, slot: usize, word: usize) -> u64
+        requires slot { ReadsSlot self.now seat.old slot }
         requires word { word < W }
         ensures unchanged { seat.new ≡ seat.old }
-        ensures word { result ≡ slice_index (words_in seat.old.view.client) word }
+        ensures word { result ≡ slice_index (version_in F.first seat.old.view.client.known) word }
     {
-        // A borrow of a field shows the prover what the type keeps: that the words fit in memory.
-        let board = &*self.board;
-        let place = word_of(W, N, slot, word);
-        read_is_allowed::<F, W, N>(seat, slot, word, place);
-        seat.load_word::<_, Read<W>>(board, place)
+        // A borrow of a field shows the prover what the type keeps: that there is one root.
+        let graph = &self.graph;
+        graph.read(seat, slot, word)
     }
 }

@@ -1,20 +1,18 @@
 //! The keeper of a cell: it publishes versions, and looks which slots are free.
-ghost use Rattle.std.specs.Prelude.{◌≡◌, ◌<◌, ◌≤◌, ◌^◌, IfOk, IfSome, None, OnErr, map};
-ghost use Rattle.rcu_live.specs.Watcher.{IsWatcherOf};
-ghost use Rattle.rcu_cell.specs.Cell.{IsOfSameCell};
-ghost use Rattle.rcu_cell.specs.Keeper.{AgedAt, IsDealtBy, IsFirstFree, IsFull, Updated};
-ghost use Rattle.rcu_cell.specs.Versions.{aged_state, first_states, slots_in};
-ghost use Rattle.rcu_cell.specs.declared.known.Known.TheVariants.{Owner};
+ghost use Rattle.std.specs.Prelude.{◌≡◌, ◌<◌, ◌≤◌, ◌^◌, IfOk, OnErr};
+ghost use Rattle.rcu_graph.specs.Graph.{IsOfSameGraph};
+ghost use Rattle.rcu_graph.specs.Keeper.{IsKeeperOf, after_look};
+ghost use Rattle.rcu_graph.specs.Nodes.{nodes_in};
+ghost use Rattle.rcu_graph.specs.Steps.{IsClaimed};
+ghost use Rattle.rcu_graph.specs.Tended.{AreAllUsed};
+ghost use Rattle.rcu_cell.specs.Keeper.{Updated};
+ghost use Rattle.rcu_cell.specs.Versions.{AreVersions, shown_in};
 
 use crate::cell::Cell;
-use crate::rule::{CellWatcher, Invariant};
-use crate::slot_state::SlotState;
-use crate::value::Value;
+use crate::shape::{CellWatcher, OneLink, Version};
+use rcu_graph::{Full, Value};
+use std::alloc::{AllocError, Global};
 use std::marker::Model;
-
-/// No slot is free.
-#[derive(Clone, Copy, Debug, PartialEq, Eq)]
-pub struct Full;
 
 /// A version was replaced.
 #[derive(Clone, Copy, Debug, PartialEq, Eq)]
@@ -25,125 +23,97 @@ pub struct Retired {
     pub by: usize,
 }
 
-/// The keeper of a cell of `N` slots of `W` words, for one thread. A cell has one.
+/// The keeper of a cell, for one thread. A cell has one.
 #[derive(Drop)]
-pub struct Keeper<F: Invariant, const W: usize, const N: usize> {
-    cell: Cell<F, W, N>,
-    seat: CellWatcher<F, W, N>,
-    states: Vec<SlotState>,
-    shown: usize,
+pub struct Keeper<F: Version<W>, const W: usize> {
+    pub(crate) nodes: rcu_graph::Keeper<OneLink<F, W>>,
 }
 
-impl<F: Invariant, const W: usize, const N: usize> Model for Keeper<F, W, N> {
-    ghost use Rattle.std.specs.Prelude.{◌≡◌, ◌<◌, length, map};
-    ghost use Rattle.rcu_live.specs.Watcher.{IsWatcherOf, Watching};
-    ghost use Rattle.rcu_cell.specs.Versions.{AreSized, IsKeeping, slot_in, slots_in, state_of};
-    ghost use Rattle.rcu_cell.specs.declared.known.Known.{Known};
+impl<F: Version<W>, const W: usize> Model for Keeper<F, W> {
+    ghost use Rattle.rcu_live.specs.Watcher.{Watching};
+    ghost use Rattle.rcu_graph.specs.Nodes.{nodes_in};
+    ghost use Rattle.rcu_graph.specs.declared.known.Planned.{Planned};
+    ghost use Rattle.rcu_cell.specs.Versions.{IsKept};
 
-    ghost Value = { Watching Known };
+    ghost Value = { Watching Planned };
 
-    ghost view = { λ k. k.seat };
+    ghost view = { λ k. k.nodes };
 
-    ghost invariant = { λ k. record {
-      watches : IsWatcherOf k.cell k.seat;
-      keeps : IsKeeping k.seat.view.client;
-      shown : slot_in k.seat.view.client ≡ k.shown;
-      inside : k.shown < N;
-      states : map state_of (slots_in k.seat.view.client) ≡ k.states.items;
-      count : length k.states.items ≡ N;
-      sized : AreSized W (slots_in k.seat.view.client);
-    } };
+    ghost invariant = { λ k. IsKept W k.nodes.view.client.plan
+        (nodes_in k.nodes.view.client.known) };
 }
 
-/// Each state after a look that saw this number.
-fn age_all(states: &mut Vec<SlotState>, number: u64)
-    requires { number ≤ 2 ^ 62 }
-    ensures { states.new.items ≡ map (aged_state number) states.old.items }
-{
-    for slot in 0..states.len() {
-        states[slot] = states[slot].aged(number);
-    }
-}
-
-impl<F: Invariant, const W: usize, const N: usize> Keeper<F, W, N> {
-    /// The keeper of a cell whose slots are as at first, in these states.
+impl<F: Version<W>, const W: usize> Keeper<F, W> {
+    /// The keeper of a cell whose nodes are as at first. It takes all the memory that it will ever
+    /// have.
     pub(crate) fn new(
-        cell: Cell<F, W, N>,
-        seat: CellWatcher<F, W, N>,
-        states: Vec<SlotState>,
-    ) -> Self
-        requires cell { IsWatcherOf cell seat }
-        requires opens { seat.view.client ≡ Owner }
-        requires some { 0 < N }
-        requires states { states.items ≡ first_states N }
-        ensures { IsDealtBy F.holds W N cell seat result }
+        alloc: Global,
+        cell: &Cell<F, W>,
+        seat: CellWatcher<F, W>,
+    ) -> Result<Self, AllocError>
+        requires keeper { IsKeeperOf cell.now seat }
+        requires nodes { IsClaimed (λ _. F.first) cell.now.plan.roots cell.now.plan.links
+            cell.now.plan.words cell.now.plan.nodes seat.view.client.known }
+        requires several { 2 < cell.now.plan.nodes }
+        ensures { IfOk result (λ keeper. keeper ≡ seat) }
     {
-        let mut seat = seat;
-        cell.claim(&mut seat);
-        Keeper {
-            cell,
-            seat,
-            states,
-            shown: 0,
-        }
+        // A borrow of a field shows the prover what the type keeps: that there is one root.
+        let graph = &cell.graph;
+        let nodes = rcu_graph::Keeper::new(alloc, graph, seat)?;
+        Ok(Keeper { nodes })
     }
 
-    /// The first free slot.
-    fn free_slot(&self) -> Option<usize>
-        ensures first { IfSome result (λ slot.
-            IsFirstFree (slots_in self.now.view.client) slot) }
-        ensures full { result ≡ None → IsFull (slots_in self.now.view.client) }
+    /// What a keeper keeps: nothing is done. A caller learns the clause by the call.
+    pub fn tends(&self)
+        ensures { AreVersions F.holds (nodes_in self.now.view.client.known) }
     {
-        for slot in 0..self.states.len() {
-            if self.states[slot].is_free() {
-                return Some(slot);
-            }
-        }
-        None
+        self.nodes.tends();
     }
 
-    /// Publishes a version: stores its words in the first free slot, and shows that in place of the
-    /// shown one. It waits for nobody. `Full` tells that no slot is free, and nothing changed.
+    /// The slot that is shown.
+    fn shown(&self) -> usize
+        ensures { result ≡ shown_in (nodes_in self.now.view.client.known) }
+    {
+        self.nodes.link_of(0, 0).unwrap_or(0)
+    }
+
+    /// Publishes a version: stores its words in a free slot, and shows that in place of the shown
+    /// one, by one store. It waits for nobody. `Full` tells that no slot is free, and nothing
+    /// changed.
     pub fn update(&mut self, words: &[u64; W]) -> Result<Retired, Full>
         requires whole { F.holds words.now }
-        ensures same { IsOfSameCell self.old self.new }
+        ensures same { IsOfSameGraph self.old self.new }
         ensures state { IfOk result (λ retired.
             Updated self.old words.now retired self.new) }
-        ensures full { OnErr result (IsFull (slots_in self.old.view.client)) }
+        ensures full { OnErr result (AreAllUsed (nodes_in self.old.view.client.known)) }
         ensures unchanged { OnErr result (self.new ≡ self.old) }
     {
-        let Some(by) = self.free_slot() else {
-            return Err(Full);
-        };
-        self.cell.fill(&mut self.seat, by, words);
-        self.cell.show(&mut self.seat, by);
-        let slot = self.shown;
-        self.states[slot] = SlotState::Replaced;
-        self.states[by] = SlotState::Shown;
-        self.shown = by;
+        let slot = self.shown();
+        self.nodes.tends();
+        let by = self.nodes.put(0, words, None)?;
         Ok(Retired { slot, by })
     }
 
     /// Looks at the number, by one load, and returns it: what was replaced is so no later than now,
     /// and what was replaced a full grace period ago is free.
     pub fn age(&mut self) -> u64
-        ensures same { IsOfSameCell self.old self.new }
-        ensures state { AgedAt self.old result self.new }
+        ensures same { IsOfSameGraph self.old self.new }
+        ensures state { self.new ≡ after_look self.old result }
+        ensures later { self.old.view.seen ≤ result }
+        ensures bounded { result ≤ 2 ^ 62 }
     {
-        let number = self.cell.look(&mut self.seat);
-        age_all(&mut self.states, number);
-        number
+        self.nodes.age()
     }
 }
 
-impl<F: Value<W>, const W: usize, const N: usize> Keeper<F, W, N> {
+impl<F: Value<W> + Version<W>, const W: usize> Keeper<F, W> {
     /// Publishes a value, as [`update`](Self::update) does its words.
     pub fn update_value(&mut self, value: F) -> Result<Retired, Full>
         requires sound { F.valid value }
-        ensures same { IsOfSameCell self.old self.new }
+        ensures same { IsOfSameGraph self.old self.new }
         ensures state { IfOk result (λ retired.
             Updated self.old (F.in_words value) retired self.new) }
-        ensures full { OnErr result (IsFull (slots_in self.old.view.client)) }
+        ensures full { OnErr result (AreAllUsed (nodes_in self.old.view.client.known)) }
         ensures unchanged { OnErr result (self.new ≡ self.old) }
     {
         self.update(&value.to_words())

@@ -1,117 +1,127 @@
 //! The opening of a cell.
-ghost use Rattle.std.specs.Prelude.{◌≡◌, ◌+◌, ◌*◌, ◌^◌, ◌<◌, IfOk};
+ghost use Rattle.std.specs.Prelude.{◌≡◌, ◌↔◌, ◌+◌, ◌*◌, ◌^◌, ◌<◌, Err, IfOk, MatchOption};
 ghost use Rattle.rcu_geometry.specs.Opening.{opening_refusal};
 ghost use Rattle.rcu_live.specs.Opening.{AreDealt, AreFanouts};
-ghost use Rattle.rcu_seq.specs.Memory.{tested_fault};
-ghost use Rattle.rcu_live.specs.Watcher.{watcher_at_first};
-ghost use Rattle.rcu_live.specs.Words.{base_of};
-ghost use Rattle.rcu_cell.specs.Keeper.{IsDealtBy};
-ghost use Rattle.rcu_cell.specs.Versions.{AreFirstWords, AreSizes, first_place, first_states};
-ghost use Rattle.rcu_cell.specs.declared.known.Known.TheVariants.{Idle, Owner};
+ghost use Rattle.rcu_graph.specs.Graph.{IsWatcherOf};
+ghost use Rattle.rcu_graph.specs.Keeper.{IsKeeperOf};
+ghost use Rattle.rcu_graph.specs.Nodes.{first_place};
+ghost use Rattle.rcu_graph.specs.Opening.{tested_opening};
+ghost use Rattle.rcu_graph.specs.Planned.{of_plan};
+ghost use Rattle.rcu_graph.specs.Steps.{IsClaimed};
+ghost use Rattle.rcu_graph.specs.declared.known.Known.TheVariants.{Idle};
+ghost use Rattle.rcu_graph.specs.declared.not_opened.NotOpened.{NotOpened};
+ghost use Rattle.rcu_cell.specs.Opening.{HasSizes, ShowsFirst, keeper_at_first, plan_of_cell};
 
 use crate::cell::Cell;
 use crate::keeper::Keeper;
-use crate::places::FIRST;
-use crate::rule::{CellRule, CellSeat, CellWatcher, Invariant};
-use crate::slot_state::SlotState;
-use rcu_geometry::check_size;
-use rcu_live::{Live, Parts};
+use crate::shape::{CellRule, CellSeat, CellWatcher, Version};
+use rcu_graph::{Graph, NotOpened, Plan};
+use rcu_live::Live;
 use rcu_seq::Fault;
 use std::alloc::{AllocError, Global};
-use std::sync::Arc;
 
-/// The words of a cell at first: the first slot is shown, with these words.
-fn first_words<const W: usize, const N: usize>(
-    alloc: Global,
-    words: &[u64; W],
-) -> Result<Vec<u64>, AllocError>
-    requires { AreSizes W N }
-    ensures words { IfOk result (λ behind. AreFirstWords W N words.now behind.items) }
+/// The plan of a cell of so many slots, of two at least. It may be one of no graph.
+fn plan_of(width: usize, slots: usize) -> Option<Plan>
+    ensures { MatchOption result (¬ HasSizes width slots)
+        (λ plan. (1 < slots) × (plan ≡ plan_of_cell width slots)) }
 {
-    let mut behind = vec![in alloc; 0u64; FIRST + W * N]?;
-    for word in 0..W {
-        behind[FIRST + word] = words[word];
+    if slots < 2 {
+        return None;
     }
-    Ok(behind)
+    Some(Plan {
+        roots: 1,
+        links: 1,
+        words: width,
+        nodes: slots.checked_add(1)?,
+        seed: 0,
+    })
 }
 
-/// How many callbacks may be queued: so many that no program queues them all.
-const MOST: u64 = 1 << 62;
-
-/// The states of so many slots at first.
-fn first_states(alloc: Global, count: usize) -> Result<Vec<SlotState>, AllocError>
-    requires { 0 < count }
-    ensures { IfOk result (λ states. states.items ≡ first_states count) }
+/// The keeper of a cell whose nodes are as at first, once it shows these words.
+fn keep<F: Version<W>, const W: usize>(
+    alloc: Global,
+    cell: &Cell<F, W>,
+    seat: CellWatcher<F, W>,
+    words: &[u64; W],
+) -> Result<Keeper<F, W>, AllocError>
+    requires keeper { IsKeeperOf cell.now seat }
+    requires nodes { IsClaimed (λ _. F.first) cell.now.plan.roots cell.now.plan.links
+        cell.now.plan.words cell.now.plan.nodes seat.view.client.known }
+    requires several { 2 < cell.now.plan.nodes }
+    requires whole { F.holds words.now }
+    ensures { IfOk result (λ keeper. ShowsFirst seat words.now keeper) }
 {
-    let mut states = vec![in alloc; SlotState::Free; count]?;
-    states[0] = SlotState::Shown;
-    Ok(states)
+    // A borrow of a field shows the prover what the type keeps: that there is one root.
+    let _ = &cell.graph;
+    let mut keeper = Keeper::new(alloc, cell, seat)?;
+    let Ok(_) = keeper.update(words) else {
+        unreachable!()
+    };
+    Ok(keeper)
 }
 
 /// A cell as it is opened, with its engine.
 #[derive(Drop)]
-pub struct Opened<L: Drop, F: Invariant, const W: usize, const N: usize> {
+pub struct Opened<L: Drop, F: Version<W>, const W: usize> {
     /// The engine, which threads share. Somebody has to drive it.
     pub live: L,
     /// The cell, which its seats read.
-    pub cell: Cell<F, W, N>,
+    pub cell: Cell<F, W>,
     /// A seat a processor, in order.
-    pub seats: Vec<CellSeat<F, W, N>>,
+    pub seats: Vec<CellSeat<F, W>>,
     /// A watcher a processor.
-    pub watchers: Vec<CellWatcher<F, W, N>>,
+    pub watchers: Vec<CellWatcher<F, W>>,
     /// Who publishes versions.
-    pub keeper: Keeper<F, W, N>,
+    pub keeper: Keeper<F, W>,
 }
 
-impl<F: Invariant, const W: usize, const N: usize> Cell<F, W, N> {
-    /// Opens a cell that shows these words, with its engine: of `cpus` processors, idle at number
-    /// 0, processor 0 alone online.
+impl<F: Version<W>, const W: usize> Cell<F, W> {
+    /// Opens a cell of so many slots that shows these words, with its engine: of `cpus` processors,
+    /// idle at number 0, processor 0 alone online.
     ///
-    /// Faults: `TooManyCpus` (17) for no processor, more than 4,096, or more than four levels hold;
+    /// Faults: `BadSizes` for fewer than two slots, no word, or more than 2^32 words in all;
+    /// `TooManyCpus` (17) for no processor, more than 4,096, or more than four levels hold;
     /// `BadLast` (19) where `last` is no last number; `NoMemory` (16).
     pub fn open<const LEAF: u32, const FAN: u32, T: Drop>(
         alloc: Global,
         cpus: u32,
         last: u64,
+        slots: usize,
         words: &[u64; W],
-    ) -> Result<Opened<Live<LEAF, FAN, T, CellRule<F, W, N>>, F, W, N>, Fault>
+    ) -> Result<Opened<Live<LEAF, FAN, T, CellRule<F, W>>, F, W>, NotOpened>
         requires fanouts { AreFanouts LEAF FAN }
-        requires sizes { AreSizes W N }
         requires whole { F.holds words.now }
-        ensures fault { tested_fault result ≡ opening_refusal LEAF FAN cpus last }
+        ensures bad_sizes { (result ≡ Err NotOpened.BadSizes) ↔ ¬ HasSizes W slots }
+        ensures fault { HasSizes W slots →
+            tested_opening result ≡ opening_refusal LEAF FAN cpus last }
         ensures dealt { IfOk result (λ opened. AreDealt cpus last (2 ^ 62)
-            (first_place + W * N) 0 Idle opened.cell opened.seats.items opened.watchers.items) }
+            (first_place + (1 + W) * (1 + slots)) 0 (of_plan opened.cell.plan Idle) opened.cell
+            opened.seats.items opened.watchers.items) }
+        ensures plan { IfOk result (λ opened. opened.cell.plan ≡ plan_of_cell W slots) }
         ensures live { IfOk result (λ opened. opened.live ≡ opened.cell) }
-        ensures keeper { IfOk result (λ opened. IsDealtBy F.holds W N opened.cell
-            (watcher_at_first opened.cell.table (base_of cpus) Owner) opened.keeper) }
+        ensures keeper { IfOk result (λ opened. IsWatcherOf opened.cell opened.keeper) }
+        ensures shown { IfOk result (λ opened. ShowsFirst
+            (keeper_at_first opened.cell cpus (plan_of_cell W slots) F.first)
+            words.now opened.keeper) }
     {
-        check_size::<LEAF, FAN>(cpus, last)?;
-        let (Ok(behind), Ok(states)) = (first_words::<W, N>(alloc, words), first_states(alloc, N))
-        else {
-            return Err(Fault::NoMemory);
+        let Some(plan) = plan_of(W, slots) else {
+            return Err(NotOpened::BadSizes);
         };
-        let Parts {
-            board,
-            engine,
+        F::first_word(0);
+        let opened = Graph::open::<LEAF, FAN, T>(alloc, cpus, last, plan)?;
+        let rcu_graph::Opened {
+            live,
+            graph,
             seats,
             watchers,
             own,
-        } = Parts::<LEAF, FAN, T, CellRule<F, W, N>>::open_for(
-            alloc,
-            cpus,
-            last,
-            MOST,
-            (),
-            behind.as_slice(),
-            Vec::new(alloc),
-        )?;
-        let (Ok(shared), Ok(kept)) = (Arc::try_clone(&board), Arc::try_clone(&board)) else {
-            return Err(Fault::NoMemory);
+        } = opened;
+        let cell = Cell::over(graph);
+        let Ok(keeper) = keep(alloc, &cell, own, words) else {
+            return Err(NotOpened::Fault(Fault::NoMemory));
         };
-        let cell = Cell { board: shared };
-        let keeper = Keeper::new(Cell { board: kept }, own, states);
         Ok(Opened {
-            live: Live::new(board, engine),
+            live,
             cell,
             seats,
             watchers,

@@ -2,27 +2,28 @@
 ghost use Rattle.std.specs.Prelude.{◌≡◌, IfOk, OnErr, OnOk};
 ghost use Rattle.std.specs.Result.{result_err};
 ghost use Rattle.rcu_live.specs.CpuSeat.{AcceptedAt, enter_refusal};
-ghost use Rattle.rcu_cell.specs.Cell.{IsOutside, MayLoad, ReadsOn, after_section};
+ghost use Rattle.rcu_graph.specs.Graph.{IsWalking};
+ghost use Rattle.rcu_graph.specs.Sections.{after_section};
+ghost use Rattle.rcu_cell.specs.Cell.{IsLoaded, IsOutside, ReadsOn, version_in};
 ghost use Rattle.rcu_cell.specs.Lent.{IsLentBy, lent};
-ghost use Rattle.rcu_cell.specs.Steps.{IsLoaded};
-ghost use Rattle.rcu_cell.specs.Versions.{words_in};
 
 use crate::cell::Cell;
-use crate::rule::{CellRule, CellSeat, Invariant};
-use crate::value::Value;
+use crate::shape::{CellRule, CellSeat, Version};
 use crate::version_guard::VersionGuard;
+use rcu_graph::Value;
 use rcu_live::Shared;
 use rcu_seq::Fault;
 
-impl<F: Invariant, const W: usize, const N: usize> Cell<F, W, N> {
+impl<F: Version<W>, const W: usize> Cell<F, W> {
     /// Loads the shown version, as [`load`](Self::load) does, and lends it the seat: the section
     /// stays open, and reads this version, until it is let go.
-    pub fn loaded<'a>(&'a self, seat: &'a mut CellSeat<F, W, N>) -> VersionGuard<'a, F, W, N>
-        requires { MayLoad self.now seat.old }
+    pub fn loaded<'a>(&'a self, seat: &'a mut CellSeat<F, W>) -> VersionGuard<'a, F, W>
+        requires { IsWalking self.now seat.old }
         ensures lent { IsLentBy self.now seat.old seat.entry.ghost_name (lent result) }
-        ensures loaded { IsLoaded F.holds W N (lent result).slot (lent result).seat.view.client }
+        ensures loaded { IsLoaded F.holds F.first W seat.old.view.client.known (lent result).slot
+            (lent result).seat.view.client.known }
     {
-        let slot = self.load(seat) as usize;
+        let slot = self.load(seat);
         VersionGuard {
             cell: self,
             seat,
@@ -32,10 +33,10 @@ impl<F: Invariant, const W: usize, const N: usize> Cell<F, W, N> {
 
     /// All words of the version that is shown: one load, and one a word. They are of one version,
     /// which the section reads from now on.
-    pub fn snapshot(&self, seat: &mut CellSeat<F, W, N>) -> [u64; W]
-        requires { MayLoad self.now seat.old }
-        ensures state { ReadsOn seat.old seat.new }
-        ensures words { result ≡ words_in seat.new.view.client }
+    pub fn snapshot(&self, seat: &mut CellSeat<F, W>) -> [u64; W]
+        requires { IsWalking self.now seat.old }
+        ensures state { ReadsOn self.now seat.old seat.new }
+        ensures words { result ≡ version_in F.first seat.new.view.client.known }
         ensures whole { F.holds result }
     {
         self.loaded(seat).snapshot()
@@ -45,10 +46,10 @@ impl<F: Invariant, const W: usize, const N: usize> Cell<F, W, N> {
     /// no lock and waits for nobody.
     ///
     /// Faults: `Offline` (2) where the processor is offline; `CpuIdle` (23) where it is idle.
-    pub fn read_section<L: Shared<CellRule<F, W, N>>>(
+    pub fn read_section<L: Shared<CellRule<F, W>>>(
         &self,
         live: &L,
-        seat: &mut CellSeat<F, W, N>,
+        seat: &mut CellSeat<F, W>,
     ) -> Result<[u64; W], Fault>
         requires engine { L.object live.now ≡ self.now }
         requires seat { IsOutside self.now seat.old }
@@ -68,12 +69,12 @@ impl<F: Invariant, const W: usize, const N: usize> Cell<F, W, N> {
     }
 }
 
-impl<F: Value<W>, const W: usize, const N: usize> Cell<F, W, N> {
+impl<F: Value<W> + Version<W>, const W: usize> Cell<F, W> {
     /// The value that is shown, by one load, and one a word, in an open section.
-    pub fn value(&self, seat: &mut CellSeat<F, W, N>) -> F
-        requires { MayLoad self.now seat.old }
-        ensures state { ReadsOn seat.old seat.new }
-        ensures told { result ≡ F.decode (words_in seat.new.view.client) }
+    pub fn value(&self, seat: &mut CellSeat<F, W>) -> F
+        requires { IsWalking self.now seat.old }
+        ensures state { ReadsOn self.now seat.old seat.new }
+        ensures told { result ≡ F.decode (version_in F.first seat.new.view.client.known) }
         ensures sound { F.valid result }
     {
         self.loaded(seat).value()
@@ -83,10 +84,10 @@ impl<F: Value<W>, const W: usize, const N: usize> Cell<F, W, N> {
     /// does its words.
     ///
     /// Faults: `Offline` (2) where the processor is offline; `CpuIdle` (23) where it is idle.
-    pub fn value_section<L: Shared<CellRule<F, W, N>>>(
+    pub fn value_section<L: Shared<CellRule<F, W>>>(
         &self,
         live: &L,
-        seat: &mut CellSeat<F, W, N>,
+        seat: &mut CellSeat<F, W>,
     ) -> Result<F, Fault>
         requires engine { L.object live.now ≡ self.now }
         requires seat { IsOutside self.now seat.old }

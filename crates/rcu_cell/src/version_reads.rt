@@ -1,17 +1,17 @@
 //! What a section reads of the version that it has loaded.
 ghost use Rattle.std.specs.Prelude.{◌≡◌, ◌<◌, slice_index};
-ghost use Rattle.rcu_cell.specs.Lent.{lent, version_of};
+ghost use Rattle.rcu_cell.specs.Lent.{lent, version_lent};
 
-use crate::rule::Invariant;
-use crate::value::Value;
+use crate::shape::Version;
 use crate::version_guard::VersionGuard;
+use rcu_graph::Value;
 
-impl<'a, F: Invariant, const W: usize, const N: usize> VersionGuard<'a, F, W, N> {
+impl<'a, F: Version<W>, const W: usize> VersionGuard<'a, F, W> {
     /// A word of the version, by one load: the one that it had when it was loaded.
     pub fn read(&mut self, word: usize) -> u64
         requires { word < W }
         ensures unchanged { lent self.new ≡ lent self.old }
-        ensures word { result ≡ slice_index (version_of (lent self.old)) word }
+        ensures word { result ≡ slice_index (version_lent F.first (lent self.old)) word }
     {
         self.cell.read(self.seat, self.slot, word)
     }
@@ -19,8 +19,11 @@ impl<'a, F: Invariant, const W: usize, const N: usize> VersionGuard<'a, F, W, N>
     /// All words of the version, by a load each.
     pub fn snapshot(&mut self) -> [u64; W]
         ensures unchanged { lent self.new ≡ lent self.old }
-        ensures words { result ≡ version_of (lent self.old) }
+        ensures words { result ≡ version_lent F.first (lent self.old) }
     {
+        // A borrow of a field shows the prover what the type keeps: that a version has `W` words.
+        let cell = self.cell;
+        let _ = &cell.graph;
         let mut words = [0u64; W];
         for word in 0..W {
             words[word] = self.read(word);
@@ -29,12 +32,12 @@ impl<'a, F: Invariant, const W: usize, const N: usize> VersionGuard<'a, F, W, N>
     }
 }
 
-impl<'a, F: Value<W>, const W: usize, const N: usize> VersionGuard<'a, F, W, N> {
+impl<'a, F: Value<W> + Version<W>, const W: usize> VersionGuard<'a, F, W> {
     /// The version as a value of the user's type, by a load a word.
     pub fn value(&mut self) -> F
-        requires whole { F.holds (version_of (lent self.old)) }
+        requires whole { F.holds (version_lent F.first (lent self.old)) }
         ensures unchanged { lent self.new ≡ lent self.old }
-        ensures told { result ≡ F.decode (version_of (lent self.old)) }
+        ensures told { result ≡ F.decode (version_lent F.first (lent self.old)) }
         ensures sound { F.valid result }
     {
         F::of_words(&self.snapshot())

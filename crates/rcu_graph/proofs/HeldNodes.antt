@@ -96,6 +96,26 @@ module _ (fits : List ℕ → Type 0) (joins : ℕ → List ℕ → List ℕ →
       subst (λ (st : NodeState). MayRead r.opened st) (sym (ap (λ (x : Node). x.state) same) ∙ free)
       r.may
 
+  pub as_known : (table : List ℕ) (homes : Slots (Unit {0})) (xs : Views Known)
+      (keeper id i latest : ℕ) (who own cpu section : Option ℕ) (nodes : List Node)
+      (stored : List (List Node)) (known : Known)
+      (words : List ℕ) (v : Node)
+      → IsKept fits joins first roots links width count table homes xs
+      → get_elem? xs keeper ≡ some (who, own, Keeper latest nodes stored)
+      → get_elem? xs id ≡ some (cpu, section, known)
+      → IsReader known
+      → IsHeld known i words
+      → get_elem? nodes i ≡ some v
+      → v.words ≡ words
+  as_known table homes xs keeper id i latest who own cpu section nodes stored known words v h kept
+      at
+      reads held is =
+      let r = holds_it table homes xs h id i cpu section known words at reads held in
+      let k = h.seats keeper who own (Keeper latest nodes stored) kept in
+      let same : v ≡ r.on =
+      some-injective _ _ (sym is ∙ (ap (λ (s : List Node). get_elem? s i) k.1 ∙ r.here)) in
+      ap (λ (x : Node). x.words) same ∙ r.same
+
   pub live_leads : (table : List ℕ) (homes : Slots (Unit {0})) (xs : Views Known)
       (keeper i l j latest : ℕ) (who own : Option ℕ) (nodes : List Node)
       (stored : List (List Node)) (v : Node)

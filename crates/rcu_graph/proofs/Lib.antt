@@ -29,3 +29,6 @@ pub mod Cycles
 pub mod Turns
 pub mod Standings
 pub mod Owned
+pub mod Puts
+pub mod Looks
+pub mod PutNodes

@@ -9,12 +9,15 @@ pub mod Mirror
 pub mod Nodes
 pub mod Opening
 pub mod Planned
+pub mod Puts
 pub mod Rule
 pub mod Search
+pub mod Sections
 pub mod SmallRun
 pub mod Stability
 pub mod Steps
 pub mod Walks
+pub mod Waits
 pub mod Tended
 pub mod Trimming
 pub mod Updates

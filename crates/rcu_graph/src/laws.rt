@@ -55,6 +55,18 @@ pub fn free_nodes_are_not_held<F: Shape>()
         IsHeld known.known node words → get_elem? nodes node ≡ some v → v.state ≢ Free }
 {}
 
+/// A section holds a node as the keeper knows it: with the same words.
+pub fn held_nodes_are_as_known<F: Shape>()
+    ensures { (plan : Plan) (table : List ℕ) (homes : Slots (Unit {0})) (xs : Views Planned)
+        (keeper seat node latest : ℕ) (who own cpu section : Option ℕ) (nodes : List Node)
+        (stored : List (List Node))
+        (known : Planned) (words : List ℕ) (v : Node) →
+        IsKeptBy F.fits F.joins F.first plan table homes xs →
+        get_elem? xs keeper ≡ some (who, own, of_plan plan (Keeper latest nodes stored)) →
+        get_elem? xs seat ≡ some (cpu, section, known) → IsReader known.known →
+        IsHeld known.known node words → get_elem? nodes node ≡ some v → v.words ≡ words }
+{}
+
 /// A link of a live node leads to a live node, and joins the two as the user's fact says, whoever
 /// loads it and whenever.
 pub fn live_nodes_lead_to_live_nodes<F: Shape>()

@@ -3,12 +3,14 @@
 #![tactic(auto)]
 
 mod allowed;
+mod chain;
 mod counted_nodes;
 mod cycle;
 pub mod definition_laws;
 pub mod graph;
 pub mod keeper;
 mod keeper_steps;
+mod keeper_waits;
 pub mod known;
 mod known_nodes;
 pub mod laws;
@@ -20,6 +22,7 @@ pub mod places;
 pub mod plan;
 pub mod rule;
 mod search;
+pub mod value;
 pub mod walk;
 mod walk_steps;
 
@@ -30,4 +33,5 @@ pub use not_opened::NotOpened;
 pub use opening::Opened;
 pub use plan::Plan;
 pub use rule::{GraphEngine, GraphSeat, GraphWatcher, Shape};
+pub use value::{Invariant, Value};
 pub use walk::Walk;

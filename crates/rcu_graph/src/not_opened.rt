@@ -3,11 +3,12 @@
 use rcu_seq::Fault;
 use thiserror::Error;
 
-/// Why a graph, or a map, is not opened.
+/// Why a graph, a cell or a map is not opened.
 #[derive(Clone, Copy, Debug, PartialEq, Eq, Error)]
 pub enum NotOpened {
     /// None is as large as that: a root is no node, a node has no word, or there are more than 2^32
-    /// links and words in all; of a map, or it has no bucket.
+    /// links and words in all; of a map, or it has no bucket; of a cell, or it has fewer than two
+    /// slots.
     #[error("there are no buckets, too few nodes, or more than 2^32 words")]
     BadSizes,
     /// The engine is not opened.

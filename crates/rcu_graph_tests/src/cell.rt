@@ -1,6 +1,6 @@
 //! A version's slot over one grace period.
 ghost use Rattle.std.specs.Prelude.{◌≡◌};
-ghost use Rattle.rcu_live.specs.CpuSeat.{IsSeatOf};
+ghost use Rattle.rcu_cell.specs.Cell.{IsOutside};
 
 mod limits;
 mod parts;
@@ -10,7 +10,7 @@ mod threads;
 mod versions;
 mod waits;
 
-use rcu_cell::{Cell, CellRule, CellSeat, Full, Invariant, Keeper, Retired};
+use rcu_cell::{Cell, CellRule, CellSeat, Full, Invariant, Keeper, Retired, Version};
 use rcu_live::{Collected, Live};
 use rcu_seq::Fault;
 use rcu_state::Turned;
@@ -26,17 +26,25 @@ impl Invariant for Any {
     ghost holds = { λ _. Unit {0} };
 }
 
-type Pairs = Cell<Any, 2, 2>;
+impl<const W: usize> Version<W> for Any {
+    ghost use Rattle.std.specs.Prelude.{replicate};
 
-type Engine = Live<4, 4, u64, CellRule<Any, 2, 2>>;
+    ghost first = { replicate W 0 };
+
+    fn first_word(_word: usize) -> u64 {
+        0
+    }
+}
+
+type Pairs = Cell<Any, 2>;
+
+type Engine = Live<4, 4, u64, CellRule<Any, 2>>;
 
 /// One grace period, which a callback needs. Where its queueing is refused memory, the same call
 /// is made again.
-fn pass_a_period<R: Abort + Wait>(rt: &R, live: &Engine, seat: &mut CellSeat<Any, 2, 2>)
-    requires seat { IsSeatOf live.now seat.old }
-    requires outside { seat.old.depth ≡ 0 }
-    ensures seat { IsSeatOf live.now seat.new }
-    ensures outside { seat.new.depth ≡ 0 }
+fn pass_a_period<R: Abort + Wait>(rt: &R, live: &Engine, seat: &mut CellSeat<Any, 2>)
+    requires seat { IsOutside live.now seat.old }
+    ensures seat { IsOutside live.now seat.new }
 {
     assert!(rt; live.queue(rt, seat, 7).is_ok() || live.queue(rt, seat, 7).is_ok());
     assert_eq!(rt; live.tend(rt, 0), Ok((0, 1)));
@@ -49,7 +57,7 @@ fn pass_a_period<R: Abort + Wait>(rt: &R, live: &Engine, seat: &mut CellSeat<Any
 /// Has the keeper show these words, and compares what it answers.
 fn shows<R: Abort>(
     rt: &R,
-    keeper: &mut Keeper<Any, 2, 2>,
+    keeper: &mut Keeper<Any, 2>,
     words: [u64; 2],
     wanted: Result<Retired, Full>,
 ) {
@@ -61,14 +69,12 @@ fn reads<R: Abort>(
     rt: &R,
     live: &Engine,
     cell: &Pairs,
-    seat: &mut CellSeat<Any, 2, 2>,
+    seat: &mut CellSeat<Any, 2>,
     wanted: [u64; 2],
 )
     requires engine { live.now ≡ cell.now }
-    requires seat { IsSeatOf live.now seat.old }
-    requires outside { seat.old.depth ≡ 0 }
-    ensures seat { IsSeatOf live.now seat.new }
-    ensures outside { seat.new.depth ≡ 0 }
+    requires seat { IsOutside live.now seat.old }
+    ensures seat { IsOutside live.now seat.new }
 {
     assert_eq!(rt; cell.read_section(live, seat), Ok(wanted));
 }
@@ -79,15 +85,14 @@ fn use_a_slot_again<R: Abort + Wait>(
     rt: &R,
     live: &Engine,
     cell: &Pairs,
-    seat: &mut CellSeat<Any, 2, 2>,
-    keeper: &mut Keeper<Any, 2, 2>,
+    seat: &mut CellSeat<Any, 2>,
+    keeper: &mut Keeper<Any, 2>,
 )
     requires engine { live.now ≡ cell.now }
-    requires seat { IsSeatOf live.now seat.old }
-    requires outside { seat.old.depth ≡ 0 }
+    requires seat { IsOutside live.now seat.old }
 {
     reads(rt, live, cell, seat, [1, 1]);
-    shows(rt, keeper, [2, 2], Ok(Retired { slot: 0, by: 1 }));
+    shows(rt, keeper, [2, 2], Ok(Retired { slot: 1, by: 2 }));
     reads(rt, live, cell, seat, [2, 2]);
     shows(rt, keeper, [3, 3], Err(Full));
     assert_eq!(rt; keeper.age(), 0);
@@ -95,13 +100,13 @@ fn use_a_slot_again<R: Abort + Wait>(
     pass_a_period(rt, live, seat);
     shows(rt, keeper, [3, 3], Err(Full));
     assert_eq!(rt; keeper.age(), 4);
-    shows(rt, keeper, [3, 3], Ok(Retired { slot: 1, by: 0 }));
+    shows(rt, keeper, [3, 3], Ok(Retired { slot: 2, by: 1 }));
     reads(rt, live, cell, seat, [3, 3]);
 }
 
 #[test]
 fn slot_is_used_again_after_a_period(rt: HostRuntime) {
-    let Ok(mut opened) = Pairs::open(rt.alloc(), 1, 8, &[1, 1]) else {
+    let Ok(mut opened) = Pairs::open(rt.alloc(), 1, 8, 2, &[1, 1]) else {
         return;
     };
     let mut seat = opened.seats.pop().unwrap();

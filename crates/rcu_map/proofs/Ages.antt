@@ -5,82 +5,72 @@ use Rattle.std.specs.Prelude.{if◌then◌else◌, slice_index}
 use Rattle.std.proofs.lemmas.Bool.{cases_lt}
 use Rattle.std.proofs.lemmas.List.{length-replicate}
 use Rattle.std.proofs.Math.ListN.{get_or-map, length-map}
+use Rattle.rcu_live.specs.Watcher.{Watching}
 use Rattle.rcu_graph.specs.Absence.{key_at}
 use Rattle.rcu_graph.specs.Nodes.{aged, aged_node, aged_state, first_nodes, is_live, no_node}
-use Rattle.rcu_graph.specs.Nodes.{node_at, state_at}
+use Rattle.rcu_graph.specs.Nodes.{node_at, nodes_in, state_at}
 use Rattle.rcu_graph.specs.Tended.{AreTended}
 use Rattle.rcu_graph.specs.declared.known.Node.{Node}
+use Rattle.rcu_graph.specs.declared.known.Planned.{Planned}
+use Rattle.rcu_graph.specs.declared.plan.Plan.{Plan}
 use Rattle.rcu_graph.specs.declared.node_state.NodeState.{NodeState}
 use Rattle.rcu_graph.specs.declared.node_state.NodeState.TheVariants.{Free, Left, Live, Retired}
 use Rattle.rcu_graph.proofs.Counting.{live_inside}
 use Rattle.rcu_graph.proofs.FirstNodes.{first_at, is_free, is_root}
-use Rattle.rcu_graph.proofs.States.{live_aged}
-use Rattle.rcu_map.specs.Chains.{AreOfOneBucket, IsMap}
+use Rattle.rcu_graph.proofs.Looks.{AreAsLive, still_live, was_live}
+use Rattle.rcu_map.specs.Chains.{AreOfOneBucket, IsKept, IsMap}
 use Rattle.rcu_map.specs.Entries.{AreSameEntries, entries_in}
 use Rattle.rcu_map.specs.Keys.{GoesUp, IsWhole, bucket_in, key_in, root_words}
-use Rattle.rcu_map.specs.Splices.{AreKept}
+use Rattle.rcu_graph.specs.Puts.{AreKept}
 use Rattle.rcu_map.proofs.Buckets.{root_bucket, root_key}
 use Rattle.rcu_map.proofs.Counted.{as_many_entries, no_entries}
-use Rattle.rcu_map.proofs.Gaps.{free_or_live}
+use Rattle.rcu_graph.proofs.Puts.{free_or_live}
 
-is_live_aged : (n latest : ℕ) (s : NodeState) → is_live (aged_state n latest s) ≡ is_live s
-is_live_aged n latest Free = refl
-is_live_aged n latest Live = refl
-is_live_aged n latest Left = refl
-is_live_aged n latest (Retired a) = past _
-  where
-    past : (b : Bool) → is_live (if b then Free else Retired a) ≡ false
-    past true = refl
-    past false = refl
+-- no entry changes
+pub aged_entries : (buckets : ℕ) (A B : List Node) → AreAsLive A B → AreSameEntries buckets A B
+aged_entries buckets A B s w = (
+  λ h. record {
+    node = h.node;
+    entry = record { behind = h.entry.behind; live = was_live A B s h.node h.entry.live };
+    is = sym (s.words h.node) ∙ h.is;
+  },
+  λ h. record {
+    node = h.node;
+    entry = record { behind = h.entry.behind; live = still_live A B s h.node h.entry.live };
+    is = s.words h.node ∙ h.is;
+  },
+)
 
 module _ (holds : List ℕ → Type 0) (buckets seed width count : ℕ) where
-  -- a look at the number
-  module _ (A : List Node) (m : IsMap holds buckets seed width count A) (n latest : ℕ) where
-    at : (i : ℕ) → node_at (aged n latest A) i ≡ aged_node n latest (node_at A i)
-    at i = get_or-map (aged_node n latest) A i no_node
+  -- looks at the number
+  module _ (A B : List Node) (m : IsMap holds buckets seed width count A) (s : AreAsLive A B) where
+    key_same : (i : ℕ) → key_at B i ≡ key_at A i
+    key_same i = ap key_in (s.words i)
 
-    words_at : (i : ℕ) → (node_at (aged n latest A) i).words ≡ (node_at A i).words
-    words_at i = ap (λ (v : Node). v.words) (at i)
-
-    key_same : (i : ℕ) → key_at (aged n latest A) i ≡ key_at A i
-    key_same i = ap key_in (words_at i)
-
-    links_at : (i : ℕ) → (node_at (aged n latest A) i).links ≡ (node_at A i).links
-    links_at i = ap (λ (v : Node). v.links) (at i)
-
-    live_before : (i : ℕ) → state_at (aged n latest A) i ≡ Live → state_at A i ≡ Live
-    live_before i live =
-        live_aged n latest (state_at A i) (sym (ap (λ (v : Node). v.state) (at i)) ∙ live)
-
-    live_after : (i : ℕ) → state_at A i ≡ Live → state_at (aged n latest A) i ≡ Live
-    live_after i live = ap (λ (v : Node). v.state) (at i) ∙ ap (aged_state n latest) live
-
-    before : (i j : ℕ) → AreOfOneBucket buckets seed (aged n latest A) i j
-        → AreOfOneBucket buckets seed A i j
+    before : (i j : ℕ) → AreOfOneBucket buckets seed B i j → AreOfOneBucket buckets seed A i j
     before i j one = record {
-      first = live_before i one.first;
-      second = live_before j one.second;
+      first = was_live A B s i one.first;
+      second = was_live A B s j one.second;
       same =
-          ap (λ (w : List ℕ). bucket_in buckets seed w) (sym (words_at i))
-          ∙ (one.same ∙ ap (λ (w : List ℕ). bucket_in buckets seed w) (words_at j));
+          ap (λ (w : List ℕ). bucket_in buckets seed w) (sym (s.words i))
+          ∙ (one.same ∙ ap (λ (w : List ℕ). bucket_in buckets seed w) (s.words j));
     }
 
-    pub aged_map : length (aged n latest A) ≡ count
-        → AreTended (IsWhole holds width) (λ _ from to. GoesUp buckets seed from to) buckets 1
-        (aged n latest A)
-        → IsMap holds buckets seed width count (aged n latest A)
+    pub aged_map : length B ≡ count
+        → AreTended (IsWhole holds width) (λ _ from to. GoesUp buckets seed from to) buckets 1 B
+        → IsMap holds buckets seed width count B
     aged_map few tended = record {
       few = few;
       tended = tended;
-      roots = λ i low. words_at i ∙ m.roots i low;
+      roots = λ i low. s.words i ∙ m.roots i low;
       linked = λ i live.
-          ap (λ (cells : List ℕ). length cells) (links_at i) ∙ m.linked i (live_before i live);
+          ap (λ (cells : List ℕ). length cells) (s.links i) ∙ m.linked i (was_live A B s i live);
       next = λ i j one less.
           let a = key_same i in let b = key_same j in
           let l = m.next i j (before i j one) (omega (arith, less, a, b)) in
           let near = l.near in let d = key_same l.to in record {
             to = l.to;
-            leads = ap (λ (cells : List ℕ). slice_index cells 0) (links_at i) ∙ l.leads;
+            leads = ap (λ (cells : List ℕ). slice_index cells 0) (s.links i) ∙ l.leads;
             near = omega (arith, near, b, d);
           };
       apart = λ i j one same.
@@ -88,23 +78,8 @@ module _ (holds : List ℕ → Type 0) (buckets seed width count : ℕ) where
           let b = key_same j in m.apart i j (before i j one) (omega (arith, same, a, b));
     }
 
-    pub aged_entries : AreSameEntries buckets A (aged n latest A)
-    aged_entries w = (
-      λ h. record {
-        node = h.node;
-        entry = record { behind = h.entry.behind; live = live_before h.node h.entry.live };
-        is = sym (words_at h.node) ∙ h.is;
-      },
-      λ h. record {
-        node = h.node;
-        entry = record { behind = h.entry.behind; live = live_after h.node h.entry.live };
-        is = words_at h.node ∙ h.is;
-      },
-    )
-
-    pub aged_count : entries_in buckets (aged n latest A) ≡ entries_in buckets A
-    aged_count = as_many_entries buckets A (aged n latest A) (length-map A (aged_node n latest))
-        (λ i. ap (λ (v : Node). is_live v.state) (at i) ∙ is_live_aged n latest (state_at A i))
+    pub aged_count : entries_in buckets B ≡ entries_in buckets A
+    aged_count = as_many_entries buckets A B s.many s.live
 
   -- the nodes at first
   abbrev firsts : List Node
@@ -186,3 +161,34 @@ module _ (holds : List ℕ → Type 0) (buckets seed width count : ℕ) where
 
     pub none_first : entries_in buckets nodes ≡ 0
     none_first = ap (λ (l : List Node). entries_in buckets l) e ∙ first_count few_first tended_first
+
+-- a keeper keeps its entries, where it looked at the number
+module _ (holds : List ℕ → Type 0) (width : ℕ) (k m : Watching Planned)
+    (planned : m.view.client.plan ≡ k.view.client.plan)
+    (s : AreAsLive (nodes_in k.view.client.known) (nodes_in m.view.client.known))
+    (few : length (nodes_in m.view.client.known) ≡ m.view.client.plan.nodes)
+    (tended : AreTended (IsWhole holds m.view.client.plan.words)
+    (λ _ from to. GoesUp m.view.client.plan.roots m.view.client.plan.seed from to)
+    m.view.client.plan.roots m.view.client.plan.links (nodes_in m.view.client.known)) where
+  pub kept_aged : (len : ℕ)
+      → IsKept holds width k.view.client.plan (nodes_in k.view.client.known) len
+      → IsKept holds width m.view.client.plan (nodes_in m.view.client.known) len
+  kept_aged len kept =
+      let p : Plan = k.view.client.plan in
+      let A : List Node = nodes_in k.view.client.known in
+      let B : List Node = nodes_in m.view.client.known in
+      subst (λ (q : Plan). IsKept holds width q B len) (sym planned) (record {
+        some = kept.some;
+        one = kept.one;
+        words = kept.words;
+        map = aged_map holds p.roots p.seed p.words p.nodes A B kept.map s
+            (few ∙ ap (λ (q : Plan). q.nodes) planned)
+            (subst (λ (links : ℕ). AreTended (IsWhole holds p.words)
+            (λ _ from to. GoesUp p.roots p.seed from to) p.roots links B)
+            kept.one
+            (subst (λ (q : Plan). AreTended (IsWhole holds q.words)
+            (λ _ from to. GoesUp q.roots q.seed from to) q.roots q.links B)
+            planned tended));
+        count = kept.count
+            ∙ sym (aged_count holds p.roots p.seed p.words p.nodes A B kept.map s);
+      })

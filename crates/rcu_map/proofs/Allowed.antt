@@ -10,10 +10,11 @@ use Rattle.rcu_graph.specs.declared.known.Node.{Node}
 use Rattle.rcu_graph.specs.declared.node_state.NodeState.TheVariants.{Live}
 use Rattle.rcu_map.specs.Chains.{IsMap, buckets_in, seed_in}
 use Rattle.rcu_map.specs.Keys.{GoesUp, IsWhole, key_in}
-use Rattle.rcu_map.specs.Splices.{CanPass, CanPut, IsPlace}
+use Rattle.rcu_map.specs.Splices.{CanPass, IsPlace}
+use Rattle.rcu_graph.specs.Puts.{CanPut}
 use Rattle.rcu_map.proofs.Buckets.{entry_bucket}
 use Rattle.rcu_map.proofs.Chains.{inside, led}
-use Rattle.rcu_map.proofs.Puts.{target_of}
+use Rattle.rcu_graph.proofs.Puts.{target_of}
 
 -- the same place, of the same key in the same nodes
 pub placed : (w v : Watching Planned) (key k previous : ℕ) (was o : Option ℕ)

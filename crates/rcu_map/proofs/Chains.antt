@@ -10,7 +10,8 @@ use Rattle.rcu_graph.specs.declared.node_state.NodeState.TheVariants.{Free, Live
 use Rattle.rcu_graph.proofs.Counting.{live_inside}
 use Rattle.rcu_graph.proofs.Tending.{led_there}
 use Rattle.rcu_map.specs.Chains.{AreOfOneBucket, IsMap}
-use Rattle.rcu_map.specs.Entries.{HasKey, IsEntry, IsFreeNode, IsNodeOf}
+use Rattle.rcu_map.specs.Entries.{HasKey, IsEntry, IsNodeOf}
+use Rattle.rcu_graph.specs.Puts.{IsFreeNode}
 use Rattle.rcu_map.specs.Keys.{GoesUp, IsWhole, bucket_in, bucket_of, key_in}
 use Rattle.rcu_map.specs.Splices.{IsPlace}
 use Rattle.rcu_map.proofs.Buckets.{bucket_inside, entry_bucket, root_bucket, root_key}

@@ -13,7 +13,8 @@ use Rattle.rcu_graph.specs.declared.node_state.NodeState.TheVariants.{Free, Left
 use Rattle.rcu_map.specs.Chains.{IsMap}
 use Rattle.rcu_map.specs.Entries.{HasEntry}
 use Rattle.rcu_map.proofs.Chains.{reached}
-use Rattle.rcu_map.proofs.Gaps.{IsPassed, IsPut, not_free}
+use Rattle.rcu_map.proofs.Gaps.{IsPassed, IsPut}
+use Rattle.rcu_graph.proofs.Puts.{not_free}
 use Rattle.rcu_map.proofs.Trimmed.{AreHeld}
 
 pub left_or_live : (s : NodeState) → s ≡ Left → s ≡ Live → ⊥

@@ -10,16 +10,19 @@ use Rattle.rcu_graph.specs.Tended.{AreTended, AreTrimmed}
 use Rattle.rcu_graph.specs.declared.known.Node.{Node}
 use Rattle.rcu_graph.specs.declared.node_state.NodeState.TheVariants.{Free}
 use Rattle.rcu_graph.proofs.Counting.{live_inside}
+use Rattle.rcu_graph.proofs.PutNodes.{few_put}
 use Rattle.rcu_map.specs.Chains.{IsMap}
 use Rattle.rcu_map.specs.Entries.{HasEntry, IsInserted, entries_in}
 use Rattle.rcu_map.specs.Keys.{GoesUp, IsWhole, bucket_in, key_in}
-use Rattle.rcu_map.specs.Splices.{IsPlace, put}
+use Rattle.rcu_map.specs.Splices.{IsPlace}
+use Rattle.rcu_graph.specs.Puts.{put}
 use Rattle.rcu_map.proofs.Buckets.{entry_bucket}
 use Rattle.rcu_map.proofs.Chains.{bucket_at}
 use Rattle.rcu_map.proofs.Counted.{one_entry_more}
-use Rattle.rcu_map.proofs.Gaps.{IsGap, IsPut, all, insertion_gap, not_free, ordered_with}
+use Rattle.rcu_map.proofs.Gaps.{IsGap, IsPut, all, insertion_gap, ordered_with}
+use Rattle.rcu_graph.proofs.Puts.{not_free}
 use Rattle.rcu_map.proofs.Held.{held_with, node_behind, still_there}
-use Rattle.rcu_map.proofs.Stored.{few_put, is_put}
+use Rattle.rcu_map.proofs.Stored.{is_put}
 use Rattle.rcu_map.proofs.Trimmed.{AreHeld, map_after, same_state}
 
 module _ (holds : List ℕ → Type 0) (buckets seed width count : ℕ) (A : List Node)
@@ -82,8 +85,7 @@ module _ (holds : List ℕ → Type 0) (buckets seed width count : ℕ) (A : Lis
     inserted_count =
         one_entry_more buckets A B node
         (t.few
-        ∙ few_put A previous (live_inside A previous place.live) (m.linked previous place.live) node
-        words next low apart)
+        ∙ few_put A previous (live_inside A previous place.live) node words next low apart)
         (node_behind holds buckets seed width count A m node free) low (ap is_live free)
         (ap is_live (states node ∙ p.live)) (λ j ne. ap is_live (state_there j ne))
 

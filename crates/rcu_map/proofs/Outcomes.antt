@@ -12,7 +12,8 @@ use Rattle.rcu_map.specs.Chains.{IsMap, buckets_in, seed_in}
 use Rattle.rcu_map.specs.Entries.{entries_in}
 use Rattle.rcu_map.specs.Keys.{GoesUp, IsWhole, key_in}
 use Rattle.rcu_map.specs.Puts.{HasChanged, IsPutIn}
-use Rattle.rcu_map.specs.Splices.{HasPut, IsFull, IsPlace, by_put, put}
+use Rattle.rcu_map.specs.Splices.{IsPlace, by_put}
+use Rattle.rcu_graph.specs.Puts.{HasPut, IsFull, put}
 use Rattle.rcu_map.proofs.Chains.{free_node}
 use Rattle.rcu_map.proofs.Replacements.{replaced, replaced_count, replaced_map}
 
@@ -37,21 +38,21 @@ module _ (holds : List ℕ → Type 0) (before now : Watching Planned)
   abbrev count : ℕ
   count = before.view.client.plan.nodes
 
-  abbrev Ends : Result (Unit {0}) Full → Type 0
+  abbrev Ends : Result ℕ Full → Type 0
   Ends result = MatchResult result
-      (λ _. HasPut (IsWhole holds width) (λ _ from to. GoesUp buckets seed from to) before now
-      previous words next)
+      (λ node. HasPut (IsWhole holds width) (λ _ from to. GoesUp buckets seed from to) before now
+      previous node words next)
       (λ _. IsFull before now)
 
-  pub over_plan : (result : Result (Unit {0}) Full) → Ends result
+  pub over_plan : (result : Result ℕ Full) → Ends result
       → now.view.client.plan ≡ before.view.client.plan
-  over_plan (Ok _) done = ap (λ (w : Watching Planned). w.view.client.plan) done.state
+  over_plan (Ok node) done = ap (λ (w : Watching Planned). w.view.client.plan) done.state
   over_plan (Err _) full = ap (λ (w : Watching Planned). w.view.client.plan) full.unchanged
 
-  pub over_map : (result : Result (Unit {0}) Full) → Ends result
+  pub over_map : (result : Result ℕ Full) → Ends result
       → IsMap holds buckets seed width count (nodes_in now.view.client.known)
-  over_map (Ok _) done = replaced_map holds buckets seed width count
-      (nodes_in before.view.client.known) m previous done.node old words next
+  over_map (Ok node) done = replaced_map holds buckets seed width count
+      (nodes_in before.view.client.known) m previous node old words next
       (nodes_in now.view.client.known) some place to done.inside done.free done.trimmed
       done.kept.few done.kept.tended
   over_map (Err _) full =
@@ -59,25 +60,25 @@ module _ (holds : List ℕ → Type 0) (before now : Watching Planned)
       (nodes_in w.view.client.known))
       (sym full.unchanged) m
 
-  pub over_count : (result : Result (Unit {0}) Full) → Ends result
+  pub over_count : (result : Result ℕ Full) → Ends result
       → entries_in buckets (nodes_in now.view.client.known)
       ≡ entries_in buckets (nodes_in before.view.client.known)
-  over_count (Ok _) done = replaced_count holds buckets seed width count
+  over_count (Ok node) done = replaced_count holds buckets seed width count
       (nodes_in before.view.client.known) m
-      previous done.node old words next (nodes_in now.view.client.known) some place to done.inside
+      previous node old words next (nodes_in now.view.client.known) some place to done.inside
       done.free done.trimmed
   over_count (Err _) full =
       ap (λ (w : Watching Planned). entries_in buckets (nodes_in w.view.client.known))
       full.unchanged
 
-  pub over_put : (result : Result (Unit {0}) Full) → Ends result
+  pub over_put : (result : Result ℕ Full) → Ends result
       → MatchResult result (λ _. HasChanged (IsPutIn buckets words true) before now)
       (λ _. IsFull before now)
-  over_put (Ok _) done = record {
+  over_put (Ok node) done = record {
     by = record {
-      stored = put (nodes_in before.view.client.known) previous done.node words next;
-      one = by_put previous done.node words next place.live
-          (free_node holds buckets seed width count (nodes_in before.view.client.known) m done.node
+      stored = put (nodes_in before.view.client.known) previous node words next;
+      one = by_put previous node words next place.live
+          (free_node holds buckets seed width count (nodes_in before.view.client.known) m node
           done.inside done.free)
           refl;
       state = done.state;
@@ -85,7 +86,7 @@ module _ (holds : List ℕ → Type 0) (before now : Watching Planned)
       trimmed = done.trimmed;
     };
     nodes = replaced holds buckets seed width count (nodes_in before.view.client.known) m previous
-        done.node
+        node
         old words next (nodes_in now.view.client.known) some place to done.inside done.free
         done.trimmed;
   }

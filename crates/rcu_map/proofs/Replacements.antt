@@ -10,18 +10,21 @@ use Rattle.rcu_graph.specs.Tended.{AreTended, AreTrimmed}
 use Rattle.rcu_graph.specs.declared.known.Node.{Node}
 use Rattle.rcu_graph.specs.declared.node_state.NodeState.TheVariants.{Free, Left, Live}
 use Rattle.rcu_graph.proofs.Counting.{live_inside}
+use Rattle.rcu_graph.proofs.PutNodes.{few_put}
 use Rattle.rcu_map.specs.Chains.{IsMap}
 use Rattle.rcu_map.specs.Entries.{HasEntry, IsNodeOf, IsReplaced, entries_in}
 use Rattle.rcu_map.specs.Keys.{GoesUp, IsWhole, bucket_in, key_in}
-use Rattle.rcu_map.specs.Splices.{IsPlace, put}
+use Rattle.rcu_map.specs.Splices.{IsPlace}
+use Rattle.rcu_graph.specs.Puts.{put}
 use Rattle.rcu_map.proofs.Buckets.{entry_bucket}
 use Rattle.rcu_map.proofs.Chains.{bucket_at, one_way}
 use Rattle.rcu_map.proofs.Counted.{one_entry_more}
-use Rattle.rcu_map.proofs.Gaps.{IsGap, IsPut, but, but_other, not_free, ordered_with, other_but}
+use Rattle.rcu_map.proofs.Gaps.{IsGap, IsPut, but, but_other, ordered_with, other_but}
+use Rattle.rcu_graph.proofs.Puts.{not_free}
 use Rattle.rcu_map.proofs.Gaps.{replacement_gap}
 use Rattle.rcu_map.proofs.Held.{held_with, left_or_live, node_behind, still_there}
 use Rattle.rcu_map.proofs.Removals.{had, no_ring, not_old, other_key, passes, previous_stays}
-use Rattle.rcu_map.proofs.Stored.{few_put, is_put}
+use Rattle.rcu_map.proofs.Stored.{is_put}
 use Rattle.rcu_map.proofs.Trimmed.{AreHeld, is_left, map_after, same_state}
 
 module _ (holds : List ℕ → Type 0) (buckets seed width count : ℕ) (A : List Node)
@@ -114,8 +117,8 @@ module _ (holds : List ℕ → Type 0) (buckets seed width count : ℕ) (A : Lis
 
     pub replaced_count : entries_in buckets B ≡ entries_in buckets A
     replaced_count =
-        let many = few_put A previous (live_inside A previous place.live)
-        (m.linked previous place.live) node words next low apart in
+        let many = few_put A previous (live_inside A previous place.live) node words next low
+        apart in
         let more = one_entry_more buckets A S node many
         (node_behind holds buckets seed width count A m node free) low (ap is_live free)
         (ap is_live p.live) (λ j ne. ap is_live (p.states j ne)) in

@@ -30,9 +30,9 @@ use Rattle.rcu_map.specs.Runs.{is_of, last_of, looked, moments_in, seen_in, then
 use Rattle.rcu_map.specs.Splices.{IsOneStore, by_passing, by_put}
 use Rattle.rcu_map.proofs.Buckets.{bucket_inside, root_bucket}
 use Rattle.rcu_map.proofs.Chains.{has_key, root_key_at}
-use Rattle.rcu_map.proofs.Gaps.{not_free}
+use Rattle.rcu_graph.proofs.Puts.{not_free}
 use Rattle.rcu_map.proofs.Linked.{is_linked, leads_on}
-use Rattle.rcu_map.proofs.Puts.{target_there}
+use Rattle.rcu_graph.proofs.Puts.{target_there}
 
 -- where each live node leads as it may, the chain of a bucket is one
 chained_by : (buckets seed width root : ℕ) (nodes : List Node)

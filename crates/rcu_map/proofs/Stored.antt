@@ -11,7 +11,8 @@ use Rattle.rcu_graph.specs.Tended.{filled_with, relinked}
 use Rattle.rcu_graph.specs.declared.known.Node.{Node}
 use Rattle.rcu_graph.specs.declared.node_state.NodeState.TheVariants.{Live}
 use Rattle.rcu_graph.proofs.Counting.{kept_at, other_node, same_node}
-use Rattle.rcu_map.specs.Splices.{put}
+use Rattle.rcu_graph.proofs.PutNodes.{before, elsewhere, here}
+use Rattle.rcu_graph.specs.Puts.{put}
 use Rattle.rcu_map.proofs.Gaps.{IsPassed, IsPut}
 
 module _ (A : List Node) (previous : ℕ) (inside : previous < length A)
@@ -35,67 +36,40 @@ module _ (A : List Node) (previous : ℕ) (inside : previous < length A)
 
   module _ (node : ℕ) (words : List ℕ) (next : Option ℕ) (low : node < length A)
       (apart : node ≢ previous) where
-    abbrev written : Node → Node
-    written = filled_with (map word_to (next ∷ [])) words
+    abbrev after : List Node
+    after = put A previous node words next
 
-    abbrev filled : List Node
-    filled = renewed A node written
+    at_node : node_at after node
+        ≡ in_state Live (filled_with (map word_to (next ∷ [])) words (node_at A node))
+    at_node = here A previous inside node words next low apart
 
-    abbrev live_then : List Node
-    live_then = renewed filled node (in_state Live)
+    at_previous : node_at after previous ≡ linked_to 0 (suc node) (node_at A previous)
+    at_previous = before A previous inside node words next low apart
 
-    few : length filled ≡ length A
-    few = length-set A node (written (node_at A node))
-
-    few_then : length live_then ≡ length A
-    few_then = length-set filled node (in_state Live (node_at filled node)) ∙ few
-
-    pub few_put : length (put A previous node words next) ≡ length A
-    few_put =
-        length-set live_then previous (linked_to 0 (suc node) (node_at live_then previous))
-        ∙ few_then
-
-    new_node : node_at live_then node ≡ in_state Live (written (node_at A node))
-    new_node =
-        same_node filled node (in_state Live) (omega (arith, low, few))
-        ∙ ap (in_state Live) (same_node A node written low)
-
-    others : (i : ℕ) → i ≢ node → node_at live_then i ≡ node_at A i
-    others i ne = other_node filled node i (in_state Live) ne ∙ other_node A node i written ne
-
-    here : node_at (put A previous node words next) node ≡ in_state Live (written (node_at A node))
-    here = other_node live_then previous node (linked_to 0 (suc node)) apart ∙ new_node
-
-    before : node_at (put A previous node words next) previous
-        ≡ linked_to 0 (suc node) (node_at A previous)
-    before = same_node live_then previous (linked_to 0 (suc node)) (omega (arith, inside, few_then))
-        ∙ ap (linked_to 0 (suc node)) (others previous (λ is. apart (sym is)))
-
-    elsewhere : (i : ℕ) → i ≢ node → i ≢ previous
-        → node_at (put A previous node words next) i ≡ node_at A i
-    elsewhere i ni np = other_node live_then previous i (linked_to 0 (suc node)) np ∙ others i ni
+    at_other : (i : ℕ) → i ≢ node → i ≢ previous → node_at after i ≡ node_at A i
+    at_other = elsewhere A previous inside node words next low apart
 
     -- of all nodes but the new one stays what a link does not change
     stays : {X : Type 0} (part : Node → X)
         → part (linked_to 0 (suc node) (node_at A previous)) ≡ part (node_at A previous)
         → (i : ℕ) → i ≢ node
-        → part (node_at (put A previous node words next) i) ≡ part (node_at A i)
+        → part (node_at after i) ≡ part (node_at A i)
     stays part same i ni = dite (ℕ_discrete i previous)
-        (λ (is : i ≡ previous). ap (λ (n : ℕ). part (node_at (put A previous node words next) n)) is
-        ∙ (ap part before ∙ (same ∙ ap (λ (n : ℕ). part (node_at A n)) (sym is))))
-        (λ (np : i ≢ previous). ap part (elsewhere i ni np))
+        (λ (is : i ≡ previous). ap (λ (n : ℕ). part (node_at after n)) is
+        ∙ (ap part at_previous ∙ (same ∙ ap (λ (n : ℕ). part (node_at A n)) (sym is))))
+        (λ (np : i ≢ previous). ap part (at_other i ni np))
 
     pub is_put : IsPut A (put A previous node words next) previous node words (word_to next)
     is_put = record {
-      live = ap (λ (v : Node). v.state) here;
+      live = ap (λ (v : Node). v.state) at_node;
       states = stays (λ (v : Node). v.state) refl;
-      is = ap (λ (v : Node). v.words) here;
+      is = ap (λ (v : Node). v.words) at_node;
       same = stays (λ (v : Node). v.words) refl;
-      onward = ap (λ (v : Node). slice_index v.links 0) here;
-      led = ap (λ (v : Node). slice_index v.links 0) before
+      onward = ap (λ (v : Node). slice_index v.links 0) at_node;
+      led = ap (λ (v : Node). slice_index v.links 0) at_previous
           ∙ get_or-set_same (node_at A previous).links 0 (suc node) 0 (omega (arith, single));
-      leads = λ i ni np. ap (λ (v : Node). slice_index v.links 0) (elsewhere i ni np);
-      one = ap (λ (v : Node). length v.links) here;
+      leads = λ i ni np. ap (λ (v : Node). slice_index v.links 0) (at_other i ni np);
+      one = ap (λ (v : Node). length v.links) at_node;
       linked =
           stays (λ (v : Node). length v.links) (length-set (node_at A previous).links 0 (suc node));
     }

@@ -13,7 +13,7 @@ use Rattle.rcu_map.specs.Chains.{buckets_in}
 use Rattle.rcu_map.specs.Entries.{AreSameEntries, HasKey, IsEntryOf}
 use Rattle.rcu_map.specs.Keys.{key_in}
 use Rattle.rcu_map.specs.Puts.{HasAnswered, HasPutIn, Holds, IsPutIn, IsWanted, is_put}
-use Rattle.rcu_map.specs.Splices.{IsFull}
+use Rattle.rcu_graph.specs.Puts.{IsFull}
 use Rattle.rcu_map.specs.Waits.{HasMadeRoom, HasPutInTime}
 use Rattle.rcu_map.specs.declared.put.Put.{Put}
 use Rattle.rcu_map.specs.declared.put.Put.TheVariants.{Insert, Replace, Upsert}

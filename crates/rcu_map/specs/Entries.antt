@@ -2,9 +2,10 @@
 use Rattle.std.specs.Prelude.{◌≡◌, ◌≢◌, ◌⊎◌, ◌↔◌, ◌<◌, ◌≤◌, ℕ, List, drop, length}
 use Rattle.rcu_graph.specs.Absence.{key_at}
 use Rattle.rcu_graph.specs.Nodes.{node_at, state_at}
+use Rattle.rcu_graph.specs.Puts.{IsFreeNode}
 use Rattle.rcu_graph.specs.Trimming.{live_in}
 use Rattle.rcu_graph.specs.declared.known.Node.{Node}
-use Rattle.rcu_graph.specs.declared.node_state.NodeState.TheVariants.{Free, Left, Live}
+use Rattle.rcu_graph.specs.declared.node_state.NodeState.TheVariants.{Left, Live}
 use Rattle.rcu_map.specs.Keys.{key_in}
 
 -- the node i has an entry: it is live, and the root of no bucket
@@ -35,11 +36,6 @@ entries_in buckets nodes = live_in (drop buckets nodes)
 pub record IsSame (before after : List Node) (i : ℕ) : Type 0 where
   pub state : state_at after i ≡ state_at before i
   pub words : (node_at after i).words ≡ (node_at before i).words
-
--- this node is there, and free
-pub record IsFreeNode (nodes : List Node) (node : ℕ) : Type 0 where
-  pub inside : node < length nodes
-  pub free : state_at nodes node ≡ Free
 
 -- the entry of these words was put in: beside the entries that were there it is in the map, and
 -- nothing else. It has a node that was free, and the other nodes are the same

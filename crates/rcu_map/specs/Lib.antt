@@ -8,6 +8,5 @@ pub mod Listed
 pub mod Listing
 pub mod Puts
 pub mod Runs
-pub mod Sections
 pub mod Splices
 pub mod Waits

@@ -12,7 +12,8 @@ use Rattle.rcu_graph.specs.declared.known.Node.{Node}
 use Rattle.rcu_map.specs.Chains.{buckets_in, seed_in}
 use Rattle.rcu_map.specs.Entries.{HasKey, IsEntryOf, IsInserted, IsReplaced}
 use Rattle.rcu_map.specs.Keys.{GoesUp}
-use Rattle.rcu_map.specs.Splices.{IsFull, IsOneStore}
+use Rattle.rcu_map.specs.Splices.{IsOneStore}
+use Rattle.rcu_graph.specs.Puts.{IsFull}
 use Rattle.rcu_map.specs.declared.put.Put.{Put}
 use Rattle.rcu_map.specs.declared.put.Put.TheVariants.{Insert, Replace, Upsert}
 

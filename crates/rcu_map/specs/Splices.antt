@@ -1,20 +1,19 @@
--- What it takes to put a node into a chain or to take one out of it, and what that leaves.
-use Rattle.std.specs.Prelude.{◌≡◌, ◌<◌, ℕ, suc, List, [], ◌∷◌, Option, Some, None, length, map}
+-- Where a key belongs in a chain, and what it takes to take a node out of one and what that leaves.
+use Rattle.std.specs.Prelude.{◌≡◌, ◌<◌, ℕ, suc, List, Option, Some, None, length}
 use Rattle.rcu_live.specs.Board.{Object}
 use Rattle.rcu_live.specs.Watcher.{Watching}
 use Rattle.rcu_graph.specs.Absence.{key_at, next_of}
 use Rattle.rcu_graph.specs.Graph.{word_to}
 use Rattle.rcu_graph.specs.Keeper.{IsKeeperOf, after_store}
-use Rattle.rcu_graph.specs.Nodes.{IsTarget, node_at, nodes_in, renewed, state_at}
+use Rattle.rcu_graph.specs.Nodes.{IsTarget, node_at, nodes_in, state_at}
 use Rattle.rcu_graph.specs.Opening.{AreWhole}
+use Rattle.rcu_graph.specs.Puts.{AreKept, IsFreeNode, put}
 use Rattle.rcu_graph.specs.Steps.{IsClaimed}
-use Rattle.rcu_graph.specs.Tended.{AreAllUsed, AreLed, AreTended, AreTrimmed, filled_with}
-use Rattle.rcu_graph.specs.Tended.{published, relinked}
+use Rattle.rcu_graph.specs.Tended.{AreLed, AreTrimmed, relinked}
 use Rattle.rcu_graph.specs.declared.known.Planned.{Planned}
 use Rattle.rcu_graph.specs.declared.known.Node.{Node}
-use Rattle.rcu_graph.specs.declared.node_state.NodeState.TheVariants.{Free, Live}
+use Rattle.rcu_graph.specs.declared.node_state.NodeState.TheVariants.{Live}
 use Rattle.rcu_graph.specs.declared.plan.Plan.{Plan}
-use Rattle.rcu_map.specs.Entries.{IsFreeNode}
 use Rattle.rcu_map.specs.Keys.{bucket_in, bucket_of}
 
 -- the node leads to this one, which has the key; or to none that has it: nowhere, or to one with a
@@ -32,12 +31,6 @@ pub record IsPlace (buckets seed key : ℕ) (nodes : List Node) (previous : ℕ)
   pub less : key_at nodes previous < key
   pub leads : LeadsToKey key nodes previous node
 
--- so many nodes are tended, along the one link that each has
-pub record AreKept (fits : List ℕ → Type 0) (joins : ℕ → List ℕ → List ℕ → Type 0) (roots count : ℕ)
-    (nodes : List Node) : Type 0 where
-  pub few : length nodes ≡ count
-  pub tended : AreTended fits joins roots 1 nodes
-
 -- the seat may keep the graph's nodes, which are as at first
 pub record CanKeep (fits : List ℕ → Type 0) (first : ℕ → List ℕ) (graph : Object Plan)
     (seat : Watching Planned) : Type 0 where
@@ -46,25 +39,6 @@ pub record CanKeep (fits : List ℕ → Type 0) (first : ℕ → List ℕ) (grap
   pub nodes : IsClaimed first graph.plan.roots graph.plan.links graph.plan.words graph.plan.nodes
       seat.view.client.known
   pub whole : AreWhole fits first graph.plan
-
--- the keeper may put a node of these words behind this one, which may lead to it, as it may to the
--- next one
-pub record CanPut (fits : List ℕ → Type 0) (joins : ℕ → List ℕ → List ℕ → Type 0)
-    (keeper : Watching Planned) (previous : ℕ) (words : List ℕ)
-    (next : Option ℕ) : Type 0 where
-  pub one : keeper.view.client.plan.links ≡ 1
-  pub few : length (nodes_in keeper.view.client.known) ≡ keeper.view.client.plan.nodes
-  pub sized : length words ≡ keeper.view.client.plan.words
-  pub live : state_at (nodes_in keeper.view.client.known) previous ≡ Live
-  pub whole : fits words
-  pub joined : joins 0 (node_at (nodes_in keeper.view.client.known) previous).words words
-  pub target : IsTarget (joins 0) words (nodes_in keeper.view.client.known) (word_to next)
-
--- the nodes after these words were written to a node, with a link to the next one, and the previous
--- one was led to it
-abbrev pub put : List Node → ℕ → ℕ → List ℕ → Option ℕ → List Node
-put nodes previous node words next =
-    published (renewed nodes node (filled_with (map word_to (next ∷ [])) words)) previous 0 node
 
 -- by one store the nodes became these: a free node, which was filled before, was put behind a live
 -- one; or a live one was led elsewhere
@@ -75,29 +49,6 @@ pub data IsOneStore (before stored : List Node) : Type 0 where
   by_passing : (previous : ℕ) (next : Option ℕ)
       → state_at before previous ≡ Live → stored ≡ relinked before previous 0 next
       → IsOneStore before stored
-
--- a node that was free was put behind the previous one by one store, and what no live node leads to
--- any more was left
-pub record HasPut (fits : List ℕ → Type 0) (joins : ℕ → List ℕ → List ℕ → Type 0)
-    (before now : Watching Planned) (previous : ℕ) (words : List ℕ)
-    (next : Option ℕ) : Type 0 where
-  pub node : ℕ
-  pub inside : node < before.view.client.plan.nodes
-  pub free : state_at (nodes_in before.view.client.known) node ≡ Free
-  pub state : now ≡ after_store before
-      (put (nodes_in before.view.client.known) previous node words next)
-      (nodes_in now.view.client.known)
-  pub kept : AreKept fits joins before.view.client.plan.roots before.view.client.plan.nodes
-      (nodes_in now.view.client.known)
-  pub led : AreLed joins 1 (put (nodes_in before.view.client.known) previous node words next)
-  pub trimmed : AreTrimmed before.view.client.plan.roots 1
-      (put (nodes_in before.view.client.known) previous node words next)
-      (nodes_in now.view.client.known)
-
--- no node was free, and nothing changed
-pub record IsFull (before now : Watching Planned) : Type 0 where
-  pub full : AreAllUsed (nodes_in before.view.client.known)
-  pub unchanged : now ≡ before
 
 -- the keeper may lead the one node to where the other one leads
 pub record CanPass (joins : ℕ → List ℕ → List ℕ → Type 0) (keeper : Watching Planned)

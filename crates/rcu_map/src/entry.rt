@@ -1,7 +1,7 @@
 //! An entry of a map: a value of the user's type, with a key.
 ghost use Rattle.std.specs.Prelude.{◌≤◌};
 
-use rcu_cell::Value;
+use rcu_graph::Value;
 
 /// A value that is kept in `W` words, two or more, of which word 0 is its key. The words tell it
 /// again. A key is 1 or more.

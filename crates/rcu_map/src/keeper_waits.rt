@@ -6,8 +6,9 @@ ghost use Rattle.rcu_live.specs.Waits.{HasRested, wait_fault};
 ghost use Rattle.rcu_graph.specs.Nodes.{nodes_in};
 ghost use Rattle.rcu_map.specs.Chains.{buckets_in};
 ghost use Rattle.rcu_map.specs.Puts.{Holds, IsWanted, is_put};
-ghost use Rattle.rcu_map.specs.Waits.{AreAllLive, AreOf, CanWait, HasGivenUp, HasMadeRoom};
-ghost use Rattle.rcu_map.specs.Waits.{HasPutInTime, HasStayed, WaitedFor};
+ghost use Rattle.rcu_graph.specs.Waits.{AreOf, CanWait, HasStayed};
+ghost use Rattle.rcu_map.specs.Waits.{AreAllLive, HasGivenUp, HasMadeRoom, HasPutInTime};
+ghost use Rattle.rcu_map.specs.Waits.{WaitedFor};
 ghost use Rattle.rcu_map.specs.declared.put.NotPut.{NotPut};
 
 use crate::entry::Entry;
@@ -15,7 +16,7 @@ use crate::keeper::MapKeeper;
 use crate::put::{NotPut, Put};
 use crate::shape::{MapRule, MapSeat};
 use rcu_live::Live;
-use rcu_seq::{Cookie, Fault, Tag};
+use rcu_seq::Fault;
 use std::sync::Wait;
 
 /// Refuses a seat with an open section, which its caller would wait for.
@@ -54,19 +55,9 @@ impl<E: Entry<W>, const W: usize> MapKeeper<E, W> {
         ensures given_up { OnErr result
             (HasGivenUp (buckets_in self.old) seat.old seat.new self.old self.new) }
     {
-        let cookie = Cookie::of(Tag::of_first_epoch(self.age()));
-        let mut waited = Ok(());
-        let mut rounds = 0;
-        for _ in rt.forever() {
-            if self.nodes.free_node().is_ok() {
-                return Ok(());
-            }
-            waited?;
-            waited = live.wait_once(rt, seat, cookie);
-            rounds = live.sleep_between(rt, seat, cookie, rounds);
-            self.age();
-        }
-        unreachable!()
+        let waited = self.nodes.wait_until_free(rt, live, seat);
+        self.nodes.tends();
+        waited
     }
 
     /// The same, where some node becomes free by that.

@@ -1,9 +1,8 @@
 //! A keeper's steps on chains: on nodes with one link each.
-ghost use Rattle.std.specs.Prelude.{IfOk, MatchResult};
-ghost use Rattle.rcu_map.specs.Splices.{CanKeep, CanPass, CanPut, HasKept, HasPassed, HasPut};
-ghost use Rattle.rcu_map.specs.Splices.{IsFull};
+ghost use Rattle.std.specs.Prelude.{IfOk};
+ghost use Rattle.rcu_map.specs.Splices.{CanKeep, CanPass, HasKept, HasPassed};
 
-use rcu_graph::{Full, Graph, GraphWatcher, Keeper, Shape};
+use rcu_graph::{Graph, GraphWatcher, Keeper, Shape};
 use std::alloc::{AllocError, Global};
 
 /// The keeper of a graph whose nodes are as at first.
@@ -19,28 +18,6 @@ pub(crate) fn keep<F: Shape>(
     let keeper = Keeper::new(alloc, graph, seat)?;
     keeper.tends();
     Ok(keeper)
-}
-
-/// Writes these words to a free node, which leads to the next one, and leads the previous one to it
-/// by one store. What no live node leads to any more is left.
-pub(crate) fn put<F: Shape>(
-    keeper: &mut Keeper<F>,
-    previous: usize,
-    words: &[u64],
-    next: Option<usize>,
-) -> Result<(), Full>
-    requires { CanPut (F.fits keeper.old.view.client.plan) (F.joins keeper.old.view.client.plan)
-        keeper.old previous words.now next }
-    ensures { MatchResult result
-        (λ _. HasPut (F.fits keeper.old.view.client.plan) (F.joins keeper.old.view.client.plan)
-        keeper.old keeper.new previous words.now next)
-        (λ _. IsFull keeper.old keeper.new) }
-{
-    let node = keeper.free_node()?;
-    keeper.fill(node, words, &[next]);
-    keeper.publish(previous, 0, node);
-    keeper.tends();
-    Ok(())
 }
 
 /// Leads the previous node to where the old one leads, by one store. What no live node leads to any

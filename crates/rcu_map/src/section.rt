@@ -4,7 +4,7 @@ ghost use Rattle.std.specs.Result.{result_err};
 ghost use Rattle.rcu_live.specs.CpuSeat.{enter_refusal};
 ghost use Rattle.rcu_graph.specs.Graph.{IsSeatOf};
 ghost use Rattle.rcu_graph.specs.Nodes.{IsReader};
-ghost use Rattle.rcu_map.specs.Sections.{after_section};
+ghost use Rattle.rcu_graph.specs.Sections.{after_section};
 
 use crate::entry::Entry;
 use crate::map::Map;

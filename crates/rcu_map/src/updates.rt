@@ -6,12 +6,13 @@ ghost use Rattle.rcu_map.specs.Chains.{buckets_in, seed_in};
 ghost use Rattle.rcu_map.specs.Entries.{IsRemoved};
 ghost use Rattle.rcu_map.specs.Keys.{key_in};
 ghost use Rattle.rcu_map.specs.Puts.{HasAnswered, HasChanged, Holds, IsPutIn};
-ghost use Rattle.rcu_map.specs.Splices.{IsFull, IsPlace};
+ghost use Rattle.rcu_map.specs.Splices.{IsPlace};
+ghost use Rattle.rcu_graph.specs.Puts.{IsFull};
 ghost use Rattle.rcu_map.specs.declared.put.Put.{Put};
 
 use crate::entry::Entry;
 use crate::keeper::MapKeeper;
-use crate::links::{pass, put};
+use crate::links::pass;
 use crate::put::Put;
 use rcu_graph::Full;
 
@@ -29,13 +30,14 @@ impl<E: Entry<W>, const W: usize> MapKeeper<E, W> {
     {
         self.nodes.plan();
         let next = self.nodes.link_of(previous, 0);
-        put(&mut self.nodes, previous, words, next)?;
+        self.nodes.put(previous, words, next)?;
         self.len += 1;
         Ok(())
     }
 
-    /// Puts an entry of these words in the place of the old one that has its key, behind this node.
-    fn put_over(&mut self, previous: usize, old: usize, words: &[u64; W]) -> Result<(), Full>
+    /// Puts an entry of these words in the place of the old one that has its key, behind this node,
+    /// and returns its node.
+    fn put_over(&mut self, previous: usize, old: usize, words: &[u64; W]) -> Result<usize, Full>
         requires whole { E.holds words.now }
         requires place { IsPlace (buckets_in self.old) (seed_in self.old) (key_in words.now)
             (nodes_in self.old.view.client.known)
@@ -46,7 +48,7 @@ impl<E: Entry<W>, const W: usize> MapKeeper<E, W> {
             (λ _. IsFull self.old self.new) }
     {
         let next = self.nodes.link_of(old, 0);
-        put(&mut self.nodes, previous, words, next)
+        self.nodes.put(previous, words, next)
     }
 
     /// Puts an entry in so, by one store, and returns the one that had its key. `Full` tells that

@@ -1,5 +1,5 @@
 //! The limits of a service, as a value in a cell.
-use rcu_cell::{Cell, Invariant, Retired, Value};
+use rcu_cell::{Cell, Invariant, Retired, Value, Version};
 
 /// How many requests a second are answered, and how many more at once: at least as many.
 #[derive(Clone, Copy, Debug, PartialEq, Eq)]
@@ -13,6 +13,16 @@ impl Invariant for Limits {
 
     ghost holds = { λ words. (slice_index words 0 ≤ slice_index words 1)
         × (slice_index words 1 < 2 ^ 32) };
+}
+
+impl Version<2> for Limits {
+    ghost use Rattle.std.specs.Prelude.{replicate};
+
+    ghost first = { replicate 2 0 };
+
+    fn first_word(_word: usize) -> u64 {
+        0
+    }
 }
 
 impl Value<2> for Limits {
@@ -54,13 +64,13 @@ fn limits_are_replaced(rt: HostRuntime) {
     };
     let words = first.to_words();
     assert_eq!(rt; words, [10, 20]);
-    let opened = Cell::<Limits, 2, 2>::open::<4, 4, u64>(rt.alloc(), 1, 8, &words);
+    let opened = Cell::<Limits, 2>::open::<4, 4, u64>(rt.alloc(), 1, 8, 2, &words);
     let Ok(mut opened) = opened else {
         return;
     };
     let (live, cell, keeper) = (&opened.live, &opened.cell, &mut opened.keeper);
     let mut seat = opened.seats.pop().unwrap();
-    let retired = Retired { slot: 0, by: 1 };
+    let retired = Retired { slot: 1, by: 2 };
     assert_eq!(rt; cell.value_section(live, &mut seat), Ok(first));
     assert_eq!(rt; keeper.update_value(second), Ok(retired));
     assert_eq!(rt; cell.value_section(live, &mut seat), Ok(second));

@@ -1,40 +1,35 @@
 //! Parts of tests with threads: the seats, and what moves the grace periods on.
 ghost use Rattle.std.specs.Prelude.{◌≡◌, All};
 ghost use Rattle.rcu_live.specs.CpuSeat.{IsSeatOf};
+ghost use Rattle.rcu_cell.specs.Cell.{IsOutside};
 
-use rcu_cell::{CellRule, CellSeat, Invariant, Keeper};
+use rcu_cell::{CellRule, CellSeat, Keeper, Version};
 use rcu_live::Live;
 use std::process::Abort;
 use std::sync::Wait;
 
 /// The seat of the last processor that is left.
-pub(crate) fn next_seat<R: Abort, F: Invariant, const W: usize, const N: usize>(
+pub(crate) fn next_seat<R: Abort, F: Version<W>, const W: usize>(
     rt: &R,
-    live: &Live<4, 4, u64, CellRule<F, W, N>>,
-    seats: &mut Vec<CellSeat<F, W, N>>,
-) -> CellSeat<F, W, N>
-    requires seats { All (IsSeatOf live.now) seats.old.items }
-    requires outside { All (λ seat. seat.depth ≡ 0) seats.old.items }
-    ensures seats { All (IsSeatOf live.now) seats.new.items }
-    ensures outside { All (λ seat. seat.depth ≡ 0) seats.new.items }
-    ensures seat { IsSeatOf live.now result }
-    ensures shut { result.depth ≡ 0 }
+    live: &Live<4, 4, u64, CellRule<F, W>>,
+    seats: &mut Vec<CellSeat<F, W>>,
+) -> CellSeat<F, W>
+    requires seats { All (IsOutside live.now) seats.old.items }
+    ensures seats { All (IsOutside live.now) seats.new.items }
+    ensures seat { IsOutside live.now result }
 {
     seats.pop().expect(rt, "a processor is left")
 }
 
 /// The same, of a processor that is online from now on.
-pub(crate) fn next_online<R: Abort + Wait, F: Invariant, const W: usize, const N: usize>(
+pub(crate) fn next_online<R: Abort + Wait, F: Version<W>, const W: usize>(
     rt: &R,
-    live: &Live<4, 4, u64, CellRule<F, W, N>>,
-    seats: &mut Vec<CellSeat<F, W, N>>,
-) -> CellSeat<F, W, N>
-    requires seats { All (IsSeatOf live.now) seats.old.items }
-    requires outside { All (λ seat. seat.depth ≡ 0) seats.old.items }
-    ensures seats { All (IsSeatOf live.now) seats.new.items }
-    ensures outside { All (λ seat. seat.depth ≡ 0) seats.new.items }
-    ensures seat { IsSeatOf live.now result }
-    ensures shut { result.depth ≡ 0 }
+    live: &Live<4, 4, u64, CellRule<F, W>>,
+    seats: &mut Vec<CellSeat<F, W>>,
+) -> CellSeat<F, W>
+    requires seats { All (IsOutside live.now) seats.old.items }
+    ensures seats { All (IsOutside live.now) seats.new.items }
+    ensures seat { IsOutside live.now result }
 {
     let mut seat = next_seat(rt, live, seats);
     assert_eq!(rt; live.online(rt, &mut seat), Ok(()));
@@ -44,11 +39,11 @@ pub(crate) fn next_online<R: Abort + Wait, F: Invariant, const W: usize, const N
 /// Moves a grace period of so many processors on, from the processor 0, and looks which slots are
 /// free. A callback asks for the grace period; where its queueing is refused memory, a later call
 /// does.
-pub(crate) fn drive<R: Wait, F: Invariant, const W: usize, const N: usize>(
+pub(crate) fn drive<R: Wait, F: Version<W>, const W: usize>(
     rt: &R,
-    live: &Live<4, 4, u64, CellRule<F, W, N>>,
-    keeper: &mut Keeper<F, W, N>,
-    seat: &mut CellSeat<F, W, N>,
+    live: &Live<4, 4, u64, CellRule<F, W>>,
+    keeper: &mut Keeper<F, W>,
+    seat: &mut CellSeat<F, W>,
     cpus: u32,
 )
     requires { IsSeatOf live.now seat.old }

@@ -3,6 +3,7 @@
 ghost use Rattle.std.specs.Prelude.{◌≡◌, ◌≤◌, All};
 ghost use Rattle.std.specs.Thread.{IsSync};
 ghost use Rattle.rcu_live.specs.CpuSeat.{IsSeatOf};
+ghost use Rattle.rcu_cell.specs.Cell.{IsOutside};
 
 use crate::cell::limits::Limits;
 use crate::cell::parts::{drive, next_online, next_seat};
@@ -14,10 +15,10 @@ use std::sync::Wait;
 use std::thread;
 use std::thread::Threads;
 
-/// The limits, in one of four slots.
-type Shared = Cell<Limits, 2, 4>;
+/// The limits.
+type Shared = Cell<Limits, 2>;
 
-type Engine = Live<4, 4, u64, CellRule<Limits, 2, 4>>;
+type Engine = Live<4, 4, u64, CellRule<Limits, 2>>;
 
 /// How many requests a server answers.
 const REQUESTS: u32 = 100_000;
@@ -30,10 +31,9 @@ const CHANGES: u32 = 1_000;
 struct Server<'a> {
     live: &'a Engine,
     cell: &'a Shared,
-    seat: CellSeat<Limits, 2, 4>,
+    seat: CellSeat<Limits, 2>,
     ghost engine: { live.now ≡ cell.now },
-    ghost seat_of: { IsSeatOf live.now seat },
-    ghost outside: { seat.depth ≡ 0 },
+    ghost seat_of: { IsOutside live.now seat },
 }
 
 impl<'a> Server<'a> {
@@ -64,8 +64,8 @@ impl<'a> Server<'a> {
 #[derive(Drop)]
 struct Control<'a> {
     live: &'a Engine,
-    keeper: Keeper<Limits, 2, 4>,
-    seat: CellSeat<Limits, 2, 4>,
+    keeper: Keeper<Limits, 2>,
+    seat: CellSeat<Limits, 2>,
     ghost seat_of: { IsSeatOf live.now seat },
 }
 
@@ -97,12 +97,11 @@ fn run_service<R: Abort + Threads + Wait + Sync>(
     rt: &R,
     live: &Engine,
     cell: &Shared,
-    mut seats: Vec<CellSeat<Limits, 2, 4>>,
-    keeper: Keeper<Limits, 2, 4>,
+    mut seats: Vec<CellSeat<Limits, 2>>,
+    keeper: Keeper<Limits, 2>,
 ) -> u32
     requires engine { live.now ≡ cell.now }
-    requires seats { All (IsSeatOf live.now) seats.items }
-    requires outside { All (λ seat. seat.depth ≡ 0) seats.items }
+    requires seats { All (IsOutside live.now) seats.items }
 {
     let seat = next_online(rt, live, &mut seats);
     let server = Server { live, cell, seat };
@@ -115,7 +114,7 @@ fn run_service<R: Abort + Threads + Wait + Sync>(
 #[test]
 fn limits_are_replaced_while_requests_are_answered(rt: HostRuntime) {
     let first = Limits { rate: 1, burst: 1 };
-    let Ok(opened) = Shared::open(rt.alloc(), 2, 4_000_000, &first.to_words()) else {
+    let Ok(opened) = Shared::open(rt.alloc(), 2, 4_000_000, 4, &first.to_words()) else {
         return;
     };
     let (seats, keeper) = (opened.seats, opened.keeper);

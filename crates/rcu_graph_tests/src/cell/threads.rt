@@ -3,9 +3,10 @@
 ghost use Rattle.std.specs.Prelude.{◌≡◌, All};
 ghost use Rattle.std.specs.Thread.{IsSync};
 ghost use Rattle.rcu_live.specs.CpuSeat.{IsSeatOf};
+ghost use Rattle.rcu_cell.specs.Cell.{IsOutside};
 
 use crate::cell::parts::{drive, next_online, next_seat};
-use rcu_cell::{Cell, CellRule, CellSeat, Invariant, Keeper};
+use rcu_cell::{Cell, CellRule, CellSeat, Invariant, Keeper, Version};
 use rcu_live::Live;
 use std::process::Abort;
 use std::sync::Wait;
@@ -23,9 +24,19 @@ impl Invariant for Same {
         × (slice_index words 3 ≡ slice_index words 0) };
 }
 
-type Numbered = Cell<Same, 4, 64>;
+impl Version<4> for Same {
+    ghost use Rattle.std.specs.Prelude.{replicate};
 
-type Engine = Live<4, 4, u64, CellRule<Same, 4, 64>>;
+    ghost first = { replicate 4 0 };
+
+    fn first_word(_word: usize) -> u64 {
+        0
+    }
+}
+
+type Numbered = Cell<Same, 4>;
+
+type Engine = Live<4, 4, u64, CellRule<Same, 4>>;
 
 /// The last version that is published.
 const LAST: u64 = 25_000;
@@ -38,11 +49,10 @@ const READS: u32 = 4_000_000;
 struct Reader<'a> {
     live: &'a Engine,
     cell: &'a Numbered,
-    seat: CellSeat<Same, 4, 64>,
+    seat: CellSeat<Same, 4>,
     newest: u64,
     ghost engine: { live.now ≡ cell.now },
-    ghost seat_of: { IsSeatOf live.now seat },
-    ghost outside: { seat.depth ≡ 0 },
+    ghost seat_of: { IsOutside live.now seat },
 }
 
 impl<'a> Reader<'a> {
@@ -80,8 +90,8 @@ impl<'a> Reader<'a> {
 #[derive(Drop)]
 struct Updater<'a> {
     live: &'a Engine,
-    keeper: Keeper<Same, 4, 64>,
-    seat: CellSeat<Same, 4, 64>,
+    keeper: Keeper<Same, 4>,
+    seat: CellSeat<Same, 4>,
     ghost seat_of: { IsSeatOf live.now seat },
 }
 
@@ -128,13 +138,11 @@ fn next_reader<'a, R: Abort + Wait>(
     rt: &R,
     live: &'a Engine,
     cell: &'a Numbered,
-    seats: &mut Vec<CellSeat<Same, 4, 64>>,
+    seats: &mut Vec<CellSeat<Same, 4>>,
 ) -> Reader<'a>
     requires engine { live.now ≡ cell.now }
-    requires seats { All (IsSeatOf live.now) seats.old.items }
-    requires outside { All (λ seat. seat.depth ≡ 0) seats.old.items }
-    ensures seats { All (IsSeatOf live.now) seats.new.items }
-    ensures outside { All (λ seat. seat.depth ≡ 0) seats.new.items }
+    requires seats { All (IsOutside live.now) seats.old.items }
+    ensures seats { All (IsOutside live.now) seats.new.items }
 {
     let seat = next_online(rt, live, seats);
     Reader {
@@ -150,12 +158,11 @@ fn run_on<R: Abort + Threads + Wait + Sync>(
     rt: &R,
     live: &Engine,
     cell: &Numbered,
-    mut seats: Vec<CellSeat<Same, 4, 64>>,
-    keeper: Keeper<Same, 4, 64>,
+    mut seats: Vec<CellSeat<Same, 4>>,
+    keeper: Keeper<Same, 4>,
 ) -> (bool, bool, bool)
     requires engine { live.now ≡ cell.now }
-    requires seats { All (IsSeatOf live.now) seats.items }
-    requires outside { All (λ seat. seat.depth ≡ 0) seats.items }
+    requires seats { All (IsOutside live.now) seats.items }
 {
     let a = next_reader(rt, live, cell, &mut seats);
     let b = next_reader(rt, live, cell, &mut seats);
@@ -167,7 +174,7 @@ fn run_on<R: Abort + Threads + Wait + Sync>(
 
 #[test]
 fn readers_beside_a_keeper(rt: HostRuntime) {
-    let Ok(opened) = Numbered::open(rt.alloc(), 4, 4_000_000, &[0; 4]) else {
+    let Ok(opened) = Numbered::open(rt.alloc(), 4, 4_000_000, 64, &[0; 4]) else {
         return;
     };
     let (seats, keeper) = (opened.seats, opened.keeper);

@@ -1,6 +1,6 @@
 //! A version that a section has loaded, while the keeper shows others.
 ghost use Rattle.std.specs.Prelude.{◌≡◌, ◌≤◌};
-ghost use Rattle.rcu_live.specs.CpuSeat.{IsSeatOf};
+ghost use Rattle.rcu_cell.specs.Cell.{IsOutside};
 
 use crate::cell::limits::Limits;
 use crate::cell::{Any, Engine, Pairs, reads, shows};
@@ -13,18 +13,17 @@ fn load_and_show<R: Abort>(
     rt: &R,
     live: &Engine,
     cell: &Pairs,
-    seat: &mut CellSeat<Any, 2, 2>,
-    keeper: &mut Keeper<Any, 2, 2>,
+    seat: &mut CellSeat<Any, 2>,
+    keeper: &mut Keeper<Any, 2>,
 )
     requires engine { live.now ≡ cell.now }
-    requires seat { IsSeatOf live.now seat.old }
-    requires outside { seat.old.depth ≡ 0 }
+    requires seat { IsOutside live.now seat.old }
 {
     let Ok(1) = seat.enter(live) else {
         panic!(rt; "no section was opened")
     };
     let mut loaded = cell.loaded(seat);
-    shows(rt, keeper, [3, 4], Ok(Retired { slot: 0, by: 1 }));
+    shows(rt, keeper, [3, 4], Ok(Retired { slot: 1, by: 2 }));
     shows(rt, keeper, [5, 6], Err(Full));
     assert_eq!(rt; loaded.read(1), 2);
     assert_eq!(rt; loaded.snapshot(), [1, 2]);
@@ -38,7 +37,7 @@ fn load_and_show<R: Abort>(
 
 #[test]
 fn loaded_version_stays_as_it_was(rt: HostRuntime) {
-    let Ok(mut opened) = Pairs::open(rt.alloc(), 1, 8, &[1, 2]) else {
+    let Ok(mut opened) = Pairs::open(rt.alloc(), 1, 8, 2, &[1, 2]) else {
         return;
     };
     let mut seat = opened.seats.pop().unwrap();
@@ -54,23 +53,22 @@ fn loaded_version_stays_as_it_was(rt: HostRuntime) {
 /// A value loaded before another is shown, and the value of a section after that.
 fn load_and_show_values<R: Abort>(
     rt: &R,
-    live: &Live<4, 4, u64, CellRule<Limits, 2, 2>>,
-    cell: &Cell<Limits, 2, 2>,
-    seat: &mut CellSeat<Limits, 2, 2>,
-    keeper: &mut Keeper<Limits, 2, 2>,
+    live: &Live<4, 4, u64, CellRule<Limits, 2>>,
+    cell: &Cell<Limits, 2>,
+    seat: &mut CellSeat<Limits, 2>,
+    keeper: &mut Keeper<Limits, 2>,
     first: Limits,
     second: Limits,
 )
     requires engine { live.now ≡ cell.now }
-    requires seat { IsSeatOf live.now seat.old }
-    requires outside { seat.old.depth ≡ 0 }
+    requires seat { IsOutside live.now seat.old }
     requires second { second.rate ≤ second.burst }
 {
     let Ok(1) = seat.enter(live) else {
         panic!(rt; "no section was opened")
     };
     let mut loaded = cell.loaded(seat);
-    let retired = Retired { slot: 0, by: 1 };
+    let retired = Retired { slot: 1, by: 2 };
     assert_eq!(rt; keeper.update_value(second), Ok(retired));
     assert_eq!(rt; loaded.value(), first);
     let Ok(0) = seat.exit(live) else {
@@ -89,7 +87,7 @@ fn loaded_value_stays_as_it_was(rt: HostRuntime) {
         rate: 30,
         burst: 30,
     };
-    let Ok(mut opened) = Cell::open(rt.alloc(), 1, 8, &first.to_words()) else {
+    let Ok(mut opened) = Cell::open(rt.alloc(), 1, 8, 2, &first.to_words()) else {
         return;
     };
     let (live, cell, keeper) = (&opened.live, &opened.cell, &mut opened.keeper);

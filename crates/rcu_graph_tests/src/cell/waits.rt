@@ -1,6 +1,8 @@
 //! Updates that wait for a free slot: on one thread, and beside a slow reader.
 ghost use Rattle.std.specs.Prelude.{◌≡◌, ◌≤◌};
-ghost use Rattle.rcu_cell.specs.Cell.{IsSeatOf, IsWatcherOf};
+ghost use Rattle.rcu_live.specs.CpuSeat.{IsSeatOf};
+ghost use Rattle.rcu_cell.specs.Cell.{IsOutside};
+ghost use Rattle.rcu_graph.specs.Graph.{IsWatcherOf};
 
 use crate::cell::limits::Limits;
 use crate::cell::{Any, Engine, Pairs};
@@ -16,8 +18,8 @@ use std::thread::Threads;
 fn shows<R: Abort + Wait>(
     rt: &R,
     live: &Engine,
-    keeper: &mut Keeper<Any, 2, 2>,
-    seat: &mut CellSeat<Any, 2, 2>,
+    keeper: &mut Keeper<Any, 2>,
+    seat: &mut CellSeat<Any, 2>,
     words: [u64; 2],
     wanted: Result<Retired, Fault>,
 )
@@ -36,8 +38,8 @@ fn shows<R: Abort + Wait>(
 fn update_up_to_the_last_number<R: Abort + Wait>(
     rt: &R,
     live: &Engine,
-    keeper: &mut Keeper<Any, 2, 2>,
-    seat: &mut CellSeat<Any, 2, 2>,
+    keeper: &mut Keeper<Any, 2>,
+    seat: &mut CellSeat<Any, 2>,
 )
     requires keeper { IsWatcherOf live.now keeper.old }
     requires seat { IsSeatOf live.now seat.old }
@@ -51,7 +53,7 @@ fn update_up_to_the_last_number<R: Abort + Wait>(
         keeper,
         seat,
         [2, 2],
-        Ok(Retired { slot: 0, by: 1 }),
+        Ok(Retired { slot: 1, by: 2 }),
     );
     shows(
         rt,
@@ -59,7 +61,7 @@ fn update_up_to_the_last_number<R: Abort + Wait>(
         keeper,
         seat,
         [3, 3],
-        Ok(Retired { slot: 1, by: 0 }),
+        Ok(Retired { slot: 2, by: 1 }),
     );
     shows(rt, live, keeper, seat, [4, 4], Err(Fault::Exhausted));
     shows(rt, live, keeper, seat, [4, 4], Err(Fault::Exhausted));
@@ -67,7 +69,7 @@ fn update_up_to_the_last_number<R: Abort + Wait>(
 
 #[test]
 fn updates_wait_up_to_the_last_number(rt: HostRuntime) {
-    let Ok(mut opened) = Pairs::open(rt.alloc(), 1, 4, &[1, 1]) else {
+    let Ok(mut opened) = Pairs::open(rt.alloc(), 1, 4, 2, &[1, 1]) else {
         return;
     };
     let mut seat = opened.seats.pop().unwrap();
@@ -75,9 +77,9 @@ fn updates_wait_up_to_the_last_number(rt: HostRuntime) {
 }
 
 /// The limits, in one of two slots: each change but the first waits for a grace period.
-type Shared = Cell<Limits, 2, 2>;
+type Shared = Cell<Limits, 2>;
 
-type SharedEngine = Live<4, 4, u64, CellRule<Limits, 2, 2>>;
+type SharedEngine = Live<4, 4, u64, CellRule<Limits, 2>>;
 
 /// How often the limits are replaced.
 const CHANGES: u32 = 200;
@@ -90,11 +92,10 @@ const READS: u32 = 2_000;
 struct Reader<'a> {
     live: &'a SharedEngine,
     cell: &'a Shared,
-    seat: CellSeat<Limits, 2, 2>,
+    seat: CellSeat<Limits, 2>,
     newest: u32,
     ghost engine: { live.now ≡ cell.now },
-    ghost seat_of: { IsSeatOf live.now seat },
-    ghost outside: { seat.depth ≡ 0 },
+    ghost seat_of: { IsOutside live.now seat },
 }
 
 impl<'a> Reader<'a> {
@@ -129,8 +130,8 @@ impl<'a> Reader<'a> {
 #[derive(Drop)]
 struct Control<'a> {
     live: &'a SharedEngine,
-    keeper: Keeper<Limits, 2, 2>,
-    seat: CellSeat<Limits, 2, 2>,
+    keeper: Keeper<Limits, 2>,
+    seat: CellSeat<Limits, 2>,
     ghost keeper_of: { IsWatcherOf live.now keeper },
     ghost seat_of: { IsSeatOf live.now seat },
 }
@@ -169,7 +170,7 @@ fn run_beside<R: Threads + Wait + Sync>(
 #[test]
 fn limits_are_replaced_in_two_slots(rt: HostRuntime) {
     let first = Limits { rate: 0, burst: 1 };
-    let Ok(opened) = Shared::open(rt.alloc(), 2, 4_000_000, &first.to_words()) else {
+    let Ok(opened) = Shared::open(rt.alloc(), 2, 4_000_000, 2, &first.to_words()) else {
         return;
     };
     let (mut seats, keeper) = (opened.seats, opened.keeper);

@@ -1,7 +1,7 @@
 //! A route, as an entry of a map.
 ghost use Rattle.std.specs.Prelude.{◌<◌, IfSome};
 
-use rcu_cell::{Invariant, Value};
+use rcu_graph::{Invariant, Value};
 use rcu_map::Entry;
 
 /// The port by which packets to a network go on. A network's number is 1 or more.

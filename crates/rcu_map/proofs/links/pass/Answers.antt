@@ -6,7 +6,7 @@ use Rattle.rcu_graph.specs.Tended.{AreLed, AreTended, AreTrimmed, relinked}
 use Rattle.rcu_graph.specs.declared.known.Planned.{Planned}
 use Rattle.rcu_graph.specs.declared.plan.Plan.{Plan}
 use Rattle.rcu_graph.proofs.Counting.{live_inside}
-use Rattle.rcu_map.proofs.Puts.{are_kept}
+use Rattle.rcu_graph.proofs.Puts.{are_kept}
 use Rattle.rcu_map.proofs.links.pass.Goals as goal
 
 pub link-requires : goal.link-requires

@@ -7,7 +7,8 @@ use Rattle.rcu_graph.specs.declared.plan.Plan.{Plan}
 use Rattle.rcu_map.specs.Chains.{IsKept, buckets_in}
 use Rattle.rcu_map.specs.Keys.{key_in}
 use Rattle.rcu_map.specs.Puts.{HasChanged, IsPutIn}
-use Rattle.rcu_map.specs.Splices.{by_put, put}
+use Rattle.rcu_map.specs.Splices.{by_put}
+use Rattle.rcu_graph.specs.Puts.{put}
 use Rattle.rcu_map.proofs.Allowed.{can_insert, placed}
 use Rattle.rcu_map.proofs.Chains.{free_node}
 use Rattle.rcu_map.proofs.Counted.{entries_few}
@@ -34,11 +35,12 @@ overflow_add-self g c =
     let k = c.self.invariant in
     let p : Plan = c.self.inside.nodes.view.client.plan in
     let before : List Node = nodes_in c.self.inside.nodes.view.client.known in
-    let after : List Node = nodes_in c.put.new.keeper.view.client.known in
+    let after : List Node = nodes_in c.put.new.self.view.client.known in
     let done = c.in_ok-put.ensures in
+    let node = c.in_ok-put.field-0 in
     let now = k.count in
     let more = inserted_count g.E.Invariant.holds p.roots p.seed p.words p.nodes before k.map
-    c.args.previous done.node words c.link_of-next.result after some place c.link_of-next.ensures
+    c.args.previous node words c.link_of-next.result after some place c.link_of-next.ensures
     done.inside done.free done.trimmed in
     let most = entries_few p.roots after in
     let few = done.kept.few in
@@ -54,8 +56,9 @@ invariant_of-self-2 g c =
     let k = c.self.invariant in
     let p : Plan = c.self.inside.nodes.view.client.plan in
     let before : List Node = nodes_in c.self.inside.nodes.view.client.known in
-    let after : List Node = nodes_in c.put.new.keeper.view.client.known in
+    let after : List Node = nodes_in c.put.new.self.view.client.known in
     let done = c.in_ok-put.ensures in
+    let node = c.in_ok-put.field-0 in
     subst (λ (q : Plan). IsKept g.E.Invariant.holds g.row.W q after (c.self.inside.len + 1))
     (sym (ap (λ (w : Watching Planned). w.view.client.plan) done.state))
     (record {
@@ -64,12 +67,12 @@ invariant_of-self-2 g c =
       words = k.words;
       map = inserted_map g.E.Invariant.holds p.roots p.seed p.words p.nodes before k.map
           c.args.previous
-          done.node words c.link_of-next.result after some place c.link_of-next.ensures done.inside
+          node words c.link_of-next.result after some place c.link_of-next.ensures done.inside
           done.free done.trimmed done.kept.few done.kept.tended;
       count =
           let now = k.count in
           let more = inserted_count g.E.Invariant.holds p.roots p.seed p.words p.nodes before k.map
-          c.args.previous done.node words c.link_of-next.result after some place
+          c.args.previous node words c.link_of-next.result after some place
           c.link_of-next.ensures done.inside done.free done.trimmed in
           omega (arith, now, more);
     })
@@ -83,16 +86,17 @@ returns-clause-put g c =
     let k = c.self.invariant in
     let p : Plan = c.self.inside.nodes.view.client.plan in
     let before : List Node = nodes_in c.self.inside.nodes.view.client.known in
-    let after : List Node = nodes_in c.put.new.keeper.view.client.known in
+    let after : List Node = nodes_in c.put.new.self.view.client.known in
     let done = c.in_ok-put.ensures in
+    let node = c.in_ok-put.field-0 in
     subst (λ (w : Watching Planned). HasChanged (IsPutIn (buckets_in w) words false) w
-    c.put.new.keeper)
+    c.put.new.self)
     c.self.view_is
     (record {
       by = record {
-        stored = put before c.args.previous done.node words c.link_of-next.result;
-        one = by_put c.args.previous done.node words c.link_of-next.result place.live
-            (free_node g.E.Invariant.holds p.roots p.seed p.words p.nodes before k.map done.node
+        stored = put before c.args.previous node words c.link_of-next.result;
+        one = by_put c.args.previous node words c.link_of-next.result place.live
+            (free_node g.E.Invariant.holds p.roots p.seed p.words p.nodes before k.map node
             done.inside done.free)
             refl;
         state = done.state;
@@ -101,6 +105,6 @@ returns-clause-put g c =
       };
       nodes = inserted g.E.Invariant.holds p.roots p.seed p.words p.nodes before k.map
           c.args.previous
-          done.node words c.link_of-next.result after some place c.link_of-next.ensures done.inside
+          node words c.link_of-next.result after some place c.link_of-next.ensures done.inside
           done.free done.trimmed;
     })

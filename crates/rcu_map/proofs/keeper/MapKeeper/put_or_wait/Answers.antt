@@ -9,7 +9,8 @@ use Rattle.rcu_map.specs.Chains.{buckets_in}
 use Rattle.rcu_map.specs.Puts.{HasPutIn, Holds, is_put}
 use Rattle.rcu_map.specs.Waits.{AreAllLive, HasMadeRoom}
 use Rattle.rcu_map.specs.declared.put.NotPut.{NotPut}
-use Rattle.rcu_map.proofs.Looks.{aged_plan, same_err, why_full}
+use Rattle.rcu_map.proofs.Looks.{same_err, why_full}
+use Rattle.rcu_graph.proofs.Looks.{aged_plan}
 use Rattle.rcu_map.proofs.Waits.{put_at_once, put_later, same_holder, wanted_is_put, when_full}
 use Rattle.rcu_map.proofs.Waits.{when_told}
 use Rattle.rcu_map.proofs.keeper.MapKeeper.put_or_wait.Goals as goal
@@ -58,8 +59,8 @@ returns-clause-old g c =
     subst (λ (w : Watching Planned). HasMadeRoom (buckets_in w) c.args.seat.now
     c.wait_for_node.new.seat w c.wait_for_node.new.self)
     none.1.unchanged c.in_ok-wait_for_node.ensures.end.1 in
-    let planned = aged_plan (buckets_in c.args.self.now) c.args.self.now c.wait_for_node.new.self
-    room.looked in
+    let planned = aged_plan c.args.self.now c.wait_for_node.new.self
+    room.made.looked in
     let told = subst (λ (b : ℕ). Holds g.E.Value.decode g.E.Value.valid g.E.Entry.key_of b
     (nodes_in c.wait_for_node.new.self.view.client.known) (g.E.Entry.key_of c.args.entry)
     c.in-Ok-put.old
@@ -67,7 +68,7 @@ returns-clause-old g c =
     (is_put c.args.how (is_some c.in-Ok-put.old)) c.wait_for_node.new.self c.put-2.new.self)
     (ap (λ (p : Plan). p.roots) planned)
     (when_told _ _ _ _ _ _ _ _ _ c.put-2.ensures c.in-Ok-put.old c.in-Ok-put.is) in
-    same_holder _ _ _ _ _ _ _ _ room.looked.entries told.0
+    same_holder _ _ _ _ _ _ _ _ room.entries told.0
 
 pub returns-clause-put : goal.returns-clause-put
 returns-clause-put g c =
@@ -78,8 +79,8 @@ returns-clause-put g c =
     subst (λ (w : Watching Planned). HasMadeRoom (buckets_in w) c.args.seat.now
     c.wait_for_node.new.seat w c.wait_for_node.new.self)
     none.1.unchanged c.in_ok-wait_for_node.ensures.end.1 in
-    let planned = aged_plan (buckets_in c.args.self.now) c.args.self.now c.wait_for_node.new.self
-    room.looked in
+    let planned = aged_plan c.args.self.now c.wait_for_node.new.self
+    room.made.looked in
     let told = subst (λ (b : ℕ). Holds g.E.Value.decode g.E.Value.valid g.E.Entry.key_of b
     (nodes_in c.wait_for_node.new.self.view.client.known) (g.E.Entry.key_of c.args.entry)
     c.in-Ok-put.old
@@ -88,7 +89,7 @@ returns-clause-put g c =
     (ap (λ (p : Plan). p.roots) planned)
     (when_told _ _ _ _ _ _ _ _ _ c.put-2.ensures c.in-Ok-put.old c.in-Ok-put.is) in
     let puts = wanted_is_put _ _ _ _ _ _ _ c.in-Ok-put.old none.0
-    (same_holder _ _ _ _ _ _ _ _ room.looked.entries told.0) in
+    (same_holder _ _ _ _ _ _ _ _ room.entries told.0) in
     put_later (buckets_in c.args.self.now) (g.E.Value.in_words c.args.entry)
     (is_some c.in-Ok-put.old) c.args.seat.now c.args.self.now c.put-2.new.self
     c.in_ok-check_outside.ensures c.wait_for_node.new.seat c.wait_for_node.new.self none.1.full room

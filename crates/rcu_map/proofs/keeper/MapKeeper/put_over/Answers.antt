@@ -2,12 +2,12 @@ use Rattle.std.proofs.Common.{◌<◌, ◌∙◌, Some, arith, refl, subst, sym,
 use Rattle.std.specs.Prelude.{MatchResult}
 use Rattle.rcu_live.specs.Watcher.{Watching}
 use Rattle.rcu_graph.specs.Nodes.{nodes_in}
+use Rattle.rcu_graph.specs.Puts.{IsFull}
 use Rattle.rcu_graph.specs.declared.known.Planned.{Planned}
 use Rattle.rcu_graph.specs.declared.plan.Plan.{Plan}
 use Rattle.rcu_map.specs.Chains.{IsKept, buckets_in}
 use Rattle.rcu_map.specs.Keys.{key_in}
 use Rattle.rcu_map.specs.Puts.{HasChanged, IsPutIn}
-use Rattle.rcu_map.specs.Splices.{IsFull}
 use Rattle.rcu_map.proofs.Allowed.{can_replace, old_inside, placed}
 use Rattle.rcu_map.proofs.Outcomes.{over_count, over_map, over_plan, over_put}
 use Rattle.rcu_map.proofs.keeper.MapKeeper.put_over.Goals as goal
@@ -42,20 +42,20 @@ invariant_of-self g c =
     let k = c.self.invariant in
     let p : Plan = c.self.inside.nodes.view.client.plan in
     subst (λ (q : Plan). IsKept g.E.Invariant.holds g.row.W q
-    (nodes_in c.put.new.keeper.view.client.known) c.self.inside.len)
-    (sym (over_plan g.E.Invariant.holds c.self.inside.nodes c.put.new.keeper k.map c.args.previous
+    (nodes_in c.put.new.self.view.client.known) c.self.inside.len)
+    (sym (over_plan g.E.Invariant.holds c.self.inside.nodes c.put.new.self k.map c.args.previous
     c.args.old words c.link_of-next.result some place c.link_of-next.ensures c.put.result
     c.put.ensures))
     (record {
       some = k.some;
       one = k.one;
       words = k.words;
-      map = over_map g.E.Invariant.holds c.self.inside.nodes c.put.new.keeper k.map
+      map = over_map g.E.Invariant.holds c.self.inside.nodes c.put.new.self k.map
           c.args.previous c.args.old words c.link_of-next.result some place c.link_of-next.ensures
           c.put.result c.put.ensures;
       count =
           let now = k.count in
-          let same = over_count g.E.Invariant.holds c.self.inside.nodes c.put.new.keeper k.map
+          let same = over_count g.E.Invariant.holds c.self.inside.nodes c.put.new.self k.map
           c.args.previous c.args.old words c.link_of-next.result some place c.link_of-next.ensures
           c.put.result c.put.ensures in
           omega (arith, now, same);
@@ -70,9 +70,9 @@ returns-clause-put g c =
     let k = c.self.invariant in
     let p : Plan = c.self.inside.nodes.view.client.plan in
     subst (λ (w : Watching Planned). MatchResult c.put.result
-    (λ _. HasChanged (IsPutIn (buckets_in w) words true) w c.put.new.keeper)
-    (λ _. IsFull w c.put.new.keeper))
+    (λ _. HasChanged (IsPutIn (buckets_in w) words true) w c.put.new.self)
+    (λ _. IsFull w c.put.new.self))
     c.self.view_is
-    (over_put g.E.Invariant.holds c.self.inside.nodes c.put.new.keeper k.map c.args.previous
+    (over_put g.E.Invariant.holds c.self.inside.nodes c.put.new.self k.map c.args.previous
     c.args.old words c.link_of-next.result some place c.link_of-next.ensures c.put.result
     c.put.ensures)

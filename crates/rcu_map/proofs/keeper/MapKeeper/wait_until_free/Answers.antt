@@ -1,107 +1,35 @@
-use Rattle.std.proofs.Common.{◌≡◌, ◌∙◌, ℕ, IfErr, OnErr, OnOk, Result, ap, arith, refl, subst, sym}
-use Rattle.rcu_seq.specs.declared.fault.Fault.{Fault}
-use Rattle.rcu_live.specs.Waits.{AreRounds, wait_fault}
+use Rattle.std.proofs.Common.{OnErr, OnOk, subst}
 use Rattle.rcu_live.specs.Watcher.{Watching}
-use Rattle.rcu_live.proofs.WaitLemmas.{rested_none, rested_round, rounds_at_end, rounds_none}
-use Rattle.rcu_live.proofs.WaitLemmas.{rounds_round, rounds_then_look}
-use Rattle.rcu_graph.specs.Nodes.{nodes_in}
-use Rattle.rcu_graph.specs.Tended.{AreAllUsed}
 use Rattle.rcu_graph.specs.declared.known.Planned.{Planned}
-use Rattle.rcu_graph.specs.declared.plan.Plan.{Plan}
-use Rattle.rcu_graph.proofs.Walking.{same_watches}
+use Rattle.rcu_graph.proofs.Looks.{aged_nodes, aged_plan, looked_by}
 use Rattle.rcu_map.specs.Chains.{buckets_in}
-use Rattle.rcu_map.specs.Entries.{AreSameEntries}
-use Rattle.rcu_map.specs.Waits.{HasGivenUp}
-use Rattle.rcu_map.proofs.Looks.{aged_more, aged_once, aged_plan, found_one, on_err, refused}
+use Rattle.rcu_map.specs.Waits.{HasGivenUp, HasMadeRoom}
+use Rattle.rcu_map.proofs.Ages.{kept_aged}
+use Rattle.rcu_map.proofs.Looks.{gave_up, made_room}
 use Rattle.rcu_map.proofs.keeper.MapKeeper.wait_until_free.Goals as goal
 
-pub loop-init : goal.loop-init
-loop-init g c =
-    let a = c.age.ensures in
-    record {
-      of_map = record {
-        keeper_of = same_watches _ _ _ a.same c.requires.of_map.keeper_of;
-        seat_of = c.requires.of_map.seat_of;
-      };
-      depth = c.requires.outside;
-      rested = rested_none c.args.seat.now;
-      aged = aged_once (buckets_in c.args.self.now) c.args.self.now c.age.new.self c.age.result
-          c.requires.full
-          a.later a.state a.entries;
-      waited = tt;
-      rounds =
-          rounds_then_look 0 1 c.args.seat.now c.args.seat.now c.args.self.now c.args.self.now
-          c.age.new.self (omega arith) (rounds_none c.args.seat.now c.args.self.now)
-          (ap (λ (k : Watching Planned). k.view.loads) a.state);
-      last = tt;
-    }
+pub invariant_of-self : goal.invariant_of-self
+invariant_of-self g c =
+    let w = c.wait_until_free-waited in
+    let aged = looked_by c.args.seat.now w.new.seat c.self.inside.nodes w.new.self w.result
+    w.ensures.waited w.ensures.given_up in
+    kept_aged g.E.Invariant.holds _ c.self.inside.nodes w.new.self
+    (aged_plan c.self.inside.nodes w.new.self aged)
+    (aged_nodes c.self.inside.nodes w.new.self aged) c.tends.ensures.few c.tends.ensures.tended
+    c.self.inside.len c.self.invariant
 
-pub returns-then-is_ok-clause-waited : goal.returns-then-is_ok-clause-waited
-returns-then-is_ok-clause-waited g c =
-    let i = c.loop.invariant in
-    let f = c.free_node.ensures in
-    record {
-      looked = i.aged;
-      free =
-          subst (λ (w : Watching Planned). AreAllUsed (nodes_in w.view.client.known) → ⊥)
-          c.self.view_is
-          (found_one (nodes_in c.self.inside.nodes.view.client.known)
-          c.self.inside.nodes.view.client.plan.nodes
-          c.free_node.result
-          (sym c.is_ok.ensures.value ∙ c.if-is_ok.true) c.self.invariant.map.few f.inside f.free);
-      rounds = rounds_at_end c.loop.waited c.args.seat.now c.loop.seat c.args.self.now c.loop.self
-          c.loop.self i.rounds i.last refl;
-    }
+pub returns-clause-waited : goal.returns-clause-waited
+returns-clause-waited g c =
+    let w = c.wait_until_free-waited in
+    subst (λ (k : Watching Planned). OnOk w.result
+    (HasMadeRoom (buckets_in k) c.args.seat.now w.new.seat k w.new.self))
+    c.self.view_is
+    (made_room c.args.seat.now w.new.seat c.self.inside.nodes w.new.self w.result w.ensures.waited)
 
-pub returns-in_err-waited-clause-given_up : goal.returns-in_err-waited-clause-given_up
-returns-in_err-waited-clause-given_up g c =
-    let i = c.loop.invariant in
-    let given_up : HasGivenUp (buckets_in c.args.self.now) c.args.seat.now c.loop.seat
-    c.args.self.now
-    c.loop.self = record {
-      looked = i.aged;
-      full =
-          subst (λ (w : Watching Planned). AreAllUsed (nodes_in w.view.client.known)) c.self.view_is
-          (refused c.free_node.result (sym c.is_ok.ensures.value ∙ c.if-is_ok.false)
-          c.free_node.ensures.full);
-      rounds = subst (λ (x : Result (Unit {0}) Fault).
-          OnErr x (AreRounds 2 c.args.seat.now c.loop.seat c.args.self.now c.loop.self))
-          c.in_err-waited.was i.last;
-    } in
-    on_err c.from_residual.result given_up
-
-pub loop-preserved : goal.loop-preserved
-loop-preserved g c =
-    let i = c.loop.invariant in
-    let w = c.wait_once-waited.ensures in
-    let r = c.wait_once-waited.result in
-    let a = c.age-in-loop in
-    let full =
-    subst (λ (x : Watching Planned). AreAllUsed (nodes_in x.view.client.known)) c.self.view_is
-    (refused c.free_node.result (sym c.is_ok.ensures.value ∙ c.if-is_ok.false)
-    c.free_node.ensures.full) in
-    let rounds = subst (λ (x : Result (Unit {0}) Fault).
-    OnOk x (AreRounds 1 c.args.seat.now c.loop.seat c.args.self.now c.loop.self))
-    c.in_ok-waited.was i.rounds in
-    let next = rounds_round r c.args.seat.now c.loop.seat c.wait_once-waited.new.seat
-    c.args.self.now c.loop.self a.new.self rounds w.state w.unchanged
-    (ap (λ (k : Watching Planned). k.view.loads) a.ensures.state) in
-    record {
-      of_map = record {
-        keeper_of = same_watches _ _ _ a.ensures.same i.of_map.keeper_of;
-        seat_of = (w.table ∙ i.of_map.seat_of.0, w.base ∙ i.of_map.seat_of.1);
-      };
-      depth = w.depth ∙ i.depth;
-      rested = rested_round r c.args.seat.now c.loop.seat c.wait_once-waited.new.seat i.rested
-          w.state w.unchanged;
-      aged = aged_more (buckets_in c.args.self.now) c.args.self.now c.loop.self a.new.self a.result
-          i.aged full a.ensures.later a.ensures.state
-          (subst (λ (b : ℕ). AreSameEntries b (nodes_in c.loop.self.view.client.known)
-          (nodes_in a.new.self.view.client.known))
-          (ap (λ (p : Plan). p.roots)
-          (aged_plan (buckets_in c.args.self.now) c.args.self.now c.loop.self i.aged))
-          a.ensures.entries);
-      waited = subst (λ (d : ℕ). IfErr r (λ (fault : Fault). fault ≡ wait_fault d)) i.depth w.fault;
-      rounds = next.0;
-      last = next.1;
-    }
+pub returns-clause-given_up : goal.returns-clause-given_up
+returns-clause-given_up g c =
+    let w = c.wait_until_free-waited in
+    subst (λ (k : Watching Planned). OnErr w.result
+    (HasGivenUp (buckets_in k) c.args.seat.now w.new.seat k w.new.self))
+    c.self.view_is
+    (gave_up c.args.seat.now w.new.seat c.self.inside.nodes w.new.self w.result w.ensures.given_up)

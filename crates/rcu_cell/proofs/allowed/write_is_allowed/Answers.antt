@@ -1,6 +1,0 @@
-use Rattle.rcu_cell.proofs.Moves.{writes_at}
-use Rattle.rcu_cell.proofs.allowed.write_is_allowed.Goals as goal
-
-pub returns : goal.returns
-returns g c = writes_at g.F.Invariant.holds _ _ _ _ _ _ _ _ _ c.requires.free.keeps
-    c.requires.free.inside c.requires.free.free c.requires.word c.requires.place

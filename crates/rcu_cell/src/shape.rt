@@ -1,0 +1,45 @@
+//! What the versions of a cell meet, and the seats of its engine.
+use rcu_graph::rule::GraphRule;
+use rcu_graph::{GraphSeat, GraphWatcher, Invariant, Plan, Shape};
+use std::marker::PhantomData;
+
+/// A user's fact on the versions of a cell of `W` words, with words that meet it. They are shown
+/// until others are published, which the opening does.
+pub trait Version<const W: usize>: Invariant {
+    ghost use Rattle.std.specs.Prelude.{◌≡◌, List, ℕ, length, slice_index};
+
+    ghost first: { List ℕ };
+
+    /// A word of it, and 0 behind them.
+    fn first_word(word: usize) -> u64
+        ensures word { result ≡ slice_index first word }
+        ensures sized { length first ≡ W }
+        ensures whole { Self.holds first };
+}
+
+/// The facts of a cell: a node in use has a version. The link of the root leads to the one that is
+/// shown.
+pub struct OneLink<F, const W: usize> {
+    fact: PhantomData<F>,
+}
+
+impl<F: Version<W>, const W: usize> Shape for OneLink<F, W> {
+    ghost fits = { λ _. F.holds };
+
+    ghost joins = { λ _ _ _ _. Unit {0} };
+
+    ghost first = { λ _ _. F.first };
+
+    fn first_word(_plan: Plan, _root: usize, word: usize) -> u64 {
+        F::first_word(word)
+    }
+}
+
+/// The rule of a cell, as a client of its engine.
+pub type CellRule<F, const W: usize> = GraphRule<OneLink<F, W>>;
+
+/// A processor's seat of a cell's engine.
+pub type CellSeat<F, const W: usize> = GraphSeat<OneLink<F, W>>;
+
+/// A watcher's seat of a cell's engine.
+pub type CellWatcher<F, const W: usize> = GraphWatcher<OneLink<F, W>>;

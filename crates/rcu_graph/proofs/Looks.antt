@@ -1,0 +1,160 @@
+-- Looks at the number while no node is free, one after another.
+use Rattle.std.proofs.Common.{◌≡◌, ℕ, zero, suc, ◌<◌, ◌≤◌, Bool, true, false, List, length, refl}
+use Rattle.std.proofs.Common.{sym, ap, ◌∙◌, arith, Err, IfOk, Ok, OnErr, OnOk, Result}
+use Rattle.std.proofs.Common.{subst}
+use Rattle.std.specs.Prelude.{if◌then◌else◌, max}
+use Rattle.std.specs.Result.{is_ok}
+use Rattle.std.proofs.Math.ListN.{get_or-map, length-map}
+use Rattle.rcu_seq.specs.Numbers.{Number}
+use Rattle.rcu_live.specs.CpuSeat.{Seated}
+use Rattle.rcu_live.specs.Watcher.{Watching}
+use Rattle.rcu_graph.specs.Graph.{IsOfSameGraph}
+use Rattle.rcu_graph.specs.Keeper.{after_look}
+use Rattle.rcu_graph.specs.Nodes.{aged, aged_node, aged_state, is_live, latest_in, no_node}
+use Rattle.rcu_graph.specs.Nodes.{node_at, nodes_in, state_at}
+use Rattle.rcu_graph.specs.Tended.{AreAllUsed}
+use Rattle.rcu_graph.specs.Waits.{AreLooks, HasAged, HasGivenUp, HasMadeRoom, IsLook}
+use Rattle.rcu_graph.specs.declared.known.Planned.{Planned}
+use Rattle.rcu_graph.specs.declared.known.Node.{Node}
+use Rattle.rcu_graph.specs.declared.node_state.NodeState.{NodeState}
+use Rattle.rcu_graph.specs.declared.node_state.NodeState.TheVariants.{Free, Left, Live, Retired}
+use Rattle.rcu_graph.proofs.Counting.{live_test, test_live}
+
+-- a look, a first one, and one more
+look : (k m : Watching Planned) (n : Number)
+    → AreAllUsed (nodes_in k.view.client.known) → k.view.seen ≤ n → m ≡ after_look k n → IsLook k m
+look k m n full later new =
+    let seen : m.view.seen ≡ n = ap (λ (w : Watching Planned). w.view.seen) new in record {
+      full = full;
+      later = omega (arith, seen, later);
+      state = new ∙ ap (λ (j : Number). after_look k j) (sym seen);
+    }
+
+pub aged_once : (k m : Watching Planned) (n : Number)
+    → AreAllUsed (nodes_in k.view.client.known)
+    → k.view.seen ≤ n
+    → m ≡ after_look k n
+    → HasAged k m
+aged_once k m n full later new =
+    record { more = 0; looks = (k, refl, look k m n full later new) }
+
+pub aged_more : (k l m : Watching Planned) (n : Number)
+    → HasAged k l
+    → AreAllUsed (nodes_in l.view.client.known)
+    → l.view.seen ≤ n
+    → m ≡ after_look l n
+    → HasAged k m
+aged_more k l m n r full later new =
+    record { more = suc r.more; looks = (l, r.looks, look l m n full later new) }
+
+-- a keeper's graph stays as large
+looks_keep_plan : (looks : ℕ) (k m : Watching Planned) → AreLooks looks k m
+    → m.view.client.plan ≡ k.view.client.plan
+looks_keep_plan zero k m same = ap (λ (w : Watching Planned). w.view.client.plan) same
+looks_keep_plan (suc looks) k m (last, before, one) =
+    ap (λ (w : Watching Planned). w.view.client.plan) one.state
+    ∙ looks_keep_plan looks k last before
+
+pub aged_plan : (k m : Watching Planned) → HasAged k m → m.view.client.plan ≡ k.view.client.plan
+aged_plan k m aged = looks_keep_plan (suc aged.more) k m aged.looks
+
+-- as many nodes have the same links and words, and those that were live are
+pub record AreAsLive (before after : List Node) : Type 0 where
+  pub many : length after ≡ length before
+  pub links : (i : ℕ) → (node_at after i).links ≡ (node_at before i).links
+  pub words : (i : ℕ) → (node_at after i).words ≡ (node_at before i).words
+  pub live : (i : ℕ) → is_live (state_at after i) ≡ is_live (state_at before i)
+
+pub was_live : (A B : List Node) → AreAsLive A B → (i : ℕ) → state_at B i ≡ Live
+    → state_at A i ≡ Live
+was_live A B s i live = test_live (state_at A i) (sym (s.live i) ∙ live_test (state_at B i) live)
+
+pub still_live : (A B : List Node) → AreAsLive A B → (i : ℕ) → state_at A i ≡ Live
+    → state_at B i ≡ Live
+still_live A B s i live = test_live (state_at B i) (s.live i ∙ live_test (state_at A i) live)
+
+is_live_aged : (n latest : ℕ) (s : NodeState) → is_live (aged_state n latest s) ≡ is_live s
+is_live_aged n latest Free = refl
+is_live_aged n latest Live = refl
+is_live_aged n latest Left = refl
+is_live_aged n latest (Retired a) = past _
+  where
+    past : (b : Bool) → is_live (if b then Free else Retired a) ≡ false
+    past true = refl
+    past false = refl
+
+-- so they are after a look, and after looks
+pub aged_as_live : (A : List Node) (n latest : ℕ) → AreAsLive A (aged n latest A)
+aged_as_live A n latest = record {
+  many = length-map A (aged_node n latest);
+  links = λ i. ap (λ (v : Node). v.links) (at i);
+  words = λ i. ap (λ (v : Node). v.words) (at i);
+  live = λ i. ap (λ (v : Node). is_live v.state) (at i) ∙ is_live_aged n latest (state_at A i);
+}
+  where
+    at : (i : ℕ) → node_at (aged n latest A) i ≡ aged_node n latest (node_at A i)
+    at i = get_or-map (aged_node n latest) A i no_node
+
+pub looked_as_live : (k m : Watching Planned) (n : Number) → m ≡ after_look k n
+    → AreAsLive (nodes_in k.view.client.known) (nodes_in m.view.client.known)
+looked_as_live k m n new =
+    subst (λ (w : Watching Planned).
+    AreAsLive (nodes_in k.view.client.known) (nodes_in w.view.client.known))
+    (sym new)
+    (aged_as_live (nodes_in k.view.client.known) n (max n (latest_in k.view.client.known)))
+
+looks_as_live : (looks : ℕ) (k m : Watching Planned) → AreLooks looks k m
+    → AreAsLive (nodes_in k.view.client.known) (nodes_in m.view.client.known)
+looks_as_live zero k m same =
+    subst (λ (w : Watching Planned).
+    AreAsLive (nodes_in k.view.client.known) (nodes_in w.view.client.known))
+    (sym same)
+    (record { many = refl; links = λ i. refl; words = λ i. refl; live = λ i. refl })
+looks_as_live (suc looks) k m (last, before, one) =
+    let a = looks_as_live looks k last before in
+    let b = looked_as_live last m m.view.seen one.state in
+    record {
+      many = b.many ∙ a.many;
+      links = λ i. b.links i ∙ a.links i;
+      words = λ i. b.words i ∙ a.words i;
+      live = λ i. b.live i ∙ a.live i;
+    }
+
+pub aged_nodes : (k m : Watching Planned) → HasAged k m
+    → AreAsLive (nodes_in k.view.client.known) (nodes_in m.view.client.known)
+aged_nodes k m aged = looks_as_live (suc aged.more) k m aged.looks
+
+-- whatever a wait came to, the keeper looked
+pub looked_by : {E : Type 0} (seat now : Seated Planned) (k m : Watching Planned)
+    (r : Result (Unit {0}) E)
+    → OnOk r (HasMadeRoom seat now k m) → OnErr r (HasGivenUp seat now k m) → HasAged k m
+looked_by seat now k m (Ok _) room up = room.looked
+looked_by seat now k m (Err _) room up = up.looked
+
+-- after a look it is a keeper of the same graph
+pub same_after_look : (k m : Watching Planned) (n : Number) → m ≡ after_look k n
+    → IsOfSameGraph k m
+same_after_look k m n new = record {
+  table = ap (λ (w : Watching Planned). w.table) new;
+  base = ap (λ (w : Watching Planned). w.view.base) new;
+  plan = ap (λ (w : Watching Planned). w.view.client.plan) new;
+}
+
+-- what asks for a free node found none; it found one, and so not all are used
+pub refused : {T F P : Type 0} (r : Result T F) → is_ok r ≡ false → OnErr r P → P
+refused (Ok _) e told = absurd (cc)
+refused (Err _) e told = told
+
+pub on_err : {T F P : Type 0} (r : Result T F) → P → OnErr r P
+on_err (Ok _) told = tt
+on_err (Err _) told = told
+
+pub found_one : {F : Type 0} (nodes : List Node) (count : ℕ) (r : Result ℕ F)
+    → is_ok r ≡ true
+    → length nodes ≡ count
+    → IfOk r (λ node. node < count)
+    → IfOk r (λ node. state_at nodes node ≡ Free)
+    → AreAllUsed nodes
+    → ⊥
+found_one nodes count (Ok node) e few inside free full = full node (omega (arith, few, inside)) free
+found_one nodes count (Err _) e few inside free full = absurd (cc)

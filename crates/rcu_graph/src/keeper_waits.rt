@@ -1,0 +1,49 @@
+//! A keeper that waits until a node is free.
+ghost use Rattle.std.specs.Prelude.{◌≡◌, IfErr, OnErr, OnOk};
+ghost use Rattle.rcu_seq.specs.declared.fault.Fault.{Fault};
+ghost use Rattle.rcu_live.specs.Waits.{HasRested};
+ghost use Rattle.rcu_graph.specs.Waits.{AreOf, CanWait, HasGivenUp, HasMadeRoom};
+
+use crate::keeper::Keeper;
+use crate::rule::{GraphEngine, GraphSeat, Shape};
+use rcu_seq::{Cookie, Fault, Tag};
+use std::sync::Wait;
+
+impl<F: Shape> Keeper<F> {
+    /// Looks at the number, and drives the engine, until a node is free, where none is. The
+    /// caller's processor passes quiescent states meanwhile, unless it is offline or idle.
+    ///
+    /// No proof says that it returns. A section that stays open holds it up, and a processor whose
+    /// thread passes no quiescent state and is neither idle nor offline.
+    ///
+    /// Faults: `Exhausted` (11) where the last number is reached, so that no node becomes free any
+    /// more.
+    pub fn wait_until_free<const LEAF: u32, const FAN: u32, T: Drop>(
+        &mut self,
+        rt: &impl Wait,
+        live: &GraphEngine<LEAF, FAN, T, F>,
+        seat: &mut GraphSeat<F>,
+    ) -> Result<(), Fault>
+        requires { CanWait live.now seat.old self.old }
+        ensures of_graph { AreOf live.now self.new seat.new }
+        ensures rested { HasRested seat.old seat.new }
+        ensures waited { OnOk result (HasMadeRoom seat.old seat.new self.old self.new) }
+        ensures fault { IfErr result (λ fault. fault ≡ Fault.Exhausted) }
+        ensures given_up { OnErr result (HasGivenUp seat.old seat.new self.old self.new) }
+    {
+        let cookie = Cookie::of(Tag::of_first_epoch(self.age()));
+        let mut waited = Ok(());
+        let mut rounds = 0;
+        for _ in rt.forever() {
+            if self.free_node().is_ok() {
+                self.tends();
+                return Ok(());
+            }
+            waited?;
+            waited = live.wait_once(rt, seat, cookie);
+            rounds = live.sleep_between(rt, seat, cookie, rounds);
+            self.age();
+        }
+        unreachable!()
+    }
+}
