@@ -1,5 +1,4 @@
 -- What a clause sees of a walk.
-use Rattle.std.specs.Prelude.{ℕ}
 use Rattle.std.specs.Borrow.{GName}
 use Rattle.rcu_live.specs.Board.{Object}
 use Rattle.rcu_live.specs.CpuSeat.{Seated, after_word_step}

@@ -1,6 +1,6 @@
 -- Where there is nothing to wait for, and where entries are the same.
-use Rattle.std.proofs.Common.{◌≡◌, ℕ, zero, suc, ◌+◌, ◌-◌, ◌<◌, ◌≤◌, ⊎_elim, true, false, List}
-use Rattle.std.proofs.Common.{length, refl, sym, ap, ◌∙◌, arith, Err, Ok, OnErr, OnOk, Result}
+use Rattle.std.proofs.Common.{◌≡◌, ℕ, ◌+◌, ◌-◌, ◌<◌, ◌≤◌, ⊎_elim, List}
+use Rattle.std.proofs.Common.{length, refl, ap, ◌∙◌, arith, Err, Ok, OnErr, OnOk, Result}
 use Rattle.std.proofs.lemmas.Bool.{cases_lt}
 use Rattle.rcu_live.specs.CpuSeat.{Seated}
 use Rattle.rcu_live.specs.Watcher.{Watching}

@@ -6,7 +6,7 @@ use Rattle.std.proofs.lemmas.List.{get_or-set_same}
 use mathlib.Core.Logic.{dite}
 use native.Mathlib.Decide.{ℕ_discrete}
 use Rattle.rcu_graph.specs.Graph.{word_to}
-use Rattle.rcu_graph.specs.Nodes.{in_state, linked_to, node_at, renewed}
+use Rattle.rcu_graph.specs.Nodes.{in_state, linked_to, node_at}
 use Rattle.rcu_graph.specs.Tended.{filled_with, relinked}
 use Rattle.rcu_graph.specs.declared.known.Node.{Node}
 use Rattle.rcu_graph.specs.declared.node_state.NodeState.TheVariants.{Live}

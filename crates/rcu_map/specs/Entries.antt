@@ -1,5 +1,5 @@
 -- The entries of a map, as its nodes have them, and what a keeper's calls make of them.
-use Rattle.std.specs.Prelude.{◌≡◌, ◌≢◌, ◌⊎◌, ◌↔◌, ◌<◌, ◌≤◌, ℕ, List, drop, length}
+use Rattle.std.specs.Prelude.{◌≡◌, ◌≢◌, ◌⊎◌, ◌↔◌, ◌≤◌, ℕ, List, drop}
 use Rattle.rcu_graph.specs.Absence.{key_at}
 use Rattle.rcu_graph.specs.Nodes.{node_at, state_at}
 use Rattle.rcu_graph.specs.Puts.{IsFreeNode}

@@ -1,10 +1,9 @@
-use Rattle.std.proofs.Common.{◌∙◌, ℕ, ap, length, subst}
+use Rattle.std.proofs.Common.{◌∙◌, ℕ, ap, subst}
 use Rattle.rcu_live.specs.Watcher.{Watching}
 use Rattle.rcu_graph.specs.Nodes.{nodes_in}
 use Rattle.rcu_graph.specs.Tended.{AreTended}
 use Rattle.rcu_graph.specs.declared.known.Planned.{Planned}
 use Rattle.rcu_graph.specs.declared.plan.Plan.{Plan}
-use Rattle.rcu_graph.specs.Puts.{AreKept}
 use Rattle.rcu_map.proofs.links.keep.Goals as goal
 
 pub returns : goal.returns

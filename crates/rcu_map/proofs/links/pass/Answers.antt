@@ -1,8 +1,7 @@
-use Rattle.std.proofs.Common.{◌<◌, ◌∙◌, ℕ, ap, arith, subst, sym}
+use Rattle.std.proofs.Common.{ℕ, ap, arith, subst, sym}
 use Rattle.rcu_live.specs.Watcher.{Watching}
-use Rattle.rcu_graph.specs.Graph.{word_to}
 use Rattle.rcu_graph.specs.Nodes.{IsTarget, node_at, nodes_in}
-use Rattle.rcu_graph.specs.Tended.{AreLed, AreTended, AreTrimmed, relinked}
+use Rattle.rcu_graph.specs.Tended.{AreLed, AreTrimmed, relinked}
 use Rattle.rcu_graph.specs.declared.known.Planned.{Planned}
 use Rattle.rcu_graph.specs.declared.plan.Plan.{Plan}
 use Rattle.rcu_graph.proofs.Counting.{live_inside}

@@ -1,4 +1,4 @@
-use Rattle.std.proofs.Common.{◌≡◌, ◌∙◌, ap, arith, subst, sym}
+use Rattle.std.proofs.Common.{◌≡◌, ◌∙◌, ap, subst, sym}
 use Rattle.rcu_live.specs.Watcher.{Watching}
 use Rattle.rcu_graph.specs.Graph.{IsWatcherOf}
 use Rattle.rcu_graph.specs.Keeper.{IsKeeperOf}
