@@ -20,13 +20,11 @@ use Rattle.rcu_graph.specs.declared.node_state.NodeState.{NodeState}
 use Rattle.rcu_graph.specs.declared.node_state.NodeState.TheVariants.{Free, Left, Live, Retired}
 use Rattle.rcu_graph.proofs.Counting.{found_node, from_others, kept_at, links_to-set, live_inside}
 use Rattle.rcu_graph.proofs.Counting.{other_node}
+use Rattle.rcu_graph.proofs.Puts.{free_or_live}
 use Rattle.rcu_graph.proofs.States.{live_aged}
 use Rattle.rcu_graph.proofs.Tending.{are_whole, here_at}
 
-free_or_live : (s : NodeState) → s ≡ Free → s ≡ Live → ⊥
-free_or_live s a b = cc
-
-is_live_aged : (n m : ℕ) (st : NodeState) → is_live (aged_state n m st) ≡ is_live st
+pub is_live_aged : (n m : ℕ) (st : NodeState) → is_live (aged_state n m st) ≡ is_live st
 is_live_aged n m Free = refl
 is_live_aged n m Live = refl
 is_live_aged n m Left = refl

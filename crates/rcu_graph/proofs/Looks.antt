@@ -1,8 +1,8 @@
 -- Looks at the number while no node is free, one after another.
-use Rattle.std.proofs.Common.{◌≡◌, ℕ, zero, suc, ◌<◌, ◌≤◌, Bool, true, false, List, length, refl}
+use Rattle.std.proofs.Common.{◌≡◌, ℕ, zero, suc, ◌<◌, ◌≤◌, true, false, List, length, refl}
 use Rattle.std.proofs.Common.{sym, ap, ◌∙◌, arith, Err, IfOk, Ok, OnErr, OnOk, Result}
 use Rattle.std.proofs.Common.{subst}
-use Rattle.std.specs.Prelude.{if◌then◌else◌, max}
+use Rattle.std.specs.Prelude.{max}
 use Rattle.std.specs.Result.{is_ok}
 use Rattle.std.proofs.Math.ListN.{get_or-map, length-map}
 use Rattle.rcu_seq.specs.Numbers.{Number}
@@ -10,15 +10,15 @@ use Rattle.rcu_live.specs.CpuSeat.{Seated}
 use Rattle.rcu_live.specs.Watcher.{Watching}
 use Rattle.rcu_graph.specs.Graph.{IsOfSameGraph}
 use Rattle.rcu_graph.specs.Keeper.{after_look}
-use Rattle.rcu_graph.specs.Nodes.{aged, aged_node, aged_state, is_live, latest_in, no_node}
+use Rattle.rcu_graph.specs.Nodes.{aged, aged_node, is_live, latest_in, no_node}
 use Rattle.rcu_graph.specs.Nodes.{node_at, nodes_in, state_at}
 use Rattle.rcu_graph.specs.Tended.{AreAllUsed}
 use Rattle.rcu_graph.specs.Waits.{AreLooks, HasAged, HasGivenUp, HasMadeRoom, IsLook}
 use Rattle.rcu_graph.specs.declared.known.Planned.{Planned}
 use Rattle.rcu_graph.specs.declared.known.Node.{Node}
-use Rattle.rcu_graph.specs.declared.node_state.NodeState.{NodeState}
-use Rattle.rcu_graph.specs.declared.node_state.NodeState.TheVariants.{Free, Left, Live, Retired}
+use Rattle.rcu_graph.specs.declared.node_state.NodeState.TheVariants.{Free, Live}
 use Rattle.rcu_graph.proofs.Counting.{live_test, test_live}
+use Rattle.rcu_graph.proofs.Keeps.{is_live_aged}
 
 -- a look, a first one, and one more
 look : (k m : Watching Planned) (n : Number)
@@ -72,16 +72,6 @@ was_live A B s i live = test_live (state_at A i) (sym (s.live i) ∙ live_test (
 pub still_live : (A B : List Node) → AreAsLive A B → (i : ℕ) → state_at A i ≡ Live
     → state_at B i ≡ Live
 still_live A B s i live = test_live (state_at B i) (s.live i ∙ live_test (state_at A i) live)
-
-is_live_aged : (n latest : ℕ) (s : NodeState) → is_live (aged_state n latest s) ≡ is_live s
-is_live_aged n latest Free = refl
-is_live_aged n latest Live = refl
-is_live_aged n latest Left = refl
-is_live_aged n latest (Retired a) = past _
-  where
-    past : (b : Bool) → is_live (if b then Free else Retired a) ≡ false
-    past true = refl
-    past false = refl
 
 -- so they are after a look, and after looks
 pub aged_as_live : (A : List Node) (n latest : ℕ) → AreAsLive A (aged n latest A)

@@ -9,21 +9,12 @@ use native.Mathlib.Decide.{ℕ_discrete}
 use Rattle.rcu_graph.specs.Absence.{key_at, next_of}
 use Rattle.rcu_graph.specs.Nodes.{node_at, state_at}
 use Rattle.rcu_graph.specs.declared.known.Node.{Node}
-use Rattle.rcu_graph.specs.declared.node_state.NodeState.{NodeState}
 use Rattle.rcu_graph.specs.declared.node_state.NodeState.TheVariants.{Free, Live}
+use Rattle.rcu_graph.proofs.Puts.{not_free}
 use Rattle.rcu_map.specs.Chains.{AreOfOneBucket, IsMap, LeadsTowards}
 use Rattle.rcu_map.specs.Keys.{bucket_in, key_in, root_words}
 use Rattle.rcu_map.specs.Splices.{IsPlace}
 use Rattle.rcu_map.proofs.Chains.{bucket_at, led}
-
-pub free_or_live : (s : NodeState) → s ≡ Free → s ≡ Live → ⊥
-free_or_live s a b = cc
-
--- a live node is not a free one
-pub not_free : (A : List Node) (node i : ℕ) → state_at A node ≡ Free → state_at A i ≡ Live
-    → i ≢ node
-not_free A node i free live is =
-    free_or_live (state_at A node) free (ap (λ (n : ℕ). state_at A n) (sym is) ∙ live)
 
 -- all nodes, and all but one
 abbrev pub all : ℕ → Bool
