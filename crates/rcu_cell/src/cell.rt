@@ -57,7 +57,7 @@ impl<F: Version<W>, const W: usize> Cell<F, W> {
         // A borrow of a field shows the prover what the type keeps: that there is one root.
         let graph = &self.graph;
         graph.plan();
-        graph.follow(seat, 0, 0).unwrap_or(0)
+        graph.follow(seat, 1 + W, 0, 0).unwrap_or(0)
     }
 
     /// Loads a word of the version that the section reads: the one that it had when it was loaded.
@@ -69,6 +69,7 @@ impl<F: Version<W>, const W: usize> Cell<F, W> {
     {
         // A borrow of a field shows the prover what the type keeps: that there is one root.
         let graph = &self.graph;
-        graph.read(seat, slot, word)
+        graph.plan();
+        graph.read(seat, 1 + W, slot, word)
     }
 }

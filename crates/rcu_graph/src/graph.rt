@@ -1,6 +1,7 @@
 //! A graph of nodes: what a section reads of it, without a lock, a wait or a store.
 ghost use Rattle.std.specs.Prelude.{◌≡◌, ◌≤◌, ◌+◌, ◌*◌, ◌^◌, ◌<◌, ℕ, IfOk, IfSome, List};
 ghost use Rattle.std.specs.Prelude.{slice_index};
+ghost use Rattle.std.specs.Arc.{arc_value};
 ghost use Rattle.rcu_live.specs.CpuSeat.{after_word_step};
 ghost use Rattle.rcu_graph.specs.Graph.{IsAt, IsWalking, word_to};
 ghost use Rattle.rcu_graph.specs.Nodes.{IsOn, first_place, place_of};
@@ -57,11 +58,19 @@ impl<F: Shape> Graph<F> {
         })
     }
 
+    /// The words of its engine, which all seats read.
+    pub fn board(&self) -> &Arc<Board<GraphRule<F>>, Global>
+        ensures { arc_value result.now ≡ self.now }
+    {
+        &self.board
+    }
+
     /// How large it is.
     pub fn plan(&self) -> Plan
         ensures plan { result ≡ self.now.plan }
         ensures roots { self.now.plan.roots ≤ self.now.plan.nodes }
         ensures words { 0 < self.now.plan.words }
+        ensures row { self.now.plan.links + self.now.plan.words < 2 ^ 64 }
         ensures cells { first_place + (self.now.plan.links + self.now.plan.words)
             * self.now.plan.nodes < 2 ^ 64 }
     {
@@ -70,8 +79,18 @@ impl<F: Shape> Graph<F> {
         self.plan
     }
 
+    /// How long a node's row is: how many links and words it has.
+    pub fn row(&self) -> usize
+        ensures { result ≡ self.now.plan.links + self.now.plan.words }
+    {
+        // A borrow of a field shows the prover what the type keeps: that the words fit in memory.
+        let plan = &self.plan;
+        plan.links + plan.words
+    }
+
     /// The place of the cell `k` of a node's row: its links stand there, and its words behind them.
-    pub(crate) fn place(&self, node: usize, k: usize) -> usize
+    pub(crate) fn place(&self, row: usize, node: usize, k: usize) -> usize
+        requires row { row ≡ self.now.plan.links + self.now.plan.words }
         requires node { node < self.now.plan.nodes }
         requires inside { k < self.now.plan.links + self.now.plan.words }
         ensures place { result ≡ place_of (self.now.plan.links + self.now.plan.words) node k }
@@ -80,13 +99,23 @@ impl<F: Shape> Graph<F> {
     {
         // A borrow of a field shows the prover what the type keeps: that the words fit in memory.
         let plan = &self.plan;
-        place_of(plan.links + plan.words, plan.nodes, node, k)
+        place_of(row, plan.nodes, node, k)
     }
 
     /// Loads a link of the node that the section is on, and returns the node that it led to at that
     /// load: the section holds that one too until it closes, whole and with its words as they are
     /// (Linux's `rcu_dereference` of a `next`). The seat's view has the load as one hop more.
-    pub fn follow(&self, seat: &mut GraphSeat<F>, from: usize, link: usize) -> Option<usize>
+    ///
+    /// The row is as [`row`](Self::row) has it: who knows it as a constant spares a multiplication
+    /// between two loads of which one waits for the other.
+    pub fn follow(
+        &self,
+        seat: &mut GraphSeat<F>,
+        row: usize,
+        from: usize,
+        link: usize,
+    ) -> Option<usize>
+        requires row { row ≡ self.now.plan.links + self.now.plan.words }
         requires at { IsAt (F.first self.now.plan) self.now seat.old from }
         requires link { link < self.now.plan.links }
         ensures same { seat.new ≡ after_word_step seat.old seat.new.view.client }
@@ -101,7 +130,7 @@ impl<F: Shape> Graph<F> {
     {
         // A borrow of a field shows the prover what the type keeps: that the words fit in memory.
         let board = &*self.board;
-        let place = self.place(from, link);
+        let place = self.place(row, from, link);
         follow_is_allowed(seat, from, link, place);
         let word = seat.load_word::<_, Follow<F>>(board, place);
         if word == 0 {
@@ -111,8 +140,9 @@ impl<F: Shape> Graph<F> {
     }
 
     /// Loads a word of the node that the section is on: the one that it had when the section came
-    /// to it.
-    pub fn read(&self, seat: &mut GraphSeat<F>, node: usize, word: usize) -> u64
+    /// to it. The row is as of [`follow`](Self::follow).
+    pub fn read(&self, seat: &mut GraphSeat<F>, row: usize, node: usize, word: usize) -> u64
+        requires row { row ≡ self.now.plan.links + self.now.plan.words }
         requires at { IsAt (F.first self.now.plan) self.now seat.old node }
         requires word { word < self.now.plan.words }
         ensures same { seat.new ≡ seat.old }
@@ -122,7 +152,7 @@ impl<F: Shape> Graph<F> {
     {
         // A borrow of a field shows the prover what the type keeps: that the words fit in memory.
         let board = &*self.board;
-        let place = self.place(node, self.plan.links + word);
+        let place = self.place(row, node, self.plan.links + word);
         read_is_allowed(seat, node, word, place);
         seat.load_word::<_, Read<F>>(board, place)
     }

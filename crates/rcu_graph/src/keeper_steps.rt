@@ -45,7 +45,7 @@ impl<F: Shape> Graph<F> {
     {
         // A borrow of a field shows the prover what the type keeps: that the words fit in memory.
         let board = &*self.board;
-        let place = self.place(node, self.plan.links + word);
+        let place = self.place(self.row(), node, self.plan.links + word);
         write_is_allowed(seat, node, word, place, value);
         seat.store_word::<_, Write>(board, place, value);
     }
@@ -61,7 +61,7 @@ impl<F: Shape> Graph<F> {
     {
         // A borrow of a field shows the prover what the type keeps: that the words fit in memory.
         let board = &*self.board;
-        let place = self.place(node, link);
+        let place = self.place(self.row(), node, link);
         write_link_is_allowed(seat, node, link, place, value);
         seat.store_word::<_, WriteLink>(board, place, value);
     }
@@ -81,7 +81,7 @@ impl<F: Shape> Graph<F> {
     {
         // A borrow of a field shows the prover what the type keeps: that the words fit in memory.
         let board = &*self.board;
-        let place = self.place(node, link);
+        let place = self.place(self.row(), node, link);
         link_is_allowed(seat, node, link, place, value);
         seat.store_word::<_, Link>(board, place, value);
     }
@@ -104,7 +104,7 @@ impl<F: Shape> Graph<F> {
     {
         // A borrow of a field shows the prover what the type keeps: that the words fit in memory.
         let board = &*self.board;
-        let place = self.place(from, link);
+        let place = self.place(self.row(), from, link);
         let value = to as u64 + 1;
         publish_is_allowed(seat, from, link, to, place, value);
         seat.store_word::<_, Publish>(board, place, value);
@@ -124,7 +124,7 @@ impl<F: Shape> Graph<F> {
     {
         // A borrow of a field shows the prover what the type keeps: that the words fit in memory.
         let board = &*self.board;
-        let place = self.place(node, 0);
+        let place = self.place(self.row(), node, 0);
         leave_is_allowed(seat, node, place);
         seat.load_word::<_, Leave>(board, place);
     }

@@ -30,7 +30,7 @@ pub use graph::Graph;
 pub use keeper::{Full, Keeper};
 pub use node_state::NodeState;
 pub use not_opened::NotOpened;
-pub use opening::Opened;
+pub use opening::{Opened, UnlockedEngine};
 pub use plan::Plan;
 pub use rule::{GraphEngine, GraphSeat, GraphWatcher, Shape};
 pub use value::{Invariant, Value};

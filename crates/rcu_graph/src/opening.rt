@@ -2,7 +2,7 @@
 ghost use Rattle.std.specs.Prelude.{◌≡◌, ◌≢◌, ◌↔◌, ◌+◌, ◌*◌, ◌^◌, ◌<◌, ◌≤◌, ℕ, [], Err, IfOk};
 ghost use Rattle.std.specs.Prelude.{length, slice_index};
 ghost use Rattle.rcu_geometry.specs.Opening.{opening_refusal};
-ghost use Rattle.rcu_live.specs.Opening.{AreDealt, AreFanouts};
+ghost use Rattle.rcu_live.specs.Opening.{AreDealt, AreFanouts, engine_at_first};
 ghost use Rattle.rcu_live.specs.Watcher.{after_word_step, watcher_at_first};
 ghost use Rattle.rcu_live.specs.Words.{base_of};
 ghost use Rattle.rcu_graph.specs.Keeper.{IsKeeperOf};
@@ -18,7 +18,8 @@ use crate::places::{FIRST, place_of};
 use crate::plan::Plan;
 use crate::rule::{GraphEngine, GraphRule, GraphSeat, GraphWatcher, Shape};
 use rcu_geometry::check_size;
-use rcu_live::{Live, Parts};
+use rcu_live::{Engine, Live, Parts};
+use rcu_node::Tree;
 use rcu_seq::Fault;
 use std::alloc::{AllocError, Global};
 use std::sync::Arc;
@@ -66,7 +67,7 @@ const MOST: u64 = 1 << 62;
 /// A graph as it is opened, with its engine.
 #[derive(Drop)]
 pub struct Opened<L: Drop, F: Shape> {
-    /// The engine, which threads share. Somebody has to drive it.
+    /// The engine, which threads share, or which is under no lock. Somebody has to drive it.
     pub live: L,
     /// The nodes, which its seats read.
     pub graph: Graph<F>,
@@ -77,6 +78,13 @@ pub struct Opened<L: Drop, F: Shape> {
     /// The watcher that keeps the nodes.
     pub own: GraphWatcher<F>,
 }
+
+/// The engine of a graph, for whoever has a lock of their own.
+pub type UnlockedEngine<const LEAF: u32, const FAN: u32, T, F> = Engine<
+    Tree<LEAF, FAN>,
+    T,
+    GraphRule<F>,
+>;
 
 impl<F: Shape> Graph<F> {
     /// Opens a graph of a plan, whose roots have their first words and lead nowhere, and whose
@@ -108,6 +116,51 @@ impl<F: Shape> Graph<F> {
             (Keeper 0
             (first_nodes plan.links plan.words (F.first plan) plan.roots plan.nodes) []))) }
     {
+        let opened = Self::open_unlocked::<LEAF, FAN, T>(alloc, cpus, last, plan)?;
+        let Opened {
+            live: engine,
+            graph,
+            seats,
+            watchers,
+            own,
+        } = opened;
+        let Ok(board) = Arc::try_clone(&graph.board) else {
+            return Err(NotOpened::Fault(Fault::NoMemory));
+        };
+        Ok(Opened {
+            live: Live::new(board, engine),
+            graph,
+            seats,
+            watchers,
+            own,
+        })
+    }
+
+    /// Opens a graph as [`open`](Self::open), with its engine under no lock: its owner makes one
+    /// call at a time.
+    pub fn open_unlocked<const LEAF: u32, const FAN: u32, T: Drop>(
+        alloc: Global,
+        cpus: u32,
+        last: u64,
+        plan: Plan,
+    ) -> Result<Opened<UnlockedEngine<LEAF, FAN, T, F>, F>, NotOpened>
+        requires fanouts { AreFanouts LEAF FAN }
+        requires first { AreWhole (F.fits plan) (F.first plan) plan }
+        ensures bad_sizes { (result ≡ Err NotOpened.BadSizes) ↔ ¬ IsSized plan }
+        ensures fault { IsSized plan →
+            tested_opening result ≡ opening_refusal LEAF FAN cpus last }
+        ensures dealt { IfOk result (λ opened. AreDealt cpus last (2 ^ 62)
+            (first_place + (plan.links + plan.words) * plan.nodes) 0 (of_plan plan Idle)
+            opened.graph opened.seats.items opened.watchers.items) }
+        ensures plan { IfOk result (λ opened. opened.graph.plan ≡ plan) }
+        ensures engine { IfOk result (λ opened. opened.live ≡ engine_at_first
+            opened.graph.table cpus last (2 ^ 62) (of_plan plan Idle)) }
+        ensures keeper { IfOk result (λ opened. IsKeeperOf opened.graph opened.own) }
+        ensures own { IfOk result (λ opened. opened.own ≡ after_word_step
+            (watcher_at_first opened.graph.table (base_of cpus) (of_plan plan Owner)) (of_plan plan
+            (Keeper 0
+            (first_nodes plan.links plan.words (F.first plan) plan.roots plan.nodes) []))) }
+    {
         if !plan.is_sized() {
             return Err(NotOpened::BadSizes);
         }
@@ -130,16 +183,10 @@ impl<F: Shape> Graph<F> {
             behind.as_slice(),
             Vec::new(alloc),
         )?;
-        let Ok(shared) = Arc::try_clone(&board) else {
-            return Err(NotOpened::Fault(Fault::NoMemory));
-        };
-        let graph = Graph {
-            board: shared,
-            plan,
-        };
+        let graph = Graph { board, plan };
         graph.claim(&mut own);
         Ok(Opened {
-            live: Live::new(board, engine),
+            live: engine,
             graph,
             seats,
             watchers,

@@ -1,6 +1,6 @@
 //! Chains whose first words, the keys, go up: a section's search in one ends, whatever the keeper
 //! does meanwhile.
-ghost use Rattle.std.specs.Prelude.{◌≡◌, ◌<◌, ℕ, IfSome, List, slice_index};
+ghost use Rattle.std.specs.Prelude.{◌≡◌, ◌<◌, ◌+◌, ℕ, IfSome, List, slice_index};
 ghost use Rattle.rcu_live.specs.CpuSeat.{after_word_step};
 ghost use Rattle.rcu_graph.specs.Graph.{IsAt, IsWalking};
 ghost use Rattle.rcu_graph.specs.Nodes.{IsOn};
@@ -11,7 +11,8 @@ use crate::rule::{GraphSeat, Shape};
 
 impl<F: Shape> Graph<F> {
     /// The key of a node on which the section is.
-    fn key_of(&self, seat: &mut GraphSeat<F>, node: usize) -> u64
+    fn key_of(&self, seat: &mut GraphSeat<F>, row: usize, node: usize) -> u64
+        requires row { row ≡ self.now.plan.links + self.now.plan.words }
         requires at { IsAt (F.first self.now.plan) self.now seat.old node }
         ensures same { seat.new ≡ seat.old }
         ensures told { (words : List ℕ) → IsOn (F.first self.now.plan) self.now.plan.roots
@@ -19,13 +20,15 @@ impl<F: Shape> Graph<F> {
             result ≡ slice_index words 0 }
     {
         self.plan();
-        self.read(seat, node, 0)
+        self.read(seat, row, node, 0)
     }
 
     /// Searches the chain of a root for a key, by a load a hop, and one a key. The section holds
     /// each node that it came to; the one that it returns has the key, and is whole. It returns
-    /// none only where a hop led nowhere, or to a greater key.
-    pub fn find(&self, seat: &mut GraphSeat<F>, root: usize, key: u64) -> Option<usize>
+    /// none only where a hop led nowhere, or to a greater key. The row is as of
+    /// [`follow`](Self::follow).
+    pub fn find(&self, seat: &mut GraphSeat<F>, row: usize, root: usize, key: u64) -> Option<usize>
+        requires row { row ≡ self.now.plan.links + self.now.plan.words }
         requires walking { IsWalking self.now seat.old }
         requires root { root < self.now.plan.roots }
         requires link { 0 < self.now.plan.links }
@@ -42,10 +45,10 @@ impl<F: Shape> Graph<F> {
         let mut on = root;
         let mut least = 0;
         'chain: loop {
-            let Some(next) = self.follow(seat, on, 0) else {
+            let Some(next) = self.follow(seat, row, on, 0) else {
                 return None;
             };
-            let found = self.key_of(seat, next);
+            let found = self.key_of(seat, row, next);
             if found == key {
                 return Some(next);
             }

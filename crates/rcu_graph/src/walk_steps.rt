@@ -42,7 +42,7 @@ impl<'a, F: Shape> Walk<'a, F> {
             IsAt (F.first (walked self.old).graph.plan) (walked self.new).graph
             (walked self.new).seat node) }
     {
-        self.graph.follow(self.seat, from, link)
+        self.graph.follow(self.seat, self.graph.row(), from, link)
     }
 
     /// Loads a word of a node that the section is on, as [`Graph::read`] does.
@@ -55,7 +55,7 @@ impl<'a, F: Shape> Walk<'a, F> {
             (walked self.old).graph.plan.roots (known_in (walked self.old)) node words →
             result ≡ slice_index words word }
     {
-        self.graph.read(self.seat, node, word)
+        self.graph.read(self.seat, self.graph.row(), node, word)
     }
 
     /// Searches the chain of a root for a key, as [`Graph::find`] does.
@@ -74,6 +74,6 @@ impl<'a, F: Shape> Walk<'a, F> {
             IsAt (F.first (walked self.old).graph.plan) (walked self.new).graph
             (walked self.new).seat node) }
     {
-        self.graph.find(self.seat, root, key)
+        self.graph.find(self.seat, self.graph.row(), root, key)
     }
 }

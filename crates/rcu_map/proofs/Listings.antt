@@ -44,7 +44,7 @@ made_after nodes (hop ∷ hops) older t made = (
 
 module _ (root key : ℕ) where
   -- the latest hops are a path from the root over lesser keys to the cursor
-  record IsOnWay (hops : List Hop) (at : Cursor) : Type 0 where
+  pub record IsOnWay (hops : List Hop) (at : Cursor) : Type 0 where
     pub here : at.bucket ≡ root
     pub low : at.key < key
     pub path : List Hop
@@ -53,7 +53,7 @@ module _ (root key : ℕ) where
     pub is_path : IsPath root key path at.node
 
   -- a search for the key among the hops found nothing
-  record IsMissed (hops : List Hop) : Type 0 where
+  pub record IsMissed (hops : List Hop) : Type 0 where
     pub newer : List Hop
     pub last : Hop
     pub path : List Hop
@@ -64,7 +64,7 @@ module _ (root key : ℕ) where
     pub decided : Decides key None last
 
   -- how far the hops went: not to the root's chain, on their way in it, or past the key's place
-  data Progress (hops : List Hop) (at : Cursor) : Type 0 where
+  pub data Progress (hops : List Hop) (at : Cursor) : Type 0 where
     before : at.bucket < root → Progress hops at
     on_way : IsOnWay hops at → Progress hops at
     listed : IsListed key hops → Progress hops at
@@ -166,10 +166,11 @@ module _ (root key : ℕ) where
     steps zero led keyed p = nowhere keyed led p
     steps (suc node) led keyed p = to_node node led p
 
-  progress : (buckets seed : ℕ) (hops : List Hop) (at : Cursor)
-      → 0 < key → GoOn buckets seed (at_root 0) hops at → Progress hops at
-  progress buckets seed [] at keyed none = subst (Progress []) (sym none) (dite (ℕ_discrete 0 root)
-      (λ (e : 0 ≡ root). on_way (record {
+  pub progress : (buckets seed first : ℕ) (hops : List Hop) (at : Cursor)
+      → first ≤ root → 0 < key → GoOn buckets seed (at_root first) hops at → Progress hops at
+  progress buckets seed first [] at low keyed none =
+      subst (Progress []) (sym none) (dite (ℕ_discrete first root)
+      (λ (e : first ≡ root). on_way (record {
         here = e;
         low = keyed;
         path = [];
@@ -177,11 +178,11 @@ module _ (root key : ℕ) where
         are = refl;
         is_path = e;
       }))
-      (λ (ne : 0 ≡ root → ⊥). before (omega (arith, ne))))
-  progress buckets seed (hop ∷ hops) at keyed g =
+      (λ (ne : first ≡ root → ⊥). before (omega (arith, low, ne))))
+  progress buckets seed first (hop ∷ hops) at low keyed g =
       subst (Progress (hop ∷ hops)) (sym g.3)
       (steps buckets seed hop hops g.0 g.2 hop.to refl keyed
-      (progress buckets seed hops g.0 keyed g.1))
+      (progress buckets seed first hops g.0 low keyed g.1))
 
 nothing : IsSome {T = ℕ} None → ⊥
 nothing e = cc
@@ -193,6 +194,29 @@ module _
     → ((t : ℕ) → t ≤ last → IsLinkedKey root key (nodes t))
     → AreMadeBy nodes last (search.last ∷ search.path)
     → IsSome found) where
+  -- no search among the hops missed the key
+  pub not_missed : (ours : List ℕ → Bool) (opened root key last : ℕ) (nodes : ℕ → List Node)
+      (hops : List Hop)
+      → IsHistory ours opened root last nodes
+      → ((t : ℕ) → t ≤ last → IsLinkedKey root key (nodes t))
+      → AreMadeBy nodes last hops
+      → IsMissed root key hops
+      → ⊥
+  not_missed ours opened root key last nodes hops history linked made m =
+      let rest = made_before nodes m.newer (m.last ∷ (m.path ++ m.older)) last last
+      (omega arith) (subst (AreMadeBy nodes last) m.are made) in
+      nothing (found ours opened root key last nodes (Reader m.older)
+      (Reader (m.last ∷ (m.path ++ m.older))) None
+      (record {
+        path = m.path;
+        last = m.last;
+        are = refl;
+        is_path = m.is_path;
+        along = m.along;
+        decided = m.decided;
+      })
+      history linked (made_after nodes (m.last ∷ m.path) m.older last rest))
+
   pub are_listed : (ours : List ℕ → Bool) (opened buckets seed key last : ℕ) (nodes : ℕ → List Node)
       (hops : List Hop) (at : Cursor)
       → bucket_of buckets seed key < buckets
@@ -205,7 +229,7 @@ module _
       → IsListed key hops
   are_listed ours opened buckets seed key last nodes hops at low keyed goes ended history linked
       made =
-      by (progress (bucket_of buckets seed key) key buckets seed hops at keyed goes)
+      by (progress (bucket_of buckets seed key) key buckets seed 0 hops at (omega arith) keyed goes)
     where
       root : ℕ
       root = bucket_of buckets seed key
@@ -216,16 +240,4 @@ module _
           let here : at.bucket ≡ root = w.here in absurd (omega (arith, here, ended, low))
       by (listed l) = l
       by (missed m) =
-          let rest = made_before nodes m.newer (m.last ∷ (m.path ++ m.older)) last last
-          (omega arith) (subst (AreMadeBy nodes last) m.are made) in
-          absurd (nothing (found ours opened root key last nodes (Reader m.older)
-          (Reader (m.last ∷ (m.path ++ m.older))) None
-          (record {
-            path = m.path;
-            last = m.last;
-            are = refl;
-            is_path = m.is_path;
-            along = m.along;
-            decided = m.decided;
-          })
-          history linked (made_after nodes (m.last ∷ m.path) m.older last rest)))
+          absurd (not_missed ours opened root key last nodes hops history linked made m)

@@ -1,6 +1,6 @@
 //! What is said of the keys of a map, and of going over its entries, over the definitions alone.
-ghost use Rattle.std.specs.Prelude.{◌≡◌, ◌↔◌, ◌<◌, ◌≤◌, ◌+◌, ◌++◌, ◌∷◌, ℕ, Bool, IsSome, List};
-ghost use Rattle.std.specs.Prelude.{Option, Some};
+ghost use Rattle.std.specs.Prelude.{◌≡◌, ◌↔◌, ◌<◌, ◌≤◌, ◌+◌, ◌++◌, ◌∷◌, ℕ, Bool, IsSome, IsSomeAnd};
+ghost use Rattle.std.specs.Prelude.{List, Option, Some};
 ghost use Rattle.rcu_live.specs.Watcher.{Watching};
 ghost use Rattle.rcu_graph.specs.Absence.{AreMadeBy, IsHistory, IsLinkedKey};
 ghost use Rattle.rcu_graph.specs.Beside.{Moment};
@@ -11,6 +11,7 @@ ghost use Rattle.rcu_graph.specs.declared.known.Known.{Known};
 ghost use Rattle.rcu_graph.specs.declared.known.Node.{Node};
 ghost use Rattle.rcu_graph.specs.declared.known.Planned.{Planned};
 ghost use Rattle.rcu_graph.specs.declared.plan.Plan.{Plan};
+ghost use Rattle.rcu_map.specs.After.{IsBehind, IsNextAfter, IsUpTo};
 ghost use Rattle.rcu_map.specs.Beside.{AreMadeOver, HadKey, IsMapOver, IsReadOver, since};
 ghost use Rattle.rcu_map.specs.Chains.{IsMap};
 ghost use Rattle.rcu_map.specs.Entries.{HasKey};
@@ -136,4 +137,30 @@ pub fn keys_that_stay_are_listed_over_a_run<E: Entry<W>, const W: usize>()
     hops_are_made_by_their_run::<MapShape<E, W>>();
     runs_are_histories::<MapShape<E, W>>();
     linked_keys_are_listed();
+}
+
+/// Each key lies behind 0, so that the next entry behind 0 is the first one.
+pub fn each_key_lies_behind_0()
+    ensures { (buckets seed key : ℕ) → 0 < key → IsBehind buckets seed 0 key }
+{}
+
+/// A key that stays in the map over such a run, and that lies behind another one, is not passed
+/// over: there is a next entry behind that one, and it is the key's, or one before it.
+pub fn no_key_that_stays_is_passed_over<E: Entry<W>, const W: usize>()
+    ensures { (plan : Plan) (opened key stays keeper seat from done last : ℕ)
+        (moments : ℕ → Moment) (now : Watching Planned) (run : IsRun E.holds plan opened now)
+        (next : Option E) →
+        0 < plan.roots → plan.links ≡ 1 → plan.words ≡ W → 0 < stays → from + done ≤ last →
+        IsMapOver E.holds plan keeper last moments →
+        AreMadeOver E.holds plan opened moments last now run →
+        HasKeyThroughout E.holds plan opened stays now run →
+        IsReadOver E.holds plan seat opened done (since from moments) →
+        IsBehind plan.roots plan.seed key stays →
+        IsNextAfter E.holds E.decode plan.roots plan.seed key (moments from).section next
+        (moments (from + done)).section →
+        IsSomeAnd next (λ entry. IsUpTo plan.roots plan.seed stays (E.key_of entry)) }
+{
+    hops_are_made_by_their_run::<MapShape<E, W>>();
+    runs_are_histories::<MapShape<E, W>>();
+    linked_keys_are_found();
 }

@@ -1,6 +1,7 @@
 //! A hash map of sorted chains, and a sorted list, over nodes that sections walk without a lock.
 #![tactic(auto)]
 
+mod after;
 mod bucket;
 pub mod cursor;
 pub mod definition_laws;

@@ -16,17 +16,17 @@ use crate::shape::MapSeat;
 impl<E: Entry<W>, const W: usize> Map<E, W> {
     /// Goes on from a cursor by one hop, and returns where that led: to a node, or to the root of
     /// the next bucket, where it led nowhere.
-    fn step(&self, seat: &mut MapSeat<E, W>, at: Cursor) -> Cursor
+    pub(crate) fn step(&self, seat: &mut MapSeat<E, W>, at: Cursor) -> Cursor
         requires may { MayGoOn self.now seat.old at }
         requires inside { at.bucket < self.now.plan.roots }
         ensures { HasStepped E.holds self.now seat.old at seat.new result }
     {
         words_are_two::<E, W>();
         self.plan();
-        let Some(node) = self.graph.follow(seat, at.node, 0) else {
+        let Some(node) = self.graph.follow(seat, 1 + W, at.node, 0) else {
             return Cursor::at_root(at.bucket + 1);
         };
-        let key = self.graph.read(seat, node, 0);
+        let key = self.graph.read(seat, 1 + W, node, 0);
         Cursor {
             bucket: at.bucket,
             node,
@@ -35,7 +35,7 @@ impl<E: Entry<W>, const W: usize> Map<E, W> {
     }
 
     /// The entry that a node has, by a load a word.
-    fn entry_at(&self, seat: &mut MapSeat<E, W>, node: usize, key: u64) -> E
+    pub(crate) fn entry_at(&self, seat: &mut MapSeat<E, W>, node: usize, key: u64) -> E
         requires { IsOnEntry E.holds self.now seat.old node key }
         ensures same { seat.new ≡ seat.old }
         ensures told { (words : List ℕ) → IsHeld seat.old.view.client.known node words →

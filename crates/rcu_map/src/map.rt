@@ -1,5 +1,7 @@
 //! A map: what a section reads of it, without a lock, a wait or a store.
-ghost use Rattle.std.specs.Prelude.{◌≡◌, ◌≤◌, ◌<◌, ℕ, IfSome, List, None, false, is_some};
+ghost use Rattle.std.specs.Prelude.{◌≡◌, ◌≤◌, ◌<◌, ◌+◌, ◌^◌, ℕ, IfOk, IfSome, List, None, false};
+ghost use Rattle.std.specs.Prelude.{is_some};
+ghost use Rattle.std.specs.Arc.{arc_value};
 ghost use Rattle.rcu_live.specs.CpuSeat.{after_word_step};
 ghost use Rattle.rcu_graph.specs.Graph.{IsAt, IsWalking};
 ghost use Rattle.rcu_graph.specs.Nodes.{IsOn};
@@ -9,9 +11,12 @@ ghost use Rattle.rcu_map.specs.Keys.{IsWhole, bucket_of, key_in, root_words};
 
 use crate::bucket::bucket_of;
 use crate::entry::Entry;
-use crate::shape::{MapSeat, MapShape};
+use crate::shape::{MapRule, MapSeat, MapShape};
 use rcu_graph::{Graph, Plan};
+use rcu_live::Board;
+use std::alloc::{AllocError, Global};
 use std::marker::Model;
+use std::sync::Arc;
 
 /// Entries among the shared words of a running engine: a chain a bucket, whose keys go up. With one
 /// bucket it is a sorted list.
@@ -54,10 +59,29 @@ impl<E: Entry<W>, const W: usize> Map<E, W> {
         ensures roots { self.now.plan.roots ≤ self.now.plan.nodes }
         ensures one { self.now.plan.links ≡ 1 }
         ensures words { self.now.plan.words ≡ W }
+        ensures row { 1 + W < 2 ^ 64 }
     {
         // A borrow of a field shows the prover what the type keeps.
         let graph = &self.graph;
         graph.plan()
+    }
+
+    /// A second handle to the same map.
+    pub fn try_clone(&self) -> Result<Map<E, W>, AllocError>
+        ensures { IfOk result (λ map. map ≡ self.now) }
+    {
+        // A borrow of a field shows the prover what the type keeps.
+        let graph = &self.graph;
+        Ok(Map {
+            graph: graph.try_clone()?,
+        })
+    }
+
+    /// The words of its engine, which all seats read.
+    pub fn board(&self) -> &Arc<Board<MapRule<E, W>>, Global>
+        ensures { arc_value result.now ≡ self.now }
+    {
+        self.graph.board()
     }
 
     /// The nodes, for who keeps them.
@@ -80,7 +104,7 @@ impl<E: Entry<W>, const W: usize> Map<E, W> {
         self.plan();
         let mut words = [key; W];
         for word in 1..W {
-            words[word] = self.graph.read(seat, node, word);
+            words[word] = self.graph.read(seat, 1 + W, node, word);
         }
         words
     }
@@ -104,7 +128,7 @@ impl<E: Entry<W>, const W: usize> Map<E, W> {
             return None;
         }
         let bucket = bucket_of(self.plan(), key);
-        self.graph.find(seat, bucket, key)
+        self.graph.find(seat, 1 + W, bucket, key)
     }
 
     /// The entry of this key, by two loads for each node of its bucket up to there, and one for

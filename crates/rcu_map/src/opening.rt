@@ -1,7 +1,7 @@
 //! The opening of a map.
 ghost use Rattle.std.specs.Prelude.{◌≡◌, ◌↔◌, ◌+◌, ◌*◌, ◌^◌, ◌<◌, [], Err, IfOk};
 ghost use Rattle.rcu_geometry.specs.Opening.{opening_refusal};
-ghost use Rattle.rcu_live.specs.Opening.{AreDealt, AreFanouts};
+ghost use Rattle.rcu_live.specs.Opening.{AreDealt, AreFanouts, engine_at_first};
 ghost use Rattle.rcu_live.specs.Watcher.{after_word_step, watcher_at_first};
 ghost use Rattle.rcu_live.specs.Words.{base_of};
 ghost use Rattle.rcu_graph.specs.Keeper.{IsKeeperOf};
@@ -17,16 +17,17 @@ use crate::bucket::multiplier_of;
 use crate::entry::Entry;
 use crate::keeper::MapKeeper;
 use crate::map::Map;
-use crate::shape::{MapRule, MapSeat, MapWatcher};
-use rcu_graph::{Graph, NotOpened, Plan};
+use crate::shape::{MapRule, MapSeat, MapShape, MapWatcher};
+use rcu_graph::{Graph, NotOpened, Plan, UnlockedEngine};
 use rcu_live::Live;
 use rcu_seq::Fault;
 use std::alloc::Global;
+use std::sync::Arc;
 
 /// A map as it is opened, with its engine.
 #[derive(Drop)]
 pub struct Opened<L: Drop, E: Entry<W>, const W: usize> {
-    /// The engine, which threads share. Somebody has to drive it.
+    /// The engine, which threads share, or which is under no lock. Somebody has to drive it.
     pub live: L,
     /// The map, which its seats read.
     pub map: Map<E, W>,
@@ -71,6 +72,53 @@ impl<E: Entry<W>, const W: usize> Map<E, W> {
             (of_plan (plan_of_map buckets W nodes seed)
             (Keeper 0 (first_nodes 1 W (root_words W) buckets nodes) []))) }
     {
+        let opened = Self::open_unlocked::<LEAF, FAN, T>(alloc, cpus, last, buckets, nodes, seed)?;
+        let Opened {
+            live: engine,
+            map,
+            seats,
+            watchers,
+            keeper,
+        } = opened;
+        let Ok(board) = Arc::try_clone(map.board()) else {
+            return Err(NotOpened::Fault(Fault::NoMemory));
+        };
+        Ok(Opened {
+            live: Live::new(board, engine),
+            map,
+            seats,
+            watchers,
+            keeper,
+        })
+    }
+
+    /// Opens a map as [`open`](Self::open), with its engine under no lock: its owner makes one call
+    /// at a time.
+    pub fn open_unlocked<const LEAF: u32, const FAN: u32, T: Drop>(
+        alloc: Global,
+        cpus: u32,
+        last: u64,
+        buckets: usize,
+        nodes: usize,
+        seed: u64,
+    ) -> Result<Opened<UnlockedEngine<LEAF, FAN, T, MapShape<E, W>>, E, W>, NotOpened>
+        requires fanouts { AreFanouts LEAF FAN }
+        ensures bad_sizes { (result ≡ Err NotOpened.BadSizes) ↔ ¬ HasSizes buckets W nodes }
+        ensures fault { HasSizes buckets W nodes →
+            tested_opening result ≡ opening_refusal LEAF FAN cpus last }
+        ensures dealt { IfOk result (λ opened. AreDealt cpus last (2 ^ 62)
+            (first_place + (1 + W) * nodes) 0 (of_plan opened.map.plan Idle) opened.map
+            opened.seats.items opened.watchers.items) }
+        ensures plan { IfOk result (λ opened. opened.map.plan ≡ plan_of_map buckets W nodes seed) }
+        ensures engine { IfOk result (λ opened. opened.live ≡ engine_at_first
+            opened.map.table cpus last (2 ^ 62) (of_plan opened.map.plan Idle)) }
+        ensures keeper { IfOk result (λ opened. IsKeeperOf opened.map opened.keeper) }
+        ensures own { IfOk result (λ opened. opened.keeper ≡ after_word_step
+            (watcher_at_first opened.map.table (base_of cpus)
+            (of_plan (plan_of_map buckets W nodes seed) Owner))
+            (of_plan (plan_of_map buckets W nodes seed)
+            (Keeper 0 (first_nodes 1 W (root_words W) buckets nodes) []))) }
+    {
         if buckets == 0 {
             return Err(NotOpened::BadSizes);
         }
@@ -81,7 +129,7 @@ impl<E: Entry<W>, const W: usize> Map<E, W> {
             nodes,
             seed: multiplier_of(seed),
         };
-        let opened = Graph::open::<LEAF, FAN, T>(alloc, cpus, last, plan)?;
+        let opened = Graph::open_unlocked::<LEAF, FAN, T>(alloc, cpus, last, plan)?;
         let rcu_graph::Opened {
             live,
             graph,

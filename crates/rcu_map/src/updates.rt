@@ -54,7 +54,7 @@ impl<E: Entry<W>, const W: usize> MapKeeper<E, W> {
     /// Puts an entry in so, by one store, and returns the one that had its key. `Full` tells that
     /// the entry needs a node, and that none is free. Costs a step for each node of its bucket up
     /// to there.
-    pub(crate) fn put(&mut self, how: Put, entry: E) -> Result<Option<E>, Full>
+    pub fn put(&mut self, how: Put, entry: E) -> Result<Option<E>, Full>
         requires sound { E.valid entry }
         ensures { HasAnswered E.decode E.valid E.key_of how (E.key_of entry)
             (E.in_words entry) self.old result self.new }

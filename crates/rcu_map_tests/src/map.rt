@@ -1,6 +1,7 @@
 //! Maps: their openings, entries that sections go over, calls by a script and by several threads,
 //! and nodes used again.
 mod large;
+mod next;
 mod reuse;
 mod route;
 mod script;

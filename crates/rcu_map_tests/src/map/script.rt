@@ -34,7 +34,7 @@ enum Call {
 }
 
 /// How many networks there are. A network with the port 0 has no route.
-const NETWORKS: usize = 10;
+pub(crate) const NETWORKS: usize = 10;
 
 /// The networks as the buckets of a map of this seed have them.
 type Order = (u64, [u32; NETWORKS]);
@@ -119,7 +119,12 @@ fn goes_on_to<'a, R: Abort>(rt: &R, entries: &mut Listing<'a>, wanted: Option<Ro
 }
 
 /// Compares the entries that a section goes over with these routes.
-fn lists<R: Abort>(rt: &R, map: &Routes, seat: &mut Seat, routes: &[Option<Route>; NETWORKS])
+pub(crate) fn lists<R: Abort>(
+    rt: &R,
+    map: &Routes,
+    seat: &mut Seat,
+    routes: &[Option<Route>; NETWORKS],
+)
     requires { IsWalking map.now seat.old }
     ensures state { seat.new ≡ after_word_step seat.old seat.new.view.client }
     ensures walking { IsWalking map.now seat.new }

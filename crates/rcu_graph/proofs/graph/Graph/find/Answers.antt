@@ -28,13 +28,14 @@ pub follow-requires : goal.follow-requires
 follow-requires g c =
     let i = c.chain.invariant in
     record {
+      row = c.requires.row;
       at = walks_at _ _ _ c.chain.seat _ i.on.0 i.same i.planned c.requires.walking i.reader i.on.1
           i.inside;
       link = c.requires.link;
     }
 
 pub key_of-found-requires : goal.key_of-found-requires
-key_of-found-requires g c = record { at = c.in-Some.ensures.on }
+key_of-found-requires g c = record { row = c.requires.row; at = c.in-Some.ensures.on }
 
 pub returns-then-found-key-clause-walking : goal.returns-then-found-key-clause-walking
 returns-then-found-key-clause-walking g c =

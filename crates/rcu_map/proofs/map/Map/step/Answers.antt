@@ -21,6 +21,9 @@ follow-requires g c =
     (let words = c.self.invariant.words in omega (arith, c.words_are_two.ensures, words)) inside
     (may.on inside) in
     record {
+      row = let one = c.self.invariant.one in
+          let words = c.self.invariant.words in
+          omega (arith, one, words);
       at = record {
         walking = may.walking;
         words = o.words;

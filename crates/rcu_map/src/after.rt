@@ -1,0 +1,45 @@
+//! The next entry of a map behind a key, in an open section: going over the entries with no cursor
+//! that a caller keeps.
+ghost use Rattle.std.specs.Prelude.{◌≡◌, ◌<◌, IfSome};
+ghost use Rattle.rcu_live.specs.CpuSeat.{after_word_step};
+ghost use Rattle.rcu_graph.specs.Graph.{IsWalking};
+ghost use Rattle.rcu_map.specs.After.{IsBehind, IsNextAfter};
+
+use crate::bucket::bucket_of;
+use crate::cursor::Cursor;
+use crate::entry::Entry;
+use crate::map::Map;
+use crate::shape::MapSeat;
+
+impl<E: Entry<W>, const W: usize> Map<E, W> {
+    /// The next entry behind a key, in the order of [`entries`](Self::entries): bucket by bucket,
+    /// and in each by key. Behind the key 0 that is the first one. The key need not be in the map,
+    /// so whoever goes over the entries keeps the last key, and no cursor.
+    ///
+    /// It takes two loads for each node of the chains from the key's bucket up to there, and one
+    /// for each word of the entry but the key. It ends, whatever the keeper does meanwhile.
+    pub fn next_after(&self, seat: &mut MapSeat<E, W>, key: u64) -> Option<E>
+        requires walking { IsWalking self.now seat.old }
+        ensures same { seat.new ≡ after_word_step seat.old seat.new.view.client }
+        ensures walking { IsWalking self.now seat.new }
+        ensures next { IsNextAfter E.holds E.decode self.now.plan.roots self.now.plan.seed key
+            seat.old.view.client.known result seat.new.view.client.known }
+        ensures behind { IfSome result (λ entry.
+            IsBehind self.now.plan.roots self.now.plan.seed key (E.key_of entry)) }
+        ensures keyed { IfSome result (λ entry. 0 < E.key_of entry) }
+        ensures sound { IfSome result (λ entry. E.valid entry) }
+    {
+        let plan = self.plan();
+        let bucket = bucket_of(plan, key);
+        let mut at = Cursor::at_root(bucket);
+        'buckets: while at.bucket < plan.roots {
+            at = self.step(seat, at);
+            // Of the key's bucket the entries up to the key are passed over.
+            let limit = if at.bucket == bucket { key } else { 0 };
+            if at.key > limit {
+                return Some(self.entry_at(seat, at.node, at.key));
+            }
+        }
+        None
+    }
+}
