@@ -91,7 +91,10 @@ enum rcu_fault {
     RCU_SEAT_DEALT = 25,     /* the seat of the processor is dealt */
     RCU_OTHER_ENGINE = 26,   /* the seat is of another engine */
     RCU_CLOSED = 27,         /* the handle is closed, or was never opened */
-    RCU_OTHER_KIND = 28      /* the handle is of another kind */
+    RCU_OTHER_KIND = 28,     /* the handle is of another kind */
+    RCU_BAD_SIZES = 29,      /* a map can't have so many buckets and nodes */
+    RCU_BAD_KEY = 30,        /* an entry has the key 0 */
+    RCU_MAP_FULL = 31        /* no node of the map is free */
 };
 
 /* A sentence for a fault, without a full stop. At 0 it says that there is none. */
@@ -122,6 +125,9 @@ static inline const char *rcu_fault_text(uint32_t fault) {
     case RCU_OTHER_ENGINE: return "the seat is of another engine";
     case RCU_CLOSED: return "the handle is closed, or was never opened";
     case RCU_OTHER_KIND: return "the handle is of another kind";
+    case RCU_BAD_SIZES: return "a map can't have so many buckets and nodes";
+    case RCU_BAD_KEY: return "an entry has the key 0";
+    case RCU_MAP_FULL: return "no node of the map is free";
     default: return "no fault has this number";
     }
 }
@@ -187,6 +193,22 @@ typedef struct rcu_replica {
     unsigned char *at;
 } rcu_replica_t;
 
+/* An entry of a map. Key 0 stands for no entry. */
+typedef struct rcu_entry {
+    uint64_t key;   /* 1 or more */
+    uint64_t value; /* the caller's: a number, or the place of more */
+} rcu_entry_t;
+
+/* The sizes of the map of an engine. */
+typedef struct rcu_map_sizes {
+    uint64_t buckets; /* how many chains the entries are in, 1 or more */
+    uint64_t nodes;   /* how many entries there is room for at a time, plus `buckets`: each bucket
+                       * takes one. An entry that was replaced or removed keeps its own until a
+                       * grace period is over */
+    uint64_t seed;    /* what decides which bucket a key is in: draw it at random where others
+                       * choose the keys */
+} rcu_map_sizes_t;
+
 /* <<< */
 
 /* ---- the full fence */
@@ -247,6 +269,13 @@ void __tsan_acquire(void *place);
  * that. A program in another language makes its own.
  * Faults: 17 for no processor or more than 4,096; 19 where `last` is no such number; 16. */
 uint32_t rcu_open_as(uint32_t cpus, uint64_t last, rcu_identity_t identity, rcu_t *rcu);
+
+/* Opens an engine as rcu_open_as, with a map of so many buckets and nodes, which is empty. Each of
+ * its seats reads it. Needs: `rcu` is closed.
+ * Faults: 29 where there is no bucket, fewer nodes than buckets, or more than 2^32 words in all,
+ * three a node; 17 for no processor or more than 4,096; 19 where `last` is no such number; 16. */
+uint32_t rcu_open_map_as(uint32_t cpus, uint64_t last, rcu_identity_t identity,
+                         const rcu_map_sizes_t *sizes, rcu_t *rcu);
 
 /* Closes an engine, and frees all that it has; values that are still queued are not handed out.
  * Seats that are open go on, and are closed in turn. Of a handle that is no open engine's it does
@@ -818,6 +847,70 @@ uint32_t rcu_may_sleep(rcu_t *rcu, uint32_t *sleeps, uint32_t *left);
  * Writes 1 where the caller has to wake who drives, under the lock. Else 0. It costs a load. */
 uint32_t rcu_seat_wakes(rcu_seat_t *seat, uint32_t *wakes);
 
+/* ---- the map of an engine, as a seat's section reads it: with no lock, beside all calls on other
+ * handles. What a section found stays as it is until the section ends. */
+
+/* Looks a key up in the open section, and writes its entry, or one of key 0 where it finds none. A
+ * key that is in the map from the section's beginning on is found, also where its entry is replaced
+ * meanwhile; what is found was there at some moment of the section. It costs two loads for each
+ * entry of the key's bucket up to there, and one more.
+ * Where it finds an entry, what the thread did before that put it in comes before what follows this
+ * call.
+ * Fault 5: no section is open. */
+uint32_t rcu_map_get(rcu_seat_t *seat, uint64_t key, rcu_entry_t *entry);
+
+/* Goes on from a key to the entry behind it, in the open section, and writes that entry, or one of
+ * key 0 where there is none any more. Behind the key 0 stands the first one. The entries are in the
+ * order of their buckets, and in each of their keys; the key need not be in the map. So calls from
+ * the key 0 on, each with the key that the one before wrote, write each key that is in the map as
+ * long as the section lasts. It costs two loads for each entry of the key's bucket up to there, and
+ * one for each bucket with no further entry.
+ * It orders what rcu_map_get orders.
+ * Fault 5: no section is open. */
+uint32_t rcu_map_next(rcu_seat_t *seat, uint64_t key, rcu_entry_t *entry);
+
+/* ---- what is put into the map of an engine and taken out: `rcu` is under the caller's lock.
+ * Sections read the map meanwhile, and see the entries as they were before a call or as they are
+ * after it. */
+
+/* Puts an entry in, by one store, where none has its key. Writes the entry that has it: then
+ * nothing else happened. It costs a step for each entry of the key's bucket up to there.
+ * What the thread did before comes before what follows a section's rcu_map_get that finds the
+ * entry.
+ * Faults: 30 where the key is 0; 31 where no entry has the key, and no node is free. */
+uint32_t rcu_map_insert(rcu_t *rcu, uint64_t key, uint64_t value, rcu_entry_t *old);
+
+/* Puts an entry in the place of the one that has its key, by one store, and writes that: a section
+ * finds the old one or the new one. Where none has the key, nothing happens. Costs and orders as
+ * rcu_map_insert.
+ * The old value may be freed when a full grace period has passed, as by rcu_queue or
+ * rcu_defer_link.
+ * Faults: 30 where the key is 0; 31 where an entry has the key, and no node is free. */
+uint32_t rcu_map_replace(rcu_t *rcu, uint64_t key, uint64_t value, rcu_entry_t *old);
+
+/* Puts an entry in, by one store, in the place of the one that has its key, as rcu_map_replace, or
+ * where none has it, as rcu_map_insert. Writes the one that had it.
+ * Faults: 30 where the key is 0; 31 where no node is free. */
+uint32_t rcu_map_put(rcu_t *rcu, uint64_t key, uint64_t value, rcu_entry_t *old);
+
+/* Takes the entry of a key out, by one store, and writes it. Its node is free again once a call of
+ * rcu_map_age has found it removed, and a later one a full grace period gone by since. The value
+ * may be freed when a full grace period has passed. */
+uint32_t rcu_map_remove(rcu_t *rcu, uint64_t key, rcu_entry_t *old);
+
+/* Writes the entry of a key as it is now: under the lock no change is missed, as it may be by a
+ * section. */
+uint32_t rcu_map_find(rcu_t *rcu, uint64_t key, rcu_entry_t *entry);
+
+/* How many entries the map has. 0 where `rcu` is no open engine's. */
+uint64_t rcu_map_len(rcu_t *rcu);
+
+/* Looks at the number: the nodes of entries that were replaced or removed wait from now on for the
+ * grace period of the cookie that this writes, and those whose grace period has passed are free. No
+ * entry changes. It costs a load, and a step for each node that waits from now on or is free.
+ * Where a node is wanted (31): call it, drive until the cookie is done, and call it again. */
+uint32_t rcu_map_age(rcu_t *rcu, uint64_t *cookie);
+
 /* <<< */
 
 /* ---- links in the caller's own nodes */
@@ -857,8 +950,8 @@ static inline rcu_link_t *rcu_defer_take(rcu_seat_t *seat) {
 
 /* ---- opening, with an identity of its own making */
 
-/* Opens an engine as rcu_open_as, under an identity that no other engine of the process has. */
-static inline uint32_t rcu_open(uint32_t cpus, uint64_t last, rcu_t *rcu) {
+/* An identity that no other engine of the process has. */
+static inline rcu_identity_t rcu_new_identity(void) {
 #ifdef __cplusplus
     static std::atomic<std::uint64_t> opened(0);
     rcu_identity_t identity = {reinterpret_cast<std::uintptr_t>(&opened), opened.fetch_add(1)};
@@ -866,7 +959,19 @@ static inline uint32_t rcu_open(uint32_t cpus, uint64_t last, rcu_t *rcu) {
     static _Atomic uint64_t opened;
     rcu_identity_t identity = {(uintptr_t)&opened, atomic_fetch_add(&opened, 1)};
 #endif
-    return rcu_open_as(cpus, last, identity, rcu);
+    return identity;
+}
+
+/* Opens an engine as rcu_open_as, under an identity that no other engine of the process has. */
+static inline uint32_t rcu_open(uint32_t cpus, uint64_t last, rcu_t *rcu) {
+    return rcu_open_as(cpus, last, rcu_new_identity(), rcu);
+}
+
+/* Opens an engine with a map as rcu_open_map_as, under an identity that no other engine of the
+ * process has. */
+static inline uint32_t rcu_open_map(uint32_t cpus, uint64_t last, const rcu_map_sizes_t *sizes,
+                                    rcu_t *rcu) {
+    return rcu_open_map_as(cpus, last, rcu_new_identity(), sizes, rcu);
 }
 
 #ifdef __cplusplus

@@ -22,9 +22,9 @@ OF_HANDLES = {27, 28}
 NUMBER_OF_HANDLE = {"engine_number": "engine_refusal", "seat_number": "seat_refusal",
                     "replica_number": "replica_refusal"}
 # Those that have no handle but the one that they open.
-WITHOUT_HANDLE = {"rcu_open_as", "rcu_replica_open"}
+WITHOUT_HANDLE = {"rcu_open_as", "rcu_open_map_as", "rcu_replica_open"}
 # What a contract has, and never comes: the fanouts are 16 and 64; docs/C.md speaks of 3.
-NEVER = {"rcu_open_as": {18}, "rcu_replica_open": {18}, "rcu_depart": {3}}
+NEVER = {"rcu_open_as": {18}, "rcu_open_map_as": {18}, "rcu_replica_open": {18}, "rcu_depart": {3}}
 
 
 class Specs:

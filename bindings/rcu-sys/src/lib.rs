@@ -55,6 +55,29 @@ pub struct rcu_replica_t {
     pub at: *mut u8,
 }
 
+/// An entry of a map. Key 0 stands for no entry.
+#[repr(C)]
+#[derive(Clone, Copy, Debug, Default, PartialEq, Eq)]
+pub struct rcu_entry_t {
+    /// 1 or more.
+    pub key: u64,
+    /// The caller's: a number, or the place of more.
+    pub value: u64,
+}
+
+/// The sizes of the map of an engine.
+#[repr(C)]
+#[derive(Clone, Copy, Debug, Default, PartialEq, Eq)]
+pub struct rcu_map_sizes_t {
+    /// How many chains the entries are in, 1 or more.
+    pub buckets: u64,
+    /// How many entries there is room for at a time, plus `buckets`: each bucket takes one. An
+    /// entry that was replaced or removed keeps its own until a grace period is over.
+    pub nodes: u64,
+    /// What decides which bucket a key is in: draw it at random where others choose the keys.
+    pub seed: u64,
+}
+
 // Why a call is refused.
 /// There is no processor of this number.
 pub const RCU_BAD_CPU: u32 = 1;
@@ -104,6 +127,12 @@ pub const RCU_OTHER_ENGINE: u32 = 26;
 pub const RCU_CLOSED: u32 = 27;
 /// The handle is of another kind.
 pub const RCU_OTHER_KIND: u32 = 28;
+/// A map can't have so many buckets and nodes.
+pub const RCU_BAD_SIZES: u32 = 29;
+/// An entry has the key 0.
+pub const RCU_BAD_KEY: u32 = 30;
+/// No node of the map is free.
+pub const RCU_MAP_FULL: u32 = 31;
 
 // What a collection found.
 /// No grace period runs.
@@ -147,18 +176,36 @@ pub const RCU_ANSWER_STALE: u32 = 3;
 
 // <<<
 
+/// An identity that no other engine of the process has.
+pub fn rcu_new_identity() -> rcu_identity_t {
+    static OPENED: AtomicU64 = AtomicU64::new(0);
+    let place = &OPENED as *const AtomicU64;
+    rcu_identity_t {
+        place: place as u64,
+        count: OPENED.fetch_add(1, SeqCst),
+    }
+}
+
 /// Opens an engine as [`rcu_open_as`], under an identity that no other engine of the process has.
 ///
 /// # Safety
 /// As the header says.
 pub unsafe fn rcu_open(cpus: u32, last: u64, rcu: *mut rcu_t) -> u32 {
-    static OPENED: AtomicU64 = AtomicU64::new(0);
-    let place = &OPENED as *const AtomicU64;
-    let identity = rcu_identity_t {
-        place: place as u64,
-        count: OPENED.fetch_add(1, SeqCst),
-    };
-    rcu_open_as(cpus, last, identity, rcu)
+    rcu_open_as(cpus, last, rcu_new_identity(), rcu)
+}
+
+/// Opens an engine with a map as [`rcu_open_map_as`], under an identity that no other engine of the
+/// process has.
+///
+/// # Safety
+/// As the header says.
+pub unsafe fn rcu_open_map(
+    cpus: u32,
+    last: u64,
+    sizes: *const rcu_map_sizes_t,
+    rcu: *mut rcu_t,
+) -> u32 {
+    rcu_open_map_as(cpus, last, rcu_new_identity(), sizes, rcu)
 }
 
 // The archive makes no fence: the functions behind its calls do, as those of the header.
@@ -176,6 +223,19 @@ extern "C" {
     ///
     /// Faults: 17 for no processor or more than 4,096; 19 where `last` is no such number; 16.
     pub fn rcu_open_as(cpus: u32, last: u64, identity: rcu_identity_t, rcu: *mut rcu_t) -> u32;
+    /// Opens an engine as `rcu_open_as`, with a map of so many buckets and nodes, which is empty.
+    /// Each of its seats reads it. Needs: `rcu` is closed.
+    ///
+    /// Faults: 29 where there is no bucket, fewer nodes than buckets, or more than 2^32 words in
+    /// all, three a node; 17 for no processor or more than 4,096; 19 where `last` is no such
+    /// number; 16.
+    pub fn rcu_open_map_as(
+        cpus: u32,
+        last: u64,
+        identity: rcu_identity_t,
+        sizes: *const rcu_map_sizes_t,
+        rcu: *mut rcu_t,
+    ) -> u32;
     /// Closes an engine, and frees all that it has; values that are still queued are not handed
     /// out. Seats that are open go on, and are closed in turn. Of a handle that is no open engine's
     /// it does nothing. Needs: `rcu` is under the caller's lock.
@@ -658,6 +718,65 @@ extern "C" {
     /// no grace period runs. Writes 1 where the caller has to wake who drives, under the lock. Else
     /// 0. It costs a load.
     pub fn rcu_seat_wakes(seat: *mut rcu_seat_t, wakes: *mut u32) -> u32;
+    /// Looks a key up in the open section, and writes its entry, or one of key 0 where it finds
+    /// none. A key that is in the map from the section's beginning on is found, also where its
+    /// entry is replaced meanwhile; what is found was there at some moment of the section. It costs
+    /// two loads for each entry of the key's bucket up to there, and one more.
+    ///
+    /// Where it finds an entry, what the thread did before that put it in comes before what follows
+    /// this call.
+    ///
+    /// Fault 5: no section is open.
+    pub fn rcu_map_get(seat: *mut rcu_seat_t, key: u64, entry: *mut rcu_entry_t) -> u32;
+    /// Goes on from a key to the entry behind it, in the open section, and writes that entry, or
+    /// one of key 0 where there is none any more. Behind the key 0 stands the first one. The
+    /// entries are in the order of their buckets, and in each of their keys; the key need not be in
+    /// the map. So calls from the key 0 on, each with the key that the one before wrote, write each
+    /// key that is in the map as long as the section lasts. It costs two loads for each entry of
+    /// the key's bucket up to there, and one for each bucket with no further entry.
+    ///
+    /// It orders what `rcu_map_get` orders.
+    ///
+    /// Fault 5: no section is open.
+    pub fn rcu_map_next(seat: *mut rcu_seat_t, key: u64, entry: *mut rcu_entry_t) -> u32;
+    /// Puts an entry in, by one store, where none has its key. Writes the entry that has it: then
+    /// nothing else happened. It costs a step for each entry of the key's bucket up to there.
+    ///
+    /// What the thread did before comes before what follows a section's `rcu_map_get` that finds
+    /// the entry.
+    ///
+    /// Faults: 30 where the key is 0; 31 where no entry has the key, and no node is free.
+    pub fn rcu_map_insert(rcu: *mut rcu_t, key: u64, value: u64, old: *mut rcu_entry_t) -> u32;
+    /// Puts an entry in the place of the one that has its key, by one store, and writes that: a
+    /// section finds the old one or the new one. Where none has the key, nothing happens. Costs and
+    /// orders as `rcu_map_insert`.
+    ///
+    /// The old value may be freed when a full grace period has passed, as by `rcu_queue` or
+    /// `rcu_defer_link`.
+    ///
+    /// Faults: 30 where the key is 0; 31 where an entry has the key, and no node is free.
+    pub fn rcu_map_replace(rcu: *mut rcu_t, key: u64, value: u64, old: *mut rcu_entry_t) -> u32;
+    /// Puts an entry in, by one store, in the place of the one that has its key, as
+    /// `rcu_map_replace`, or where none has it, as `rcu_map_insert`. Writes the one that had it.
+    ///
+    /// Faults: 30 where the key is 0; 31 where no node is free.
+    pub fn rcu_map_put(rcu: *mut rcu_t, key: u64, value: u64, old: *mut rcu_entry_t) -> u32;
+    /// Takes the entry of a key out, by one store, and writes it. Its node is free again once a
+    /// call of `rcu_map_age` has found it removed, and a later one a full grace period gone by
+    /// since. The value may be freed when a full grace period has passed.
+    pub fn rcu_map_remove(rcu: *mut rcu_t, key: u64, old: *mut rcu_entry_t) -> u32;
+    /// Writes the entry of a key as it is now: under the lock no change is missed, as it may be by
+    /// a section.
+    pub fn rcu_map_find(rcu: *mut rcu_t, key: u64, entry: *mut rcu_entry_t) -> u32;
+    /// How many entries the map has. 0 where `rcu` is no open engine's.
+    pub fn rcu_map_len(rcu: *mut rcu_t) -> u64;
+    /// Looks at the number: the nodes of entries that were replaced or removed wait from now on for
+    /// the grace period of the cookie that this writes, and those whose grace period has passed are
+    /// free. No entry changes. It costs a load, and a step for each node that waits from now on or
+    /// is free.
+    ///
+    /// Where a node is wanted (31): call it, drive until the cookie is done, and call it again.
+    pub fn rcu_map_age(rcu: *mut rcu_t, cookie: *mut u64) -> u32;
 }
 
 /// Ends the grace period. Writes the new number.

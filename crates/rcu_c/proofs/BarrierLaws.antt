@@ -1,11 +1,11 @@
 -- A step of waiting for a barrier is a run.
-use Rattle.std.proofs.Common.{◌≡◌, ℕ, zero, suc, ◌<◌, ◌≤◌, ◌++◌, Bool, true, false, List, [], ◌∷◌}
-use Rattle.std.proofs.Common.{refl, sym, ap, ◌∙◌, subst, arith, if◌then◌else◌}
+use Rattle.std.proofs.Common.{◌≡◌, ℕ, zero, suc, ◌≤◌, ◌++◌, Bool, true, false, [], ◌∷◌}
+use Rattle.std.proofs.Common.{refl, ap, ◌∙◌, arith, if◌then◌else◌}
 use Rattle.rcu_barrier.specs.Lists.{AllLists}
 use Rattle.rcu_live.specs.Drive.{after_collections, after_drive, moved_on, wants_begin}
 use Rattle.rcu_live.specs.Engine.{Locked, after_begin, after_end}
-use Rattle.rcu_live.specs.Runs.{BarrierBegin, BarrierTest, Call, Drive, IsRun, Tend, Visit}
-use Rattle.rcu_live.specs.Runs.{after_call, engine_after}
+use Rattle.rcu_live.specs.Runs.{BarrierBegin, IsRun}
+use Rattle.rcu_live.specs.Runs.{engine_after}
 use Rattle.rcu_c.specs.BarrierSteps.{before_drive, begun, tends, visits, whole_step}
 use Rattle.rcu_c.proofs.BarrierRuns.{appended, as_many, as_many_tended, same_barrier, still_runs}
 

@@ -1,6 +1,6 @@
 -- Runs of a step of waiting for a barrier.
 use Rattle.std.proofs.Common.{◌≡◌, ◌≢◌, ℕ, zero, suc, ◌+◌, ◌<◌, ◌++◌, Bool, true, false, List, []}
-use Rattle.std.proofs.Common.{◌∷◌, refl, sym, ap, ◌∙◌, subst, if◌then◌else◌, Option, Some, None}
+use Rattle.std.proofs.Common.{◌∷◌, refl, sym, ap, ◌∙◌, subst, Option, Some}
 use Rattle.std.proofs.Common.{Result, Ok, Err, OnOk, arith}
 use Rattle.std.specs.Result.{result_err}
 use Rattle.std.proofs.lemmas.Bool.Decides.{nat_tests}
@@ -11,6 +11,7 @@ use Rattle.rcu_barrier.specs.declared.lists.Visit.TheVariants.{Marked}
 use Rattle.rcu_live.specs.Drive.{after_drive, wants_begin}
 use Rattle.rcu_live.specs.Engine.{Locked, cpu_refusal}
 use Rattle.rcu_live.specs.Runs.{BarrierTest, Call, Makes, Tend, Visit, after_call, engine_after}
+use Rattle.rcu_graph.specs.declared.known.Planned.{Planned}
 use Rattle.rcu_c.specs.Answers.{number_for}
 use Rattle.rcu_c.specs.BarrierSteps.{IsCutOff, before_drive, begun, tends, visits, whole_step}
 use Rattle.rcu_c.specs.Engines.{EngineAndSeats}
@@ -120,8 +121,8 @@ accepted (Ok u) n is none p = p
 accepted (Err fault) n is none p = absurd (not_zero fault (sym is ∙ none))
 
 -- a handle whose running engine took a step
-pub on_inner : (held : Option Contents) (o inside : EngineAndSeats) (now : Locked (Unit {0}) ℕ)
-    (step : Locked (Unit {0}) ℕ → Locked (Unit {0}) ℕ)
+pub on_inner : (held : Option Contents) (o inside : EngineAndSeats) (now : Locked Planned ℕ)
+    (step : Locked Planned ℕ → Locked Planned ℕ)
     → held ≡ Some (contents.Engine o)
     → inside ≡ o
     → now ≡ step inside.engine

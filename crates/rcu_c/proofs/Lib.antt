@@ -5,6 +5,8 @@ pub mod Dealt
 pub mod FromWords
 pub mod HandedOut
 pub mod Listed
+pub mod MapLaws
 pub mod Opened
+pub mod Openings
 pub mod Popped
 pub mod WrittenBack

@@ -14,21 +14,22 @@ use Rattle.rcu_barrier.proofs.Popping.{list_left, runs_both}
 use Rattle.rcu_state.specs.GpState.{after_run}
 use Rattle.rcu_live.specs.Engine.{HasWaited, Locked}
 use Rattle.rcu_live.specs.EngineLists.{on_grace}
+use Rattle.rcu_graph.specs.declared.known.Planned.{Planned}
 
 -- the processor's list
-abbrev pub listed : Locked (Unit {0}) ℕ → ℕ → List (Item ℕ)
+abbrev pub listed : Locked Planned ℕ → ℕ → List (Item ℕ)
 listed e cpu = list_of e.grace.lists cpu
 
 -- the engine once it handed out at most so many
-abbrev pub ran : Locked (Unit {0}) ℕ → ℕ → ℕ → Locked (Unit {0}) ℕ
+abbrev pub ran : Locked Planned ℕ → ℕ → ℕ → Locked Planned ℕ
 ran e cpu n = on_grace (λ g. after_run g cpu n) e
 
 -- the engine with another list of the processor
-abbrev relisted : Locked (Unit {0}) ℕ → ℕ → List (Item ℕ) → Locked (Unit {0}) ℕ
+abbrev relisted : Locked Planned ℕ → ℕ → List (Item ℕ) → Locked Planned ℕ
 relisted e cpu xs = on_grace (λ g. record g { lists = with_list g.lists cpu xs }) e
 
 -- nothing was handed out yet
-pub ran_none : (e : Locked (Unit {0}) ℕ) (cpu : ℕ) → begins_with_marker (listed e cpu) ≡ false
+pub ran_none : (e : Locked Planned ℕ) (cpu : ℕ) → begins_with_marker (listed e cpu) ≡ false
     → e ≡ ran e cpu 0
 ran_none e cpu first =
     sym (ap (relisted e cpu) (untaken_first (listed e cpu) first)
@@ -36,7 +37,7 @@ ran_none e cpu first =
     (set-get_or e.grace.lists.lists cpu []))
 
 -- as many as are done, or as there is room for, are all
-pub ran_least : (e : Locked (Unit {0}) ℕ) (cpu n most : ℕ)
+pub ran_least : (e : Locked Planned ℕ) (cpu n most : ℕ)
     → most ≡ min (length (callbacks (front (listed e cpu)))) n → ran e cpu most ≡ ran e cpu n
 ran_least e cpu n most least =
     let few = length_taken most (listed e cpu) in
@@ -56,13 +57,13 @@ some_first : (ys : List (Queued ℕ)) → 0 < length ys → None ≡ slice_get (
 some_first [] some is = absurd (omega arith)
 some_first (y ∷ ys) some is = absurd cc
 
-module _ (e now : Locked (Unit {0}) ℕ) (cpu i : ℕ) (so_far : now ≡ ran e cpu i) where
+module _ (e now : Locked Planned ℕ) (cpu i : ℕ) (so_far : now ≡ ran e cpu i) where
   -- what is left of the list
   left : listed now cpu ≡ after_take (listed e cpu) i
   left = ap (λ l. listed l cpu) so_far ∙ list_left e.grace.lists cpu i
 
   -- one more
-  pub ran_more : (next : Locked (Unit {0}) ℕ) → next ≡ ran now cpu 1 → next ≡ ran e cpu (i + 1)
+  pub ran_more : (next : Locked Planned ℕ) → next ≡ ran now cpu 1 → next ≡ ran e cpu (i + 1)
   ran_more next one =
       one
       ∙ (ap (λ l. ran l cpu 1) so_far

@@ -11,10 +11,12 @@ use Rattle.rcu_state.specs.declared.gp_state.Turned.{Turned}
 use Rattle.rcu_state.specs.declared.gp_state.Turned.TheVariants as turned
 use Rattle.rcu_live.specs.declared.grace_periods.Collected.{Collected}
 use Rattle.rcu_live.specs.declared.grace_periods.Collected.TheVariants as collected
+use Rattle.rcu_graph.specs.declared.not_opened.NotOpened.{NotOpened}
+use Rattle.rcu_graph.specs.declared.not_opened.NotOpened.TheVariants as not_opened
 use Rattle.rcu_c.specs.declared.grace_periods.Turn.{Turn}
 use Rattle.rcu_c.specs.declared.refusal.Refusal.{Refusal}
 use Rattle.rcu_c.specs.declared.refusal.Refusal.TheVariants.{Engine, SeatDealt, OtherEngine, Closed}
-use Rattle.rcu_c.specs.declared.refusal.Refusal.TheVariants.{OtherKind}
+use Rattle.rcu_c.specs.declared.refusal.Refusal.TheVariants.{OtherKind, BadSizes, BadKey, MapFull}
 
 -- the number of a refusal, 0 where there is none
 abbrev pub number_for : Option Fault → ℕ
@@ -32,6 +34,14 @@ refusal_number SeatDealt = 25
 refusal_number OtherEngine = 26
 refusal_number Closed = 27
 refusal_number OtherKind = 28
+refusal_number BadSizes = 29
+refusal_number BadKey = 30
+refusal_number MapFull = 31
+
+-- why a map is not opened
+abbrev pub refusal_of : NotOpened → Refusal
+refusal_of not_opened.BadSizes = BadSizes
+refusal_of (not_opened.Fault fault) = Engine fault
 
 -- the number of such a refusal, 0 where there is none
 abbrev pub number_in_c : Option Refusal → ℕ

@@ -1,6 +1,5 @@
 -- A step of waiting for a barrier: the calls of a run that it makes, the newest first.
 use Rattle.std.specs.Prelude.{◌≡◌, ℕ, zero, suc, ◌<◌, ◌++◌, if◌then◌else◌, List, [], ◌∷◌, Option}
-use Rattle.std.specs.Prelude.{None}
 use Rattle.rcu_seq.specs.declared.fault.Fault.{Fault}
 use Rattle.rcu_barrier.specs.Lists.{barrier_test_answer, visit_answer}
 use Rattle.rcu_barrier.specs.declared.lists.BarrierState.{BarrierState}

@@ -1,42 +1,54 @@
 -- Seats of their engine, and moments of the words that an engine and its seats share.
-use Rattle.std.specs.Prelude.{◌≡◌, ℕ, true, Some}
+use Rattle.std.specs.Prelude.{◌≡◌, ℕ, true, List, Some}
 use Rattle.std.specs.Prelude as std
 use mathlib.Core.Option.{some}
 use lib.ListN.{get_elem?}
 use Rattle.atomic_table.specs.Table.{State}
 use Rattle.rcu_seq.specs.Numbers.{Number}
 use Rattle.rcu_seq.specs.Seq.{number_of}
+use Rattle.rcu_live.specs.Client.{Slots, Views}
 use Rattle.rcu_live.specs.Engine.{Locked}
 use Rattle.rcu_live.specs.Rule.{IsKept}
 use Rattle.rcu_live.specs.View.{IsOfEngine}
 use Rattle.rcu_live.specs.declared.view.Role.TheVariants.{Cpu}
 use Rattle.rcu_live.specs.declared.view.View.{View}
+use Rattle.rcu_graph.specs.Planned.{IsKeptBy}
+use Rattle.rcu_graph.specs.declared.known.Planned.{Planned}
+use Rattle.rcu_graph.specs.declared.plan.Plan.{Plan}
+use Rattle.rcu_map.specs.Keys.{GoesUp, IsWhole, root_words}
 use Rattle.rcu_c.specs.Engines.{is_own}
-use Rattle.rcu_c.specs.Holding.{ReadsWordsOf, cpu_of, engine_of, grace_of, opened_of, seat_of}
-use Rattle.rcu_c.specs.Holding.{wisher_of, wishes_of}
+use Rattle.rcu_c.specs.Holding.{ReadsMapOf, ReadsWordsOf, cpu_of, engine_of, grace_of, opened_of}
+use Rattle.rcu_c.specs.Holding.{seat_of, wisher_of, wishes_of}
+use Rattle.rcu_c.specs.MapEntries.{HasKey}
 use Rattle.rcu_c.specs.declared.contents.Contents.{Contents}
 
--- the seat is one of the engine's: it reads the words that the engine writes, its wishes are those
--- that the engine reads, and the engine takes it
+-- the seat is one of the engine's: it reads the words that the engine writes, and the map that the
+-- engine's keeper keeps, its wishes are those that the engine reads, and the engine takes it
 pub record BelongsTo (seat rcu : std.Option Contents) : Type 0 where
   pub words : ReadsWordsOf seat rcu
+  pub map : ReadsMapOf seat rcu
   pub wishes : (wisher_of seat).words ≡ (wishes_of rcu).words
   pub taken : is_own (opened_of rcu) (seat_of seat) ≡ true
 
 -- the one engine is the other: it writes the same words, and has as many processors
-pub record IsSameObject (e f : Locked (Unit {0}) ℕ) : Type 0 where
+pub record IsSameObject (e f : Locked Planned ℕ) : Type 0 where
   pub table : f.table ≡ e.table
   pub cpus : f.cpus ≡ e.cpus
 
--- the shared words at one moment, and what each seat has seen of them. An engine of C's has no
--- client
-abbrev pub Moment : Type 0
-Moment = State (Unit {0}) (View (Unit {0}))
+-- what holds of the words of a map of this plan, and of what all seats know of it: the rule of the
+-- client of an engine of C's
+abbrev pub IsMapKept : Plan → List ℕ → Slots (Unit {0}) → Views Planned → Type 0
+IsMapKept = IsKeptBy (λ plan. IsWhole HasKey plan.words)
+    (λ plan _ from to. GoesUp plan.roots plan.seed from to) (λ plan. root_words plan.words)
 
--- at this moment the rule of the words holds, and among those who see them is the engine of the
--- handle
+-- the shared words at one moment, and what each seat has seen of them
+abbrev pub Moment : Type 0
+Moment = State (Unit {0}) (View Planned)
+
+-- at this moment the rule of the words holds, with that of the engine's map, and among those who
+-- see them is the engine of the handle
 pub record IsEngineAt (now : Moment) (id : ℕ) (rcu : std.Option Contents) : Type 0 where
-  pub kept : IsKept (λ _ _ _. Unit {0}) (engine_of rcu).cpus now
+  pub kept : IsKept (IsMapKept (engine_of rcu).view.client.plan) (engine_of rcu).cpus now
   pub here : get_elem? now.views id ≡ some (engine_of rcu).view
   pub role : IsOfEngine (engine_of rcu).view
   pub number : (engine_of rcu).view.seen ≡ number_of (grace_of rcu).seq

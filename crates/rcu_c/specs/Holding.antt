@@ -10,8 +10,11 @@ use Rattle.rcu_live.specs.Engine.{Locked}
 use Rattle.rcu_live.specs.Watcher.{Watching, after_watch}
 use Rattle.rcu_defer.specs.DeferList.{Deferring}
 use Rattle.rcu_wish.specs.Wishes.{Wishing}
+use Rattle.rcu_graph.specs.Planned.{plan_of}
+use Rattle.rcu_graph.specs.declared.known.Planned.{Planned}
+use Rattle.rcu_graph.specs.declared.plan.Plan.{Plan}
 use Rattle.rcu_c.specs.Engines.{EngineAndSeats, opened_at_first}
-use Rattle.rcu_c.specs.Seats.{Seat, seat_at_first}
+use Rattle.rcu_c.specs.Seats.{Seat, closing, seat_at_first}
 use Rattle.rcu_c.specs.declared.contents.Contents.{Contents}
 use Rattle.rcu_c.specs.declared.identity.Identity.{Identity}
 use Rattle.rcu_c.specs.declared.links.Links.{Links}
@@ -49,9 +52,13 @@ no_table = record {
 abbrev pub no_identity : Identity
 no_identity = record { place = 0; count = 0 }
 
+-- no map: it stands for that of a handle that holds none
+abbrev pub no_plan : Plan
+no_plan = plan_of 0 0 0 0 0
+
 -- no engine: it has no processor, and its number is 0
 abbrev pub no_engine : EngineAndSeats
-no_engine = opened_at_first no_identity no_table no_table 0 0
+no_engine = opened_at_first no_identity no_table no_table no_plan 0 0
 
 -- the engine of an engine's handle, and no engine of another
 abbrev pub opened_of : Option Contents → EngineAndSeats
@@ -62,15 +69,19 @@ opened_of (Some (contents.Replica _)) = no_engine
 opened_of (Some contents.Room) = no_engine
 
 -- the running engine of an engine's handle
-abbrev pub engine_of : Option Contents → Locked (Unit {0}) ℕ
+abbrev pub engine_of : Option Contents → Locked Planned ℕ
 engine_of h = (opened_of h).engine
 
 -- the state of its grace periods and callbacks
 abbrev pub grace_of : Option Contents → Grace ℕ
 grace_of h = (engine_of h).grace
 
+-- the keeper of its map
+abbrev pub keeper_of : Option Contents → Watching Planned
+keeper_of h = (opened_of h).map
+
 -- the processors that an engine awaits, in order, the first so many
-abbrev pub awaited_list : Locked (Unit {0}) ℕ → ℕ → List ℕ
+abbrev pub awaited_list : Locked Planned ℕ → ℕ → List ℕ
 awaited_list e room = take room (which e.cpus (is_in e.grace.processors.awaited))
 
 -- no processor: more than any engine has
@@ -79,7 +90,7 @@ no_cpu = 2 ^ 32 - 1
 
 -- no seat: it is of no processor, is offline, and has no section open
 abbrev pub no_seat : Seat
-no_seat = seat_at_first no_identity no_table no_table 0 no_cpu
+no_seat = seat_at_first no_identity no_table no_table no_plan 0 no_cpu
 
 -- the seat of a seat's handle, and no seat of another
 abbrev pub seat_of : Option Contents → Seat
@@ -94,11 +105,11 @@ abbrev pub never_done : ℕ
 never_done = 2 ^ 64 - 1
 
 -- its processor's seat
-abbrev pub cpu_of : Option Contents → Seated (Unit {0})
+abbrev pub cpu_of : Option Contents → Seated Planned
 cpu_of h = (seat_of h).cpu
 
 -- its watcher
-abbrev pub watcher_of : Option Contents → Watching (Unit {0})
+abbrev pub watcher_of : Option Contents → Watching Planned
 watcher_of h = (seat_of h).watcher
 
 -- the values that its thread deferred
@@ -122,7 +133,7 @@ abbrev pub on_opened : (EngineAndSeats → EngineAndSeats) → Option Contents �
 on_opened change h = Some (contents.Engine (change (opened_of h)))
 
 -- an engine's handle with its running engine changed
-abbrev pub on_engine : (Locked (Unit {0}) ℕ → Locked (Unit {0}) ℕ) → Option Contents
+abbrev pub on_engine : (Locked Planned ℕ → Locked Planned ℕ) → Option Contents
     → Option Contents
 on_engine change = on_opened (λ o. record o { engine = change o.engine })
 
@@ -131,12 +142,12 @@ abbrev pub on_grace : (Grace ℕ → Grace ℕ) → Option Contents → Option C
 on_grace change = on_engine (λ e. record e { grace = change e.grace })
 
 -- a seat's handle with its processor's seat changed
-abbrev pub on_cpu : (Seated (Unit {0}) → Seated (Unit {0})) → Option Contents → Option Contents
+abbrev pub on_cpu : (Seated Planned → Seated Planned) → Option Contents → Option Contents
 on_cpu change h = Some (contents.Seat (record (seat_of h) { cpu = change (cpu_of h) }))
 
 -- a call of a seat was accepted at the number n, which is at least all that its processor's seat
 -- saw before: this is what it leaves
-pub record AcceptedAt (after : Seated (Unit {0}) → Number → Seated (Unit {0})) (h : Option Contents)
+pub record AcceptedAt (after : Seated Planned → Number → Seated Planned) (h : Option Contents)
     (n : Number) (now : Option Contents) : Type 0 where
   pub state : now ≡ on_cpu (λ s. after s n) h
   pub later : (cpu_of h).view.seen ≤ n
@@ -145,7 +156,7 @@ pub record AcceptedAt (after : Seated (Unit {0}) → Number → Seated (Unit {0}
 -- that its processor's seat saw before, and the next section began at a number that is no less;
 -- this is what it leaves
 pub record RenewedAt (h : Option Contents) (n : Number) (now : Option Contents) : Type 0 where
-  pub state : now ≡ on_cpu (λ s. after_renew (λ c. c) s n (cpu_of now).view.seen) h
+  pub state : now ≡ on_cpu (λ s. after_renew closing s n (cpu_of now).view.seen) h
   pub later : (cpu_of h).view.seen ≤ n
   pub onward : n ≤ (cpu_of now).view.seen
 
@@ -158,7 +169,7 @@ abbrev pub on_links : (Links → Links) → Option Contents → Option Contents
 on_links change h = Some (contents.Seat (record (seat_of h) { links = change (links_of h) }))
 
 -- a seat's handle with its watcher changed
-abbrev pub on_watcher : (Watching (Unit {0}) → Watching (Unit {0})) → Option Contents
+abbrev pub on_watcher : (Watching Planned → Watching Planned) → Option Contents
     → Option Contents
 on_watcher change h = Some (contents.Seat (record (seat_of h) { watcher = change (watcher_of h) }))
 
@@ -168,9 +179,14 @@ pub record WatchedAt (h : Option Contents) (n : Number) (now : Option Contents) 
   pub later : (watcher_of h).view.seen ≤ n
 
 -- the seat reads the words that this engine writes
-abbrev pub ReadsWordsOf : Option Contents → Option Contents → Type 0
-ReadsWordsOf seat rcu =
-    (seat_of seat).words ≡ record { table = (engine_of rcu).table; cpus = (engine_of rcu).cpus }
+pub record ReadsWordsOf (seat rcu : Option Contents) : Type 0 where
+  pub table : (seat_of seat).words.table ≡ (engine_of rcu).table
+  pub cpus : (seat_of seat).words.cpus ≡ (engine_of rcu).cpus
+
+-- the seat reads the map that this engine's keeper keeps
+pub record ReadsMapOf (seat rcu : Option Contents) : Type 0 where
+  pub table : (seat_of seat).words.table ≡ (keeper_of rcu).table
+  pub plan : (seat_of seat).words.plan ≡ (keeper_of rcu).view.client.plan
 
 -- a seat's handle with what it knows of wishes changed
 abbrev pub on_wisher : (Wishing → Wishing) → Option Contents → Option Contents

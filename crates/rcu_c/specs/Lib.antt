@@ -6,6 +6,9 @@ pub mod Handle
 pub mod Holding
 pub mod Lending
 pub mod Links
+pub mod MapEntries
+pub mod Maps
+pub mod MapSizes
 pub mod Refusals
 pub mod Replicas
 pub mod Seats

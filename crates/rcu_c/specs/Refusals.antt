@@ -1,10 +1,13 @@
 -- Why a call that names a seat, or the seat of a processor, is refused.
 use Rattle.std.specs.Prelude.{◌≡◌, ◌<◌, true, ℕ, Option, Some, None, if◌then◌else◌, is_none, nat_le}
+use Rattle.std.specs.Prelude.{Err, Ok, Result}
+use Rattle.rcu_seq.specs.Memory.{tested_fault}
 use Rattle.rcu_seq.specs.declared.fault.Fault.{Fault}
 use Rattle.rcu_seq.specs.declared.fault.Fault.TheVariants.{BadCpu}
 use Rattle.rcu_node.specs.CpuSet.{is_in}
 use Rattle.rcu_live.specs.CpuSeat.{arrive_refusal, depart_refusal}
 use Rattle.rcu_live.specs.Engine.{Locked}
+use Rattle.rcu_graph.specs.declared.known.Planned.{Planned}
 use Rattle.rcu_c.specs.Engines.{EngineAndSeats, is_own, seat_at}
 use Rattle.rcu_c.specs.Holding.{cpu_of, opened_of, seat_of}
 use Rattle.rcu_c.specs.declared.contents.Contents.{Contents}
@@ -16,7 +19,7 @@ use Rattle.rcu_c.specs.Answers.{number_or}
 
 -- where a processor's callback is queued: there is such a processor, it is online in the engine,
 -- and there is room
-pub record CanQueue (e : Locked (Unit {0}) ℕ) (cpu : ℕ) : Type 0 where
+pub record CanQueue (e : Locked Planned ℕ) (cpu : ℕ) : Type 0 where
   pub inside : cpu < e.cpus
   pub online : is_in e.grace.processors.online cpu ≡ true
   pub room : e.grace.lists.queued < e.grace.lists.most
@@ -56,6 +59,13 @@ first_of (Some first) later = Some first
 abbrev pub by_engine : Option Fault → Option Refusal
 by_engine None = None
 by_engine (Some fault) = Some (Engine fault)
+
+-- the refusal that a call's tests found, before it asked for memory: none where it is accepted, or
+-- where memory is refused
+abbrev pub tested_refusal : {A : Type 0} → Result A Refusal → Option Refusal
+tested_refusal (Ok value) = None
+tested_refusal (Err (Engine fault)) = by_engine (tested_fault {A = Unit {0}} (Err fault))
+tested_refusal (Err refusal) = Some refusal
 
 -- why an engine does not take a seat: the engine's handle is not taken for one; the seat's is not;
 -- the seat is of another engine; and else this

@@ -5,15 +5,26 @@ use Rattle.rcu_live.specs.CpuSeat.{Seated, at_first}
 use Rattle.rcu_live.specs.Watcher.{Watching, watcher_at_first}
 use Rattle.rcu_live.specs.Words.{base_of}
 use Rattle.rcu_defer.specs.DeferList.{Deferring, list_at_first}
+use Rattle.rcu_graph.specs.Nodes.{closed}
+use Rattle.rcu_graph.specs.Planned.{knowing, of_plan}
+use Rattle.rcu_graph.specs.declared.known.Known.TheVariants.{Idle}
+use Rattle.rcu_graph.specs.declared.known.Planned.{Planned}
+use Rattle.rcu_graph.specs.declared.plan.Plan.{Plan}
 use Rattle.rcu_wish.specs.Wishes.{Wishing, wisher_at_first}
 use Rattle.rcu_c.specs.Links.{no_links}
 use Rattle.rcu_c.specs.declared.identity.Identity.{Identity}
 use Rattle.rcu_c.specs.declared.links.Links.{Links}
 
--- the words that a seat reads, and how many processors have one among them
+-- what is left of what a seat knows of the map when its section closes
+abbrev pub closing : Planned → Planned
+closing c = knowing c (closed c.known)
+
+-- the words that a seat reads, how many processors have one among them, and how large the map
+-- behind those is
 pub record Words : Type 0 where
   pub table : TableId
   pub cpus : ℕ
+  pub plan : Plan
 
 -- which words the seats of an engine read, which ones they have for wishes, and what tells the
 -- engine from others
@@ -26,19 +37,20 @@ pub record Shared : Type 0 where
 -- deferred, what it knows of wishes, and what tells its engine from others
 pub record Seat : Type 0 where
   pub words : Words
-  pub cpu : Seated (Unit {0})
-  pub watcher : Watching (Unit {0})
+  pub cpu : Seated Planned
+  pub watcher : Watching Planned
   pub values : Deferring ℕ
   pub links : Links
   pub wisher : Wishing
   pub identity : Identity
 
--- the seat of a processor as it is opened, of an engine with these words, and these for wishes
-abbrev pub seat_at_first : Identity → TableId → TableId → ℕ → ℕ → Seat
-seat_at_first identity table wishes cpus cpu = record {
-  words = record { table = table; cpus = cpus };
-  cpu = at_first table (base_of cpus) tt cpu;
-  watcher = watcher_at_first table (base_of cpus) tt;
+-- the seat of a processor as it is opened, of an engine with these words, these for wishes, and a
+-- map of this plan
+abbrev pub seat_at_first : Identity → TableId → TableId → Plan → ℕ → ℕ → Seat
+seat_at_first identity table wishes plan cpus cpu = record {
+  words = record { table = table; cpus = cpus; plan = plan };
+  cpu = at_first table (base_of cpus) (of_plan plan Idle) cpu;
+  watcher = watcher_at_first table (base_of cpus) (of_plan plan Idle);
   values = list_at_first;
   links = no_links;
   wisher = wisher_at_first wishes;

@@ -5,6 +5,7 @@ use Rattle.rcu_state.specs.GpState.{awaited_in}
 use Rattle.rcu_live.specs.Drive.{moved_on}
 use Rattle.rcu_live.specs.Engine.{Locked}
 use Rattle.rcu_live.specs.NextCpu.{IsNextFrom}
+use Rattle.rcu_graph.specs.declared.known.Planned.{Planned}
 use Rattle.rcu_wish.specs.Wishes.{after_naming, cpu_word}
 use Rattle.rcu_c.specs.Engines.{EngineAndSeats}
 
@@ -16,18 +17,18 @@ after_saying o word words = record o {
 }
 
 -- the first processor that an engine awaits, or none where it awaits none
-abbrev pub IsFirst : Locked (Unit {0}) ℕ → Option ℕ → Type 0
+abbrev pub IsFirst : Locked Planned ℕ → Option ℕ → Type 0
 IsFirst e None = (cpu : ℕ) → is_in e.grace.processors.awaited cpu ≡ false
 IsFirst e (Some cpu) = IsNextFrom e.grace.processors.awaited 0 cpu
 
 -- whether an engine awaits a processor, where it is one
-abbrev pub awaits : Locked (Unit {0}) ℕ → Option ℕ → Bool
+abbrev pub awaits : Locked Planned ℕ → Option ℕ → Bool
 awaits e None = false
 awaits e (Some cpu) = is_in e.grace.processors.awaited cpu
 
 -- who drives sleeps for the first processor that was awaited, where one is awaited still, and else
 -- for none; it may sleep where that first one is awaited still
-pub record IsForFirst (e now : Locked (Unit {0}) ℕ) (word : ℕ) (sleeps : Bool) : Type 0 where
+pub record IsForFirst (e now : Locked Planned ℕ) (word : ℕ) (sleeps : Bool) : Type 0 where
   pub cpu : Option ℕ
   pub first : IsFirst e cpu
   pub says : word ≡ cpu_word (if awaited_in now.grace == 0 then None else cpu)

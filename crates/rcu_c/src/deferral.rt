@@ -104,7 +104,7 @@ pub extern "C" fn rcu_defer_run_unfenced(
 {
     match seat.seat() {
         Ok(seat) => {
-            let number = seat.watcher.number(&*seat.board);
+            let number = seat.watcher.number(&**seat.map.board());
             seat.values.tend(number);
             *count = put_ready(&mut seat.values, values);
             0

@@ -7,9 +7,9 @@ ghost use Rattle.rcu_seq.specs.Seq.{number_of};
 ghost use Rattle.rcu_live.specs.Rule.{IsKept};
 ghost use Rattle.rcu_live.specs.View.{IsOfEngine};
 ghost use Rattle.rcu_live.specs.declared.view.Role.TheVariants.{Cpu};
-ghost use Rattle.rcu_c.specs.Belonging.{BelongsTo, HasSectionAt, IsEngineAt, Moment};
+ghost use Rattle.rcu_c.specs.Belonging.{BelongsTo, HasSectionAt, IsEngineAt, IsMapKept, Moment};
 ghost use Rattle.rcu_c.specs.Engines.{EngineAndSeats, is_own};
-ghost use Rattle.rcu_c.specs.Holding.{cpu_of, engine_of, grace_of, opened_of, seat_of};
+ghost use Rattle.rcu_c.specs.Holding.{cpu_of, engine_of, grace_of, keeper_of, opened_of, seat_of};
 ghost use Rattle.rcu_c.specs.Seats.{Seat};
 ghost use Rattle.rcu_c.specs.Staying.{AllStay, BothStay};
 ghost use Rattle.rcu_c.specs.declared.contents.Contents.{Contents};
@@ -24,15 +24,15 @@ pub fn moments_have_what_their_views_show()
     ensures outside { (now : Moment) (id : ℕ) (seat : Option Contents) (at : Number) →
         (cpu_of seat).view.section ≡ None → HasSectionAt now id seat at → ⊥ }
     ensures engine { (now : Moment) (id : ℕ) (rcu : Option Contents) →
-        IsKept (λ _ _ _. Unit {0}) (engine_of rcu).cpus now →
+        IsKept (IsMapKept (engine_of rcu).view.client.plan) (engine_of rcu).cpus now →
         get_elem? now.views id ≡ some (engine_of rcu).view → IsOfEngine (engine_of rcu).view →
         (engine_of rcu).view.seen ≡ number_of (grace_of rcu).seq → IsEngineAt now id rcu }
     ensures other_number { (now : Moment) (id : ℕ) (rcu : Option Contents) →
         (engine_of rcu).view.seen ≢ number_of (grace_of rcu).seq → IsEngineAt now id rcu → ⊥ }
 {}
 
-/// A seat that belongs to an engine reads its words, and is taken by it. None is taken of another
-/// identity, or of a processor that the engine does not have.
+/// A seat that belongs to an engine reads its words and its map, and is taken by it. None is taken
+/// of another identity, or of a processor that the engine does not have.
 pub fn seats_belong_to_who_takes_them()
     ensures taken { (seat rcu : Option Contents) → BelongsTo seat rcu →
         is_own (opened_of rcu) (seat_of seat) ≡ true }
@@ -40,6 +40,10 @@ pub fn seats_belong_to_who_takes_them()
         (seat_of seat).words.table ≡ (engine_of rcu).table }
     ensures cpus { (seat rcu : Option Contents) → BelongsTo seat rcu →
         (seat_of seat).words.cpus ≡ (engine_of rcu).cpus }
+    ensures map { (seat rcu : Option Contents) → BelongsTo seat rcu →
+        (seat_of seat).words.table ≡ (keeper_of rcu).table }
+    ensures plan { (seat rcu : Option Contents) → BelongsTo seat rcu →
+        (seat_of seat).words.plan ≡ (keeper_of rcu).view.client.plan }
     ensures place { (opened : EngineAndSeats) (seat : Seat) →
         opened.identity.place ≢ seat.identity.place → is_own opened seat ≡ false }
     ensures count { (opened : EngineAndSeats) (seat : Seat) →

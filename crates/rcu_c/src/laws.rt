@@ -22,31 +22,37 @@ ghost use Rattle.rcu_live.specs.EngineLists.{visit_refusal};
 ghost use Rattle.rcu_live.specs.Runs.{Call, IsNew, IsRun, Makes, engine_after, queued_as};
 ghost use Rattle.rcu_live.specs.Runs.{queued_before_barrier, times_handed_out, turns_since};
 ghost use Rattle.rcu_live.specs.Watcher.{Watching};
+ghost use Rattle.rcu_graph.specs.Graph.{IsOfSameGraph};
+ghost use Rattle.rcu_graph.specs.declared.known.Planned.{Planned};
+ghost use Rattle.rcu_graph.specs.declared.plan.Plan.{Plan};
 ghost use Rattle.rcu_c.specs.Answers.{number_for};
 ghost use Rattle.rcu_c.specs.BarrierSteps.{before_drive, begun, visits, whole_step};
 ghost use Rattle.rcu_c.specs.Belonging.{BelongsTo, HasSectionAt, IsEngineAt, IsSameObject, Moment};
 ghost use Rattle.rcu_c.specs.Engines.{EngineAndSeats, opened_at_first, seat_at, with_seat};
 ghost use Rattle.rcu_c.specs.Engines.{without_seat};
-ghost use Rattle.rcu_c.specs.Holding.{cpu_of, engine_of, grace_of, never_done, no_engine};
-ghost use Rattle.rcu_c.specs.Holding.{no_seat, on_cpu, on_engine, on_grace, on_opened};
-ghost use Rattle.rcu_c.specs.Holding.{on_watcher, seat_of};
+ghost use Rattle.rcu_c.specs.Holding.{cpu_of, engine_of, grace_of, keeper_of, never_done};
+ghost use Rattle.rcu_c.specs.Holding.{no_engine, no_seat, on_cpu, on_engine, on_grace};
+ghost use Rattle.rcu_c.specs.Holding.{on_opened, on_watcher, seat_of};
+ghost use Rattle.rcu_c.specs.Maps.{on_keeper};
 ghost use Rattle.rcu_c.specs.Refusals.{CanQueue, engine_number, going_refusal};
 ghost use Rattle.rcu_c.specs.Seats.{Seat, seat_at_first};
 ghost use Rattle.rcu_c.specs.declared.contents.Contents.{Contents};
 ghost use Rattle.rcu_c.specs.declared.identity.Identity.{Identity};
 
-use rcu_live::laws::readers_finish_before_done;
-use rcu_live::{NoClient, laws};
+use crate::open_engine::Rule;
+use rcu_live::laws;
 
 /// A newly opened engine has the seat of each processor to deal. Each is one of its own: it reads
-/// the words that the engine writes, and the engine takes it.
+/// the words that the engine writes, and the engine's map, and the engine takes it.
 pub fn dealt_seats_are_of_their_engine()
-    ensures waits { (identity : Identity) (table wishes : TableId) (cpus last cpu : ℕ) →
-        cpu < cpus → seat_at (opened_at_first identity table wishes cpus last) cpu
-        ≡ Some (seat_at_first identity table wishes cpus cpu) }
-    ensures own { (identity : Identity) (table wishes : TableId) (cpus last cpu : ℕ) →
-        cpu < cpus → BelongsTo (Some (Contents.Seat (seat_at_first identity table wishes cpus cpu)))
-        (Some (Contents.Engine (opened_at_first identity table wishes cpus last))) }
+    ensures waits { (identity : Identity) (table wishes : TableId) (plan : Plan)
+        (cpus last cpu : ℕ) → cpu < cpus →
+        seat_at (opened_at_first identity table wishes plan cpus last) cpu
+        ≡ Some (seat_at_first identity table wishes plan cpus cpu) }
+    ensures own { (identity : Identity) (table wishes : TableId) (plan : Plan)
+        (cpus last cpu : ℕ) → cpu < cpus →
+        BelongsTo (Some (Contents.Seat (seat_at_first identity table wishes plan cpus cpu)))
+        (Some (Contents.Engine (opened_at_first identity table wishes plan cpus last))) }
 {}
 
 /// A seat is dealt to one at a time: one that is dealt is not there to deal. One that is handed
@@ -64,28 +70,30 @@ pub fn returned_seats_are_dealt_again()
 /// engine neither which words it writes nor how many processors it has, and of a seat not its
 /// processor.
 pub fn seats_stay_of_their_engine()
-    ensures engine { (change : Locked (Unit {0}) ℕ → Locked (Unit {0}) ℕ)
-        (seat rcu : Option Contents) → ((e : Locked (Unit {0}) ℕ) → IsSameObject e (change e)) →
+    ensures engine { (change : Locked Planned ℕ → Locked Planned ℕ)
+        (seat rcu : Option Contents) → ((e : Locked Planned ℕ) → IsSameObject e (change e)) →
         BelongsTo seat rcu → BelongsTo seat (on_engine change rcu) }
     ensures grace { (change : Grace ℕ → Grace ℕ) (seat rcu : Option Contents) →
         BelongsTo seat rcu → BelongsTo seat (on_grace change rcu) }
-    ensures begin { (e : Locked (Unit {0}) ℕ) (word : ℕ → ℕ) →
+    ensures begin { (e : Locked Planned ℕ) (word : ℕ → ℕ) →
         IsSameObject e (live.after_begin e word) }
-    ensures end { (e : Locked (Unit {0}) ℕ) → IsSameObject e (live.after_end e) }
-    ensures turn { (e : Locked (Unit {0}) ℕ) (word : ℕ → ℕ) →
+    ensures end { (e : Locked Planned ℕ) → IsSameObject e (live.after_end e) }
+    ensures turn { (e : Locked Planned ℕ) (word : ℕ → ℕ) →
         IsSameObject e (live.after_turn e word) }
-    ensures collect { (e : Locked (Unit {0}) ℕ) (cpu word : ℕ) →
+    ensures collect { (e : Locked Planned ℕ) (cpu word : ℕ) →
         IsSameObject e (live.after_collect e cpu word) }
-    ensures leave { (e : Locked (Unit {0}) ℕ) (cpu word : ℕ) →
+    ensures leave { (e : Locked Planned ℕ) (cpu word : ℕ) →
         IsSameObject e (lists.after_leave e cpu word) }
     ensures dealt { (cpu : ℕ) (seat rcu : Option Contents) → BelongsTo seat rcu →
         BelongsTo seat (on_opened (λ o. without_seat o cpu) rcu) }
     ensures returned { (other seat rcu : Option Contents) → BelongsTo seat rcu →
         BelongsTo seat (on_opened (λ o. with_seat o (seat_of other)) rcu) }
-    ensures cpu { (change : Seated (Unit {0}) → Seated (Unit {0})) (seat rcu : Option Contents) →
-        ((s : Seated (Unit {0})) → (change s).cpu ≡ s.cpu) →
+    ensures cpu { (change : Seated Planned → Seated Planned) (seat rcu : Option Contents) →
+        ((s : Seated Planned) → (change s).cpu ≡ s.cpu) →
         BelongsTo seat rcu → BelongsTo (on_cpu change seat) rcu }
-    ensures watcher { (change : Watching (Unit {0}) → Watching (Unit {0}))
+    ensures map { (seat rcu now : Option Contents) → now ≡ on_keeper (λ _. keeper_of now) rcu →
+        IsOfSameGraph (keeper_of rcu) (keeper_of now) → BelongsTo seat rcu → BelongsTo seat now }
+    ensures watcher { (change : Watching Planned → Watching Planned)
         (seat rcu : Option Contents) →
         BelongsTo seat rcu → BelongsTo (on_watcher change seat) rcu }
 {}
@@ -120,17 +128,18 @@ pub fn sections_end_before_what_waits_for_them()
         HasSectionAt before j seat at → IsEngineAt after k running → HasSectionAt after l later at →
         (engine_of running).cpus ≡ (engine_of queueing).cpus →
         HasWaited (number_of (grace_of running).seq) (tag_of (grace_of queueing).seq) → ⊥ }
-{
-    readers_finish_before_done::<NoClient>();
-}
+{}
 
 /// Each call that changes an engine, and returns 0, is a step of a run of it: what its clause
 /// `state` says is what the step leaves, and what its faults say is why the step may be made. A
 /// departure that returns 2 or 16 is one, too. Collecting from all is none where no grace period
-/// runs: it changes nothing then. An engine is new as it is opened.
+/// runs: it changes nothing then. Nor is an update of the map: it leaves the running engine as it
+/// is. An engine is new as it is opened.
 pub fn calls_are_steps_of_a_run()
-    ensures new { (identity : Identity) (table wishes : TableId) (cpus last : ℕ) →
-        IsNew (opened_at_first identity table wishes cpus last).engine }
+    ensures new { (identity : Identity) (table wishes : TableId) (plan : Plan) (cpus last : ℕ) →
+        IsNew (opened_at_first identity table wishes plan cpus last).engine }
+    ensures map { (change : Watching Planned → Watching Planned) (rcu : Option Contents) →
+        engine_of (on_keeper change rcu) ≡ engine_of rcu }
     ensures begin { (rcu : Option Contents) (word : ℕ → ℕ) →
         engine_number rcu (number_for (grace.begin_refusal (grace_of rcu))) ≡ 0 →
         Makes (Call.Begin word) (engine_of rcu)
@@ -190,55 +199,55 @@ pub fn calls_are_steps_of_a_run()
 /// A step of waiting for a barrier is a run of calls: whole, up to its step of driving where that
 /// is refused, and as far as it visited where memory was refused.
 pub fn waiting_for_a_barrier_is_a_run()
-    ensures whole { (e : Locked (Unit {0}) ℕ) (word : ℕ → ℕ) → IsRun e (whole_step e word) }
-    ensures ready { (e : Locked (Unit {0}) ℕ) → IsRun e (before_drive e) }
-    ensures part { (e : Locked (Unit {0}) ℕ) (cpu : ℕ) → cpu ≤ e.cpus →
+    ensures whole { (e : Locked Planned ℕ) (word : ℕ → ℕ) → IsRun e (whole_step e word) }
+    ensures ready { (e : Locked Planned ℕ) → IsRun e (before_drive e) }
+    ensures part { (e : Locked Planned ℕ) (cpu : ℕ) → cpu ≤ e.cpus →
         IsRun e (visits cpu ++ begun e) }
 {}
 
 /// No callback runs twice: each value that was queued is handed out at most once.
 pub fn no_callback_runs_twice()
-    ensures { (first : Locked (Unit {0}) ℕ) (calls : List (Call ℕ)) (place : ℕ) →
+    ensures { (first : Locked Planned ℕ) (calls : List (Call ℕ)) (place : ℕ) →
         IsNew first → IsRun first calls → times_handed_out place first calls ≤ 1 }
 {
-    laws::no_callback_runs_twice::<u64, NoClient>();
+    laws::no_callback_runs_twice::<u64, Rule>();
 }
 
 /// No callback is lost while its engine is open: each one that was queued was handed out or lies in
 /// one list, once.
 pub fn no_callback_is_lost()
-    ensures { (first : Locked (Unit {0}) ℕ) (calls : List (Call ℕ)) (place : ℕ) → IsNew first →
+    ensures { (first : Locked Planned ℕ) (calls : List (Call ℕ)) (place : ℕ) → IsNew first →
         IsRun first calls → 0 < place →
         place ≤ (engine_after first calls).grace.lists.queued →
         times_handed_out place first calls
         + times_listed place (engine_after first calls).grace.lists ≡ 1 }
 {
-    laws::no_callback_is_lost::<u64, NoClient>();
+    laws::no_callback_is_lost::<u64, Rule>();
 }
 
 /// A barrier covers earlier callbacks: when its test writes 0, each callback that was queued before
 /// it began has been handed out.
 pub fn barrier_covers_earlier_callbacks()
-    ensures { (first : Locked (Unit {0}) ℕ) (calls : List (Call ℕ)) (place : ℕ) → IsNew first →
+    ensures { (first : Locked Planned ℕ) (calls : List (Call ℕ)) (place : ℕ) → IsNew first →
         IsRun first (Call.BarrierTest ∷ calls) →
         barrier_test_answer (engine_after first calls).grace.lists ≡ BarrierState.Done →
         0 < place → place ≤ queued_before_barrier first calls →
         times_handed_out place first calls ≡ 1 }
 {
-    laws::barrier_covers_earlier_callbacks::<u64, NoClient>();
+    laws::barrier_covers_earlier_callbacks::<u64, Rule>();
 }
 
 /// No callback runs early: each that is handed out was queued, is what it was then, and a full
 /// grace period lies since: one began after it and ended.
 pub fn no_callback_runs_early()
-    ensures queued { (first : Locked (Unit {0}) ℕ) (calls : List (Call ℕ)) (cpu most at : ℕ)
+    ensures queued { (first : Locked Planned ℕ) (calls : List (Call ℕ)) (cpu most at : ℕ)
         (handed : Queued ℕ) → IsNew first → IsRun first calls →
         slice_get (take_answer (list_of (engine_after first calls).grace.lists cpu) most) at
         ≡ Some handed → queued_as handed.ord first calls ≡ Some handed }
-    ensures period { (first : Locked (Unit {0}) ℕ) (calls : List (Call ℕ)) (cpu most at : ℕ)
+    ensures period { (first : Locked Planned ℕ) (calls : List (Call ℕ)) (cpu most at : ℕ)
         (handed : Queued ℕ) → IsNew first → IsRun first calls →
         slice_get (take_answer (list_of (engine_after first calls).grace.lists cpu) most) at
         ≡ Some handed → has_full_period (turns_since handed.ord first calls) ≡ true }
 {
-    laws::no_callback_runs_early::<u64, NoClient>();
+    laws::no_callback_runs_early::<u64, Rule>();
 }

@@ -123,7 +123,7 @@ pub extern "C" fn rcu_links_tend_unfenced(seat: &mut RcuSeat) -> u64
 {
     match seat.seat() {
         Ok(seat) => {
-            let number = seat.watcher.number(&*seat.board);
+            let number = seat.watcher.number(&**seat.map.board());
             seat.links.marks.tend(number);
             seat.links.ready()
         }

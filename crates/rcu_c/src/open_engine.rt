@@ -3,14 +3,19 @@ ghost use Rattle.std.specs.Prelude.{◌≡◌, is_some};
 ghost use Rattle.rcu_c.specs.Engines.{is_own, seat_at, with_seat, without_seat};
 
 use crate::identity::Identity;
+use crate::map_entry::MapEntry;
 use crate::seat_parts::SeatParts;
 use rcu_live::Engine;
+use rcu_map::{MapKeeper, MapRule};
 use rcu_node::Tree;
 use rcu_wish::Wishes;
 use std::marker::Model;
 
-/// The running engine over the tree of Linux's fanouts, with numbers as callbacks.
-pub(crate) type TreeEngine = Engine<Tree<16, 64>, u64>;
+/// The rule of the map that each engine has among its shared words.
+pub(crate) type Rule = MapRule<MapEntry, 2>;
+
+/// The running engine over the tree of Linux's fanouts, with numbers as callbacks, and a map.
+pub(crate) type TreeEngine = Engine<Tree<16, 64>, u64, Rule>;
 
 /// The engine of an open handle.
 #[derive(Drop)]
@@ -20,6 +25,8 @@ pub struct OpenEngine {
     pub(crate) seats: Vec<Option<SeatParts>>,
     pub(crate) wishes: Wishes,
     identity: Identity,
+    /// The keeper of its map.
+    pub(crate) map: MapKeeper<MapEntry, 2>,
 }
 
 impl Model for OpenEngine {
@@ -32,22 +39,26 @@ impl Model for OpenEngine {
       seats = o.seats.items;
       wishes = o.wishes;
       identity = o.identity;
+      map = o.map;
     } };
 }
 
 impl OpenEngine {
-    /// The engine with the seats of its processors, and its end of the wishes.
+    /// The engine with the seats of its processors, its end of the wishes, and the keeper of its
+    /// map.
     pub(crate) fn new(
         inner: TreeEngine,
         seats: Vec<Option<SeatParts>>,
         wishes: Wishes,
         identity: Identity,
+        map: MapKeeper<MapEntry, 2>,
     ) -> OpenEngine
         ensures { result ≡ record {
           engine = inner;
           seats = seats.items;
           wishes = wishes;
           identity = identity;
+          map = map;
         } }
     {
         OpenEngine {
@@ -55,6 +66,7 @@ impl OpenEngine {
             seats,
             wishes,
             identity,
+            map,
         }
     }
 

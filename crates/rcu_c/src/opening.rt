@@ -1,110 +1,42 @@
 //! Opening and closing.
-ghost use Rattle.std.specs.Prelude.{◌≡◌, ◌≢◌, ◌<◌, IfErr, IfOk, IsNone, None, OnErr, OnOk, Some};
-ghost use Rattle.std.specs.Prelude.{is_some, map};
-ghost use Rattle.std.specs.Arc.{arc_value};
-ghost use Rattle.std.specs.List.{range_with_len};
-ghost use Rattle.rcu_live.specs.CpuSeat.{at_first};
+ghost use Rattle.std.specs.Prelude.{◌≡◌, ◌≢◌, IfErr, IfOk, IsNone, None, OnErr, OnOk, Some};
+ghost use Rattle.std.specs.Prelude.{is_some};
 ghost use Rattle.rcu_geometry.specs.Opening.{opening_refusal};
-ghost use Rattle.rcu_seq.specs.Memory.{tested_fault};
-ghost use Rattle.rcu_live.specs.Watcher.{watcher_at_first};
-ghost use Rattle.rcu_live.specs.Words.{base_of};
 ghost use Rattle.rcu_c.specs.Answers.{number_for, number_in_c, tested_number};
 ghost use Rattle.rcu_c.specs.Engines.{opened_at_first, seat_at, with_seat, without_seat};
 ghost use Rattle.rcu_c.specs.Holding.{HoldsEngine, HoldsSeat, engine_of, on_opened, opened_of};
 ghost use Rattle.rcu_c.specs.Holding.{seat_of, wishes_of};
+ghost use Rattle.rcu_c.specs.MapSizes.{least_sizes, map_opening_refusal, plan_of_sizes};
 ghost use Rattle.rcu_c.specs.Refusals.{deal_refusal, engine_number, engine_refusal};
-ghost use Rattle.rcu_c.specs.Refusals.{return_refusal, seat_refusal};
-ghost use Rattle.rcu_c.specs.Seats.{seat_at_first};
+ghost use Rattle.rcu_c.specs.Refusals.{return_refusal, seat_refusal, tested_refusal};
 ghost use Rattle.rcu_c.specs.Staying.{BothStay};
 
-use crate::codes::code;
 use crate::contents::Contents;
 use crate::handle::{Handle, Rcu, RcuSeat};
 use crate::identity::Identity;
+use crate::making::make_engine;
+use crate::map_sizes::MapSizes;
 use crate::open_engine::OpenEngine;
 use crate::raw_box::RawBox;
 use crate::refusal::Refusal;
-use crate::seat_parts::{SeatParts, SharedParts};
-use rcu_live::{CpuSeat, Parts, Watcher};
 use rcu_seq::Fault;
-use rcu_wish::Wishes;
-use std::alloc::{AllocError, Global};
+use std::alloc::Global;
 
-/// How many callbacks may be queued: so many that no program queues them all.
-const MOST: u64 = 1 << 62;
-
-/// The seats of all processors, in order.
-fn make_seats(
-    alloc: Global,
-    shared: &SharedParts,
-    seats: Vec<CpuSeat>,
-    watchers: Vec<Watcher>,
-) -> Result<Vec<Option<SeatParts>>, AllocError>
-    requires seats { seats.items ≡ map
-        (at_first shared.now.words.table (base_of shared.now.words.cpus) tt)
-        (range_with_len 0 shared.now.words.cpus) }
-    requires watchers { watchers.items ≡ map
-        (λ _. watcher_at_first shared.now.words.table (base_of shared.now.words.cpus) tt)
-        (range_with_len 0 shared.now.words.cpus) }
-    ensures { IfOk result (λ made. made.items ≡ map
-        (λ cpu. Some (seat_at_first shared.now.identity shared.now.words.table shared.now.wishes
-        shared.now.words.cpus cpu)) (range_with_len 0 shared.now.words.cpus)) }
-{
-    let mut made = Vec::new(alloc);
-    let (mut seats, mut watchers) = (seats.into_iter(), watchers.into_iter());
-    for _ in 0..shared.board.cpus() {
-        let Some(seat) = seats.next() else {
-            unreachable!()
-        };
-        let Some(watcher) = watchers.next() else {
-            unreachable!()
-        };
-        made.push(Some(SeatParts::new(alloc, shared, seat, watcher)?))?;
-    }
-    Ok(made)
-}
-
-/// The engine, with a seat for each processor.
-fn make_engine(alloc: Global, cpus: u32, last: u64, identity: Identity) -> Result<OpenEngine, Fault>
-    ensures state { IfOk result (λ made.
-        made ≡ opened_at_first identity made.engine.table made.wishes.words cpus last) }
-    ensures fault { tested_fault result ≡ opening_refusal 16 64 cpus last }
-{
-    let Parts {
-        board,
-        engine,
-        seats,
-        watchers,
-        own: _,
-    } = Parts::open(alloc, cpus, last, MOST)?;
-    let Ok(wishes) = Wishes::open(alloc) else {
-        return Err(Fault::NoMemory);
-    };
-    let shared = SharedParts {
-        board,
-        wishes,
-        identity,
-    };
-    let Ok(seats) = make_seats(alloc, &shared, seats, watchers) else {
-        return Err(Fault::NoMemory);
-    };
-    Ok(OpenEngine::new(engine, seats, shared.wishes, identity))
-}
-
-/// The engine, with a seat for each processor, in a box.
+/// The engine, with a map of these sizes, and a seat for each processor, in a box.
 fn box_engine(
     alloc: Global,
     cpus: u32,
     last: u64,
     identity: Identity,
-) -> Result<Box<Contents, Global>, Fault>
+    sizes: MapSizes,
+) -> Result<Box<Contents, Global>, Refusal>
     ensures open { IfOk result (λ contents. HoldsEngine (Some contents.value)) }
     ensures state { IfOk result (λ contents. opened_of (Some contents.value)
         ≡ opened_at_first identity (engine_of (Some contents.value)).table
-        (wishes_of (Some contents.value)).words cpus last) }
-    ensures fault { tested_fault result ≡ opening_refusal 16 64 cpus last }
+        (wishes_of (Some contents.value)).words (plan_of_sizes sizes) cpus last) }
+    ensures fault { tested_refusal result ≡ map_opening_refusal sizes cpus last }
 {
-    let made = make_engine(alloc, cpus, last, identity)?;
+    let made = make_engine(alloc, cpus, last, identity, sizes)?;
     Ok(Box::new(alloc, Contents::Engine(made))?)
 }
 
@@ -138,12 +70,38 @@ pub extern "C" fn rcu_open_as(
     ensures open { result ≡ 0 → HoldsEngine rcu.new.contents }
     ensures state { result ≡ 0 → opened_of rcu.new.contents ≡
         opened_at_first identity (engine_of rcu.new.contents).table
-        (wishes_of rcu.new.contents).words cpus last }
+        (wishes_of rcu.new.contents).words (plan_of_sizes least_sizes) cpus last }
     ensures unchanged { result ≢ 0 → rcu.new.contents ≡ rcu.old.contents }
 {
-    let contents = match box_engine(alloc, cpus, last, identity) {
+    rcu_open_map_as(alloc, cpus, last, identity, &MapSizes::least(), rcu)
+}
+
+/// Opens an engine as `rcu_open_as`, with a map of so many buckets and nodes, which is empty. Each
+/// of its seats reads it. Needs: `rcu` is closed.
+///
+/// Faults: 29 where there is no bucket, fewer nodes than buckets, or more than 2^32 words in all,
+/// three a node; 17 for no processor or more than 4,096; 19 where `last` is no such number; 16.
+#[unsafe(no_mangle)]
+pub extern "C" fn rcu_open_map_as(
+    alloc: Global,
+    cpus: u32,
+    last: u64,
+    identity: Identity,
+    sizes: &MapSizes,
+    rcu: &mut Rcu,
+) -> u32
+    requires closed { IsNone rcu.old.contents }
+    ensures fault { tested_number result ≡
+        number_in_c (map_opening_refusal sizes.now cpus last) }
+    ensures open { result ≡ 0 → HoldsEngine rcu.new.contents }
+    ensures state { result ≡ 0 → opened_of rcu.new.contents ≡
+        opened_at_first identity (engine_of rcu.new.contents).table
+        (wishes_of rcu.new.contents).words (plan_of_sizes sizes.now) cpus last }
+    ensures unchanged { result ≢ 0 → rcu.new.contents ≡ rcu.old.contents }
+{
+    let contents = match box_engine(alloc, cpus, last, identity, *sizes) {
         Ok(contents) => contents,
-        Err(fault) => return code(fault),
+        Err(refusal) => return refusal.number(),
     };
     put(rcu, contents);
     0

@@ -5,6 +5,7 @@ ghost use Rattle.rcu_live.specs.CpuSeat.{unpin_refusal};
 ghost use Rattle.rcu_c.specs.Answers.{number_for};
 ghost use Rattle.rcu_c.specs.Holding.{AcceptedAt, RenewedAt, cpu_of};
 ghost use Rattle.rcu_c.specs.Refusals.{seat_number};
+ghost use Rattle.rcu_c.specs.Seats.{closing};
 ghost use Rattle.rcu_c.specs.Staying.{BothStay};
 
 use crate::codes::write_out;
@@ -34,7 +35,7 @@ pub extern "C" fn rcu_seat_pin_unfenced(seat: &mut RcuSeat, depth: &mut u32) -> 
         BothStay seat.old.contents seat.new.contents depth.old depth.new }
 {
     match seat.seat() {
-        Ok(seat) => write_out(seat.cpu.pin(&*seat.board), depth),
+        Ok(seat) => write_out(seat.cpu.pin(&**seat.map.board()), depth),
         Err(refusal) => refusal.number(),
     }
 }
@@ -51,13 +52,13 @@ pub extern "C" fn rcu_seat_unpin(seat: &mut RcuSeat, depth: &mut u32) -> u32
     ensures fault { result ≡ seat_number seat.old.contents
         (number_for (unpin_refusal (cpu_of seat.old.contents))) }
     ensures depth { result ≡ 0 → depth.new ≡ (cpu_of seat.new.contents).depth }
-    ensures state { result ≡ 0 → AcceptedAt (after_unpin (λ c. c)) seat.old.contents
+    ensures state { result ≡ 0 → AcceptedAt (after_unpin closing) seat.old.contents
         (cpu_of seat.new.contents).view.seen seat.new.contents }
     ensures unchanged { result ≢ 0 →
         BothStay seat.old.contents seat.new.contents depth.old depth.new }
 {
     match seat.seat() {
-        Ok(seat) => write_out(seat.cpu.unpin(&*seat.board), depth),
+        Ok(seat) => write_out(seat.cpu.unpin(&**seat.map.board()), depth),
         Err(refusal) => refusal.number(),
     }
 }
@@ -81,7 +82,7 @@ pub extern "C" fn rcu_seat_repin_unfenced(seat: &mut RcuSeat, number: &mut u64) 
         BothStay seat.old.contents seat.new.contents number.old number.new }
 {
     match seat.seat() {
-        Ok(seat) => write_out(seat.cpu.repin(&*seat.board), number),
+        Ok(seat) => write_out(seat.cpu.repin(&**seat.map.board()), number),
         Err(refusal) => refusal.number(),
     }
 }

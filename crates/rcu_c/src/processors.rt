@@ -47,7 +47,7 @@ pub extern "C" fn rcu_arrive_unfenced(rcu: &mut Rcu, seat: &mut RcuSeat) -> u32
     if !engine.owns(seat) {
         return Refusal::OtherEngine.number();
     }
-    let arrived = seat.cpu.arrive(&*seat.board);
+    let arrived = seat.cpu.arrive(&**seat.map.board());
     if arrived.is_ok() {
         engine.inner.join(seat.cpu.cpu());
     }
@@ -107,7 +107,7 @@ pub extern "C" fn rcu_depart(rcu: &mut Rcu, seat: &mut RcuSeat, moved: &mut u64)
     if !opened.owns(seat) {
         return Refusal::OtherEngine.number();
     }
-    let again = match seat.cpu.depart(&*seat.board) {
+    let again = match seat.cpu.depart(&**seat.map.board()) {
         Ok(again) => again,
         Err(fault) => return code(fault),
     };

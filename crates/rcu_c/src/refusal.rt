@@ -2,6 +2,7 @@
 ghost use Rattle.std.specs.Prelude.{◌≡◌};
 ghost use Rattle.rcu_c.specs.Answers.{refusal_number};
 
+use rcu_graph::NotOpened;
 use rcu_seq::Fault;
 use std::alloc::AllocFailed;
 
@@ -18,10 +19,16 @@ pub enum Refusal {
     Closed,
     /// The handle is of another kind.
     OtherKind,
+    /// A map can't have so many buckets and nodes.
+    BadSizes,
+    /// An entry has the key 0.
+    BadKey,
+    /// No node of the map is free.
+    MapFull,
 }
 
 impl Refusal {
-    /// The number that C is told: no fault of the engine has one of the last four.
+    /// The number that C is told: no fault of the engine has one of the last seven.
     pub(crate) fn number(self) -> u32
         ensures { result ≡ refusal_number self }
     {
@@ -31,6 +38,9 @@ impl Refusal {
             Refusal::OtherEngine => 26,
             Refusal::Closed => 27,
             Refusal::OtherKind => 28,
+            Refusal::BadSizes => 29,
+            Refusal::BadKey => 30,
+            Refusal::MapFull => 31,
         }
     }
 }
@@ -43,6 +53,20 @@ impl From<Fault> for Refusal {
 
     fn from(fault: Fault) -> Refusal {
         Refusal::Engine(fault)
+    }
+}
+
+impl From<NotOpened> for Refusal {
+    ghost use Rattle.std.specs.Prelude.{◌≡◌};
+    ghost use Rattle.rcu_c.specs.Answers.{refusal_of};
+
+    ghost from_gives = { λ why r. r ≡ refusal_of why };
+
+    fn from(why: NotOpened) -> Refusal {
+        match why {
+            NotOpened::BadSizes => Refusal::BadSizes,
+            NotOpened::Fault(fault) => Refusal::Engine(fault),
+        }
     }
 }
 

@@ -1,46 +1,52 @@
 //! The seat of an open handle.
 ghost use Rattle.std.specs.Prelude.{◌≡◌, ◌<◌, ◌≤◌, IfOk};
-ghost use Rattle.std.specs.Arc.{arc_value};
 ghost use Rattle.rcu_defer.specs.DeferList.{list_at_first};
+ghost use Rattle.rcu_graph.specs.Nodes.{IsReader};
+ghost use Rattle.rcu_live.specs.Words.{base_of};
 ghost use Rattle.rcu_wish.specs.Wishes.{wisher_at_first};
 ghost use Rattle.rcu_c.specs.Links.{no_links};
 
 use crate::identity::Identity;
 use crate::links::Links;
+use crate::map_entry::MapEntry;
 use rcu_defer::DeferList;
-use rcu_live::{Board, CpuSeat, Watcher};
+use rcu_map::{Map, MapSeat, MapWatcher};
 use rcu_wish::{Wisher, Wishes};
 use std::alloc::{AllocError, Global};
 use std::marker::Model;
-use std::sync::Arc;
 
-/// What all seats of an engine share: the words that they read, their wishes, and what tells the
-/// engine from others.
+/// What all seats of an engine share: the map among the words that they read, their wishes, and
+/// what tells the engine from others.
 #[derive(Drop)]
 pub(crate) struct SharedParts {
-    pub(crate) board: Arc<Board, Global>,
+    pub(crate) map: Map<MapEntry, 2>,
     pub(crate) wishes: Wishes,
     pub(crate) identity: Identity,
 }
 
 impl Model for SharedParts {
-    ghost use Rattle.std.specs.Arc.{arc_value};
     ghost use Rattle.rcu_c.specs.Seats.{Shared};
 
     ghost Value = { Shared };
 
     ghost view = { λ s. record {
-      words = record { table = (arc_value s.board).table; cpus = (arc_value s.board).cpus };
+      words = record { table = s.map.table; cpus = s.map.cpus; plan = s.map.plan };
       wishes = s.wishes.words;
       identity = s.identity;
     } };
 }
 
+/// A processor's seat of an engine with a map.
+pub(crate) type CpuSeat = MapSeat<MapEntry, 2>;
+
+/// A watcher of an engine with a map.
+pub(crate) type Watcher = MapWatcher<MapEntry, 2>;
+
 /// The seat of an open handle: a processor's, with a watcher, what its thread deferred, its end of
-/// the wishes, and the words that all seats share.
+/// the wishes, and the map among the words that all seats share.
 #[derive(Drop)]
 pub struct SeatParts {
-    pub(crate) board: Arc<Board, Global>,
+    pub(crate) map: Map<MapEntry, 2>,
     pub(crate) cpu: CpuSeat,
     pub(crate) watcher: Watcher,
     pub(crate) values: DeferList<u64>,
@@ -50,14 +56,15 @@ pub struct SeatParts {
 }
 
 impl Model for SeatParts {
-    ghost use Rattle.std.specs.Prelude.{◌≡◌, ◌<◌, ◌≤◌};
-    ghost use Rattle.std.specs.Arc.{arc_value};
+    ghost use Rattle.std.specs.Prelude.{◌≡◌, ◌<◌, ◌≤◌, IsSome};
+    ghost use Rattle.rcu_graph.specs.Nodes.{IsReader};
+    ghost use Rattle.rcu_live.specs.Words.{base_of};
     ghost use Rattle.rcu_c.specs.Seats.{Seat};
 
     ghost Value = { Seat };
 
     ghost view = { λ s. record {
-      words = record { table = (arc_value s.board).table; cpus = (arc_value s.board).cpus };
+      words = record { table = s.map.table; cpus = s.map.cpus; plan = s.map.plan };
       cpu = s.cpu;
       watcher = s.watcher;
       values = s.values;
@@ -67,11 +74,15 @@ impl Model for SeatParts {
     } };
 
     ghost invariant = { λ s. record {
-      cpu : s.cpu.table ≡ (arc_value s.board).table;
-      watcher : s.watcher.table ≡ (arc_value s.board).table;
-      inside : s.cpu.cpu < (arc_value s.board).cpus;
+      cpu : s.cpu.table ≡ s.map.table;
+      watcher : s.watcher.table ≡ s.map.table;
+      inside : s.cpu.cpu < s.map.cpus;
       values : s.values.marks.seen ≤ s.watcher.view.seen;
       links : s.links.marks.seen ≤ s.watcher.view.seen;
+      base : s.cpu.view.base ≡ base_of s.map.cpus;
+      planned : s.cpu.view.client.plan ≡ s.map.plan;
+      reads : IsReader s.cpu.view.client.known;
+      nested : 0 < s.cpu.depth → IsSome s.cpu.view.section;
     } };
 }
 
@@ -86,6 +97,10 @@ impl SeatParts {
         requires cpu { cpu.table ≡ shared.now.words.table }
         requires watcher { watcher.table ≡ shared.now.words.table }
         requires inside { cpu.cpu < shared.now.words.cpus }
+        requires base { cpu.view.base ≡ base_of shared.now.words.cpus }
+        requires planned { cpu.view.client.plan ≡ shared.now.words.plan }
+        requires reads { IsReader cpu.view.client.known }
+        requires outside { cpu.depth ≡ 0 }
         ensures { IfOk result (λ made. made ≡ record {
           words = shared.now.words;
           cpu = cpu;
@@ -96,10 +111,10 @@ impl SeatParts {
           identity = shared.now.identity;
         }) }
     {
-        let board = Arc::try_clone(&shared.board)?;
+        let map = shared.map.try_clone()?;
         let wisher = shared.wishes.wisher()?;
         Ok(SeatParts {
-            board,
+            map,
             cpu,
             watcher,
             values: DeferList::new(alloc),

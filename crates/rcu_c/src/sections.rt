@@ -11,6 +11,7 @@ ghost use Rattle.rcu_c.specs.Answers.{number_for};
 ghost use Rattle.rcu_c.specs.Holding.{AcceptedAt, RenewedAt, WatchedAt, cpu_of, never_done};
 ghost use Rattle.rcu_c.specs.Holding.{on_cpu, watcher_of};
 ghost use Rattle.rcu_c.specs.Refusals.{seat_number, seat_refusal};
+ghost use Rattle.rcu_c.specs.Seats.{closing};
 ghost use Rattle.rcu_c.specs.Staying.{BothStay};
 
 use crate::codes::{NEVER_DONE, NO_CPU, status, write_out};
@@ -81,7 +82,7 @@ pub extern "C" fn rcu_seat_enter(seat: &mut RcuSeat, depth: &mut u32) -> u32
         BothStay seat.old.contents seat.new.contents depth.old depth.new }
 {
     match seat.seat() {
-        Ok(seat) => write_out(seat.cpu.enter(&*seat.board), depth),
+        Ok(seat) => write_out(seat.cpu.enter(&**seat.map.board()), depth),
         Err(refusal) => refusal.number(),
     }
 }
@@ -97,13 +98,13 @@ pub extern "C" fn rcu_seat_exit(seat: &mut RcuSeat, depth: &mut u32) -> u32
     ensures fault { result ≡ seat_number seat.old.contents
         (number_for (exit_refusal (cpu_of seat.old.contents))) }
     ensures depth { result ≡ 0 → depth.new ≡ (cpu_of seat.new.contents).depth }
-    ensures state { result ≡ 0 → AcceptedAt (after_exit (λ c. c)) seat.old.contents
+    ensures state { result ≡ 0 → AcceptedAt (after_exit closing) seat.old.contents
         (cpu_of seat.new.contents).view.seen seat.new.contents }
     ensures unchanged { result ≢ 0 →
         BothStay seat.old.contents seat.new.contents depth.old depth.new }
 {
     match seat.seat() {
-        Ok(seat) => write_out(seat.cpu.exit(&*seat.board), depth),
+        Ok(seat) => write_out(seat.cpu.exit(&**seat.map.board()), depth),
         Err(refusal) => refusal.number(),
     }
 }
@@ -131,7 +132,7 @@ pub extern "C" fn rcu_seat_quiesce_unfenced(seat: &mut RcuSeat, number: &mut u64
         BothStay seat.old.contents seat.new.contents number.old number.new }
 {
     match seat.seat() {
-        Ok(seat) => write_out(seat.cpu.quiesce(&*seat.board), number),
+        Ok(seat) => write_out(seat.cpu.quiesce(&**seat.map.board()), number),
         Err(refusal) => refusal.number(),
     }
 }
@@ -161,7 +162,7 @@ pub extern "C" fn rcu_seat_quiesce_since_unfenced(seat: &mut RcuSeat, number: &m
         BothStay seat.old.contents seat.new.contents number.old number.new }
 {
     match seat.seat() {
-        Ok(seat) => write_out(seat.cpu.quiesce_since(&*seat.board), number),
+        Ok(seat) => write_out(seat.cpu.quiesce_since(&**seat.map.board()), number),
         Err(refusal) => refusal.number(),
     }
 }
@@ -188,7 +189,7 @@ pub extern "C" fn rcu_seat_renew_unfenced(seat: &mut RcuSeat, number: &mut u64) 
         BothStay seat.old.contents seat.new.contents number.old number.new }
 {
     match seat.seat() {
-        Ok(seat) => write_out(seat.cpu.renew(&*seat.board), number),
+        Ok(seat) => write_out(seat.cpu.renew(&**seat.map.board()), number),
         Err(refusal) => refusal.number(),
     }
 }
@@ -209,7 +210,7 @@ pub extern "C" fn rcu_seat_idle(seat: &mut RcuSeat) -> u32
     ensures unchanged { result ≢ 0 → seat.new.contents ≡ seat.old.contents }
 {
     match seat.seat() {
-        Ok(seat) => status(seat.cpu.idle(&*seat.board)),
+        Ok(seat) => status(seat.cpu.idle(&**seat.map.board())),
         Err(refusal) => refusal.number(),
     }
 }
@@ -235,7 +236,7 @@ pub extern "C" fn rcu_seat_wake_unfenced(seat: &mut RcuSeat, number: &mut u64) -
         BothStay seat.old.contents seat.new.contents number.old number.new }
 {
     match seat.seat() {
-        Ok(seat) => write_out(seat.cpu.wake(&*seat.board), number),
+        Ok(seat) => write_out(seat.cpu.wake(&**seat.map.board()), number),
         Err(refusal) => refusal.number(),
     }
 }
@@ -259,7 +260,7 @@ pub extern "C" fn rcu_seat_take_unfenced(seat: &mut RcuSeat) -> u64
         seat.new.contents ≡ seat.old.contents }
 {
     match seat.seat() {
-        Ok(seat) => seat.watcher.take(&*seat.board).number,
+        Ok(seat) => seat.watcher.take(&**seat.map.board()).number,
         Err(_) => NEVER_DONE,
     }
 }
@@ -288,7 +289,7 @@ pub extern "C" fn rcu_seat_poll_unfenced(seat: &mut RcuSeat, cookie: u64) -> boo
         number: cookie,
     };
     match seat.seat() {
-        Ok(seat) => seat.watcher.poll(&*seat.board, cookie),
+        Ok(seat) => seat.watcher.poll(&**seat.map.board(), cookie),
         Err(_) => false,
     }
 }

@@ -10,6 +10,7 @@ ghost use Rattle.rcu_barrier.specs.Lists.{list_of};
 ghost use Rattle.rcu_barrier.specs.Runs.{times_listed};
 ghost use Rattle.rcu_live.specs.Numbers.{idle_word};
 ghost use Rattle.rcu_live.specs.Runs.{Call, engine_after, times_handed_out, turns_since};
+ghost use Rattle.rcu_graph.specs.declared.plan.Plan.{Plan};
 ghost use Rattle.rcu_c.specs.Engines.{opened_at_first};
 ghost use Rattle.rcu_c.specs.declared.identity.Identity.{Identity};
 
@@ -17,8 +18,8 @@ use crate::laws;
 
 /// No value comes out twice.
 pub fn six_calls_hand_out_once()
-    ensures { (identity : Identity) (table wishes : TableId) (last value place : ℕ) →
-        times_handed_out place (opened_at_first identity table wishes 1 last).engine
+    ensures { (identity : Identity) (table wishes : TableId) (plan : Plan) (last value place : ℕ) →
+        times_handed_out place (opened_at_first identity table wishes plan 1 last).engine
         (Call.Run 0 1 ∷ Call.Tend 0 ∷ Call.End ∷ Call.Begin (λ _. idle_word) ∷ Call.Tend 0
         ∷ Call.Queue 0 value ∷ []) ≤ 1 }
 {
@@ -27,11 +28,11 @@ pub fn six_calls_hand_out_once()
 
 /// The value is not lost.
 pub fn six_calls_lose_nothing()
-    ensures { (identity : Identity) (table wishes : TableId) (last value : ℕ) →
-        times_handed_out 1 (opened_at_first identity table wishes 1 last).engine
+    ensures { (identity : Identity) (table wishes : TableId) (plan : Plan) (last value : ℕ) →
+        times_handed_out 1 (opened_at_first identity table wishes plan 1 last).engine
         (Call.Run 0 1 ∷ Call.Tend 0 ∷ Call.End ∷ Call.Begin (λ _. idle_word) ∷ Call.Tend 0
         ∷ Call.Queue 0 value ∷ []) + times_listed 1
-        (engine_after (opened_at_first identity table wishes 1 last).engine
+        (engine_after (opened_at_first identity table wishes plan 1 last).engine
         (Call.Run 0 1 ∷ Call.Tend 0 ∷ Call.End ∷ Call.Begin (λ _. idle_word) ∷ Call.Tend 0
         ∷ Call.Queue 0 value ∷ [])).grace.lists ≡ 1 }
 {
@@ -40,12 +41,12 @@ pub fn six_calls_lose_nothing()
 
 /// What the sixth call hands out is not early.
 pub fn six_calls_hand_out_nothing_early()
-    ensures { (identity : Identity) (table wishes : TableId) (last value at : ℕ)
+    ensures { (identity : Identity) (table wishes : TableId) (plan : Plan) (last value at : ℕ)
         (handed : Queued ℕ) → slice_get (take_answer (list_of
-        (engine_after (opened_at_first identity table wishes 1 last).engine
+        (engine_after (opened_at_first identity table wishes plan 1 last).engine
         (Call.Tend 0 ∷ Call.End ∷ Call.Begin (λ _. idle_word) ∷ Call.Tend 0 ∷ Call.Queue 0 value
         ∷ [])).grace.lists 0) 1) at ≡ Some handed → has_full_period (turns_since handed.ord
-        (opened_at_first identity table wishes 1 last).engine (Call.Tend 0 ∷ Call.End
+        (opened_at_first identity table wishes plan 1 last).engine (Call.Tend 0 ∷ Call.End
         ∷ Call.Begin (λ _. idle_word) ∷ Call.Tend 0 ∷ Call.Queue 0 value ∷ [])) ≡ true }
 {
     laws::no_callback_runs_early();
@@ -53,8 +54,8 @@ pub fn six_calls_hand_out_nothing_early()
 
 /// A barrier that began behind the value, and whose test says done, covers it.
 pub fn a_barrier_covers_the_value_before_it()
-    ensures { (identity : Identity) (table wishes : TableId) (last value : ℕ) →
-        times_handed_out 1 (opened_at_first identity table wishes 1 last).engine
+    ensures { (identity : Identity) (table wishes : TableId) (plan : Plan) (last value : ℕ) →
+        times_handed_out 1 (opened_at_first identity table wishes plan 1 last).engine
         (Call.Run 0 1 ∷ Call.Tend 0 ∷ Call.Drive true (λ _. idle_word) ∷ Call.Tend 0
         ∷ Call.Visit 0 ∷ Call.BarrierBegin ∷ Call.Queue 0 value ∷ []) ≡ 1 }
 {

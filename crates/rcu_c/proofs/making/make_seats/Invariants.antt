@@ -3,19 +3,23 @@ use Rattle.std.specs.List.{range_with_len}
 use Rattle.rcu_live.specs.CpuSeat.{at_first}
 use Rattle.rcu_live.specs.Watcher.{watcher_at_first}
 use Rattle.rcu_live.specs.Words.{base_of}
+use Rattle.rcu_graph.specs.Planned.{of_plan}
+use Rattle.rcu_graph.specs.declared.known.Known.TheVariants.{Idle}
 use Rattle.rcu_c.specs.Seats.{seat_at_first}
-use Rattle.rcu_c.proofs.opening.make_seats.Given as goal
+use Rattle.rcu_c.proofs.making.make_seats.Given as goal
 
 -- made are the seats of the processors so far, and the parts of the others are left
 abbrev pub invariant-loop : goal.invariant-loop
 invariant-loop l =
     let s = l.shared in
     let cpus = s.words.cpus in
+    let known = of_plan s.words.plan Idle in
     (l.made.items
-    ≡ map (λ cpu. Some (seat_at_first s.identity s.words.table s.wishes cpus cpu))
+    ≡ map (λ cpu. Some (seat_at_first s.identity s.words.table s.wishes s.words.plan cpus cpu))
     (range_with_len 0 l.counter))
     × (l.seats.rest.items
-    ≡ map (at_first s.words.table (base_of cpus) tt) (range_with_len l.counter (cpus - l.counter)))
+    ≡ map (at_first s.words.table (base_of cpus) known)
+    (range_with_len l.counter (cpus - l.counter)))
     × (l.watchers.rest.items
-    ≡ map (λ _. watcher_at_first s.words.table (base_of cpus) tt)
+    ≡ map (λ _. watcher_at_first s.words.table (base_of cpus) known)
     (range_with_len l.counter (cpus - l.counter)))

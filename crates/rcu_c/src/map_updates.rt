@@ -1,0 +1,173 @@
+//! What is put into the map of an engine and taken out: `rcu` is under the caller's lock. Sections
+//! read the map meanwhile, and see the entries as they were before a call or as they are after it.
+ghost use Rattle.std.specs.Prelude.{◌≡◌, ◌≢◌, ◌<◌};
+ghost use Rattle.rcu_map.specs.Entries.{entries_in};
+ghost use Rattle.rcu_map.specs.declared.put.Put.{Put};
+ghost use Rattle.rcu_c.specs.Answers.{number_in_c};
+ghost use Rattle.rcu_c.specs.Maps.{HasAged, IsFound, IsNotPut, IsPut, IsTakenOut, buckets_of};
+ghost use Rattle.rcu_c.specs.Maps.{entry_of, key_refusal, nodes_of};
+ghost use Rattle.rcu_c.specs.Refusals.{engine_number};
+ghost use Rattle.rcu_c.specs.Staying.{BothStay};
+
+use crate::handle::Rcu;
+use crate::map_entry::{MapEntry, told};
+use crate::refusal::Refusal;
+use rcu_map::Put;
+use rcu_seq::{Cookie, Tag};
+
+/// Puts an entry in so, and writes the one that had its key.
+fn put(rcu: &mut Rcu, how: Put, entry: MapEntry, old: &mut MapEntry) -> u32
+    ensures fault { result ≢ 31 → result ≡ engine_number rcu.old.contents
+        (number_in_c (key_refusal entry.key)) }
+    ensures put { result ≡ 0 → IsPut how entry rcu.old.contents old.new rcu.new.contents }
+    ensures full { result ≡ 31 → IsNotPut how entry rcu.old.contents rcu.new.contents }
+    ensures unchanged { result ≢ 0 →
+        BothStay rcu.old.contents rcu.new.contents old.old old.new }
+{
+    let opened = match rcu.engine() {
+        Ok(opened) => opened,
+        Err(refusal) => return refusal.number(),
+    };
+    if entry.key == 0 {
+        return Refusal::BadKey.number();
+    }
+    match opened.map.put(how, entry) {
+        Ok(had) => {
+            *old = told(had);
+            0
+        }
+        Err(_) => Refusal::MapFull.number(),
+    }
+}
+
+/// Puts an entry in, by one store, where none has its key. Writes the entry that has it: then
+/// nothing else happened. It costs a step for each entry of the key's bucket up to there.
+///
+/// What the thread did before comes before what follows a section's `rcu_map_get` that finds the
+/// entry.
+///
+/// Faults: 30 where the key is 0; 31 where no entry has the key, and no node is free.
+#[unsafe(no_mangle)]
+pub extern "C" fn rcu_map_insert(rcu: &mut Rcu, key: u64, value: u64, old: &mut MapEntry) -> u32
+    ensures fault { result ≢ 31 → result ≡ engine_number rcu.old.contents
+        (number_in_c (key_refusal key)) }
+    ensures put { result ≡ 0 →
+        IsPut Put.Insert (entry_of key value) rcu.old.contents old.new rcu.new.contents }
+    ensures full { result ≡ 31 →
+        IsNotPut Put.Insert (entry_of key value) rcu.old.contents rcu.new.contents }
+    ensures unchanged { result ≢ 0 →
+        BothStay rcu.old.contents rcu.new.contents old.old old.new }
+{
+    put(rcu, Put::Insert, MapEntry { key, value }, old)
+}
+
+/// Puts an entry in the place of the one that has its key, by one store, and writes that: a section
+/// finds the old one or the new one. Where none has the key, nothing happens. Costs and orders as
+/// `rcu_map_insert`.
+///
+/// The old value may be freed when a full grace period has passed, as by `rcu_queue` or
+/// `rcu_defer_link`.
+///
+/// Faults: 30 where the key is 0; 31 where an entry has the key, and no node is free.
+#[unsafe(no_mangle)]
+pub extern "C" fn rcu_map_replace(rcu: &mut Rcu, key: u64, value: u64, old: &mut MapEntry) -> u32
+    ensures fault { result ≢ 31 → result ≡ engine_number rcu.old.contents
+        (number_in_c (key_refusal key)) }
+    ensures put { result ≡ 0 →
+        IsPut Put.Replace (entry_of key value) rcu.old.contents old.new rcu.new.contents }
+    ensures full { result ≡ 31 →
+        IsNotPut Put.Replace (entry_of key value) rcu.old.contents rcu.new.contents }
+    ensures unchanged { result ≢ 0 →
+        BothStay rcu.old.contents rcu.new.contents old.old old.new }
+{
+    put(rcu, Put::Replace, MapEntry { key, value }, old)
+}
+
+/// Puts an entry in, by one store, in the place of the one that has its key, as `rcu_map_replace`,
+/// or where none has it, as `rcu_map_insert`. Writes the one that had it.
+///
+/// Faults: 30 where the key is 0; 31 where no node is free.
+#[unsafe(no_mangle)]
+pub extern "C" fn rcu_map_put(rcu: &mut Rcu, key: u64, value: u64, old: &mut MapEntry) -> u32
+    ensures fault { result ≢ 31 → result ≡ engine_number rcu.old.contents
+        (number_in_c (key_refusal key)) }
+    ensures put { result ≡ 0 →
+        IsPut Put.Upsert (entry_of key value) rcu.old.contents old.new rcu.new.contents }
+    ensures full { result ≡ 31 →
+        IsNotPut Put.Upsert (entry_of key value) rcu.old.contents rcu.new.contents }
+    ensures unchanged { result ≢ 0 →
+        BothStay rcu.old.contents rcu.new.contents old.old old.new }
+{
+    put(rcu, Put::Upsert, MapEntry { key, value }, old)
+}
+
+/// Takes the entry of a key out, by one store, and writes it. Its node is free again once a call of
+/// `rcu_map_age` has found it removed, and a later one a full grace period gone by since. The value
+/// may be freed when a full grace period has passed.
+#[unsafe(no_mangle)]
+pub extern "C" fn rcu_map_remove(rcu: &mut Rcu, key: u64, old: &mut MapEntry) -> u32
+    ensures fault { result ≡ engine_number rcu.old.contents 0 }
+    ensures removed { result ≡ 0 → IsTakenOut key rcu.old.contents old.new rcu.new.contents }
+    ensures unchanged { result ≢ 0 →
+        BothStay rcu.old.contents rcu.new.contents old.old old.new }
+{
+    match rcu.engine() {
+        Ok(opened) => {
+            *old = told(opened.map.remove(key));
+            0
+        }
+        Err(refusal) => refusal.number(),
+    }
+}
+
+/// Writes the entry of a key as it is now: under the lock no change is missed, as it may be by a
+/// section.
+#[unsafe(no_mangle)]
+pub extern "C" fn rcu_map_find(rcu: &mut Rcu, key: u64, entry: &mut MapEntry) -> u32
+    ensures fault { result ≡ engine_number rcu.old.contents 0 }
+    ensures state { rcu.new.contents ≡ rcu.old.contents }
+    ensures found { result ≡ 0 → IsFound key rcu.old.contents entry.new }
+    ensures unchanged { result ≢ 0 → entry.new ≡ entry.old }
+{
+    match rcu.engine() {
+        Ok(opened) => {
+            *entry = told(opened.map.get(key));
+            0
+        }
+        Err(refusal) => refusal.number(),
+    }
+}
+
+/// How many entries the map has. 0 where `rcu` is no open engine's.
+#[unsafe(no_mangle)]
+pub extern "C" fn rcu_map_len(rcu: &mut Rcu) -> u64
+    ensures unchanged { rcu.new.contents ≡ rcu.old.contents }
+    ensures value { result ≡ entries_in (buckets_of rcu.old.contents) (nodes_of rcu.old.contents) }
+{
+    match rcu.engine() {
+        Ok(opened) => opened.map.len() as u64,
+        Err(_) => 0,
+    }
+}
+
+/// Looks at the number: the nodes of entries that were replaced or removed wait from now on for the
+/// grace period of the cookie that this writes, and those whose grace period has passed are free.
+/// No entry changes. It costs a load, and a step for each node that waits from now on or is free.
+///
+/// Where a node is wanted (31): call it, drive until the cookie is done, and call it again.
+#[unsafe(no_mangle)]
+pub extern "C" fn rcu_map_age(rcu: &mut Rcu, cookie: &mut u64) -> u32
+    ensures fault { result ≡ engine_number rcu.old.contents 0 }
+    ensures aged { result ≡ 0 → HasAged rcu.old.contents cookie.new rcu.new.contents }
+    ensures unchanged { result ≢ 0 →
+        BothStay rcu.old.contents rcu.new.contents cookie.old cookie.new }
+{
+    match rcu.engine() {
+        Ok(opened) => {
+            let number = opened.map.age();
+            *cookie = Cookie::of(Tag::of_first_epoch(number)).number;
+            0
+        }
+        Err(refusal) => refusal.number(),
+    }
+}
