@@ -29,6 +29,8 @@ static pthread_cond_t asked = PTHREAD_COND_INITIALIZER;
 static rcu_t rcu;
 static bool making, closing;
 static pthread_t thread;
+/* How many entries the engine's map holds at most. */
+static uint64_t most_entries;
 
 static inline void must(const char *call, uint32_t fault) {
     if (fault) fprintf(stderr, "%s: %s\n", call, rcu_fault_text(fault));
@@ -109,14 +111,26 @@ static inline void ask_for(struct place *place, uint64_t cookie) {
     pthread_mutex_unlock(&lock);
 }
 
-/* ---- what the program calls; a thread that reads opens its sections by its place's seat */
-
-static inline void driver_open(void) {
-    must("open", rcu_open(CPUS, UINT64_C(1) << 62, &rcu));
+/* Deals the seats, and starts the driver's thread. */
+static inline void set_up(void) {
     for (uint32_t cpu = 0; cpu < CPUS; cpu++)
         must("seat", rcu_seat_open(&rcu, cpu, &places[cpu].seat));
     must("idle", rcu_seat_idle(&places[0].seat));
     if (pthread_create(&thread, 0, make_grace_periods, 0)) abort();
+}
+
+/* ---- what the program calls; a thread that reads opens its sections by its place's seat */
+
+static inline void driver_open(void) {
+    must("open", rcu_open(CPUS, UINT64_C(1) << 62, &rcu));
+    set_up();
+}
+
+/* The engine has a map. */
+static inline void driver_open_map(const rcu_map_sizes_t *sizes) {
+    must("open", rcu_open_map(CPUS, UINT64_C(1) << 62, sizes, &rcu));
+    most_entries = sizes->nodes - sizes->buckets;
+    set_up();
 }
 
 /* Each place that deferred has had its barrier, and none is online but processor 0's. */
@@ -212,4 +226,21 @@ static inline void driver_barrier(struct place *place) {
         wait_for(rcu_defer_cookie(&place->seat));
         pthread_mutex_unlock(&lock);
     }
+}
+
+/* Puts an entry into the map by rcu_map_insert, rcu_map_replace or rcu_map_put. Where no node is
+ * free, but one will be, it waits for that: the caller's own place is idle or offline. */
+static inline uint32_t driver_map_put(uint32_t (*put)(rcu_t *, uint64_t, uint64_t, rcu_entry_t *),
+                                      uint64_t key, uint64_t value, rcu_entry_t *old) {
+    uint64_t cookie;
+    uint32_t fault;
+    pthread_mutex_lock(&lock);
+    for (;;) {
+        must("age", rcu_map_age(&rcu, &cookie));
+        fault = put(&rcu, key, value, old);
+        if (fault != RCU_MAP_FULL || rcu_map_len(&rcu) == most_entries) break;
+        wait_for(cookie);
+    }
+    pthread_mutex_unlock(&lock);
+    return fault;
 }

@@ -9,6 +9,7 @@ enum { CPUS = 20, VALUES = 4, ROOM = 4, MOST = 3, UNTOUCHED = 99 };
 
 static rcu_t rcu;
 static rcu_seat_t seats[CPUS];
+static const rcu_map_sizes_t sizes = {.buckets = 4, .nodes = 8, .seed = 0};
 
 /* What a call is given, and what it writes to. */
 static uint32_t at;
@@ -36,6 +37,7 @@ void *__wrap_malloc(size_t size) { return is_refused() ? 0 : __real_malloc(size)
 void *__wrap_realloc(void *block, size_t size) { return is_refused() ? 0 : __real_realloc(block, size); }
 
 static uint32_t open_engine(void) { return rcu_open(CPUS, UINT64_C(1) << 62, &rcu); }
+static uint32_t open_map(void) { return rcu_open_map(CPUS, UINT64_C(1) << 62, &sizes, &rcu); }
 static uint32_t open_seat(void) { return rcu_seat_open(&rcu, at, &seats[at]); }
 static uint32_t queue(void) { return rcu_queue(&rcu, at, value, &out.place); }
 static uint32_t visit(void) { return rcu_barrier_visit(&rcu, at, &out.did); }
@@ -102,8 +104,23 @@ static void shrink(void) {
     tell("queue behind it", refuse_each("queue", queue));
 }
 
+/* No call of an open map takes memory. */
+static void use_map(void) {
+    rcu_entry_t old;
+    uint64_t cookie;
+    granted = 0;
+    for (uint64_t key = 1; key <= 4; key++) must("put", rcu_map_put(&rcu, key, 7, &old));
+    must("remove", rcu_map_remove(&rcu, 4, &old));
+    must("age", rcu_map_age(&rcu, &cookie));
+    granted = -1;
+    printf("entries: %" PRIu64 "\n", rcu_map_len(&rcu));
+}
+
 int main(void) {
     unsigned refused = 0;
+    tell("open with a map", refuse_each("open with a map", open_map));
+    use_map();
+    rcu_close(&rcu);
     tell("open", refuse_each("open", open_engine));
     for (at = 0; at < CPUS; at++) refused += refuse_each("seat", open_seat);
     tell("seats", refused);

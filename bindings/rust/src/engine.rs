@@ -3,12 +3,14 @@
 use crate::deferred::Deferred;
 use crate::error::Error;
 use crate::inner::Inner;
+use crate::map::{Map, MapSizes};
 use crate::reader::Reader;
+use crate::words::{Key, Word};
 use std::fmt;
 use std::sync::Arc;
 
 /// An engine, for up to so many readers at a time. Clones are the same engine. It goes when the
-/// last clone and the last reader are gone; then what is deferred is done first.
+/// last clone, the last map and the last reader are gone; then what is deferred is done first.
 ///
 /// ```
 /// use std::thread;
@@ -47,10 +49,41 @@ impl Engine {
     /// assert_eq!(rcu::Engine::new(0).unwrap_err(), rcu::Error::BadCount);
     /// ```
     pub fn new(readers: u32) -> Result<Engine, Error> {
+        Engine::open(readers, None)
+    }
+
+    /// An engine as [`Engine::new`], with a map, which its readers read without a lock.
+    ///
+    /// # Errors
+    /// Those too, and [`Error::BadSizes`] for a map of no bucket, or of more than 2^32 / 3 buckets
+    /// and entries.
+    ///
+    /// ```
+    /// use rcu::{Engine, MapSizes};
+    ///
+    /// # fn main() -> Result<(), rcu::Error> {
+    /// let sizes = MapSizes { buckets: 64, entries: 200, seed: 1 };
+    /// let (engine, squares) = Engine::with_map::<u32, u64>(8, sizes)?;
+    /// assert_eq!(squares.put(3, 9), Ok(None));
+    /// let mut reader = engine.reader()?;
+    /// assert_eq!(reader.read(|guard| squares.get(guard, 3)), Some(9));
+    /// # Ok(())
+    /// # }
+    /// ```
+    pub fn with_map<K: Key, V: Word>(
+        readers: u32,
+        sizes: MapSizes,
+    ) -> Result<(Engine, Map<K, V>), Error> {
+        let engine = Engine::open(readers, Some(sizes))?;
+        let map = Map::of(&engine.inner);
+        Ok((engine, map))
+    }
+
+    fn open(readers: u32, sizes: Option<MapSizes>) -> Result<Engine, Error> {
         if !(1..4096).contains(&readers) {
             return Err(Error::BadCount);
         }
-        let inner = Arc::new(Inner::open(readers)?);
+        let inner = Arc::new(Inner::open(readers, sizes)?);
         Ok(Engine { inner })
     }
 

@@ -30,10 +30,12 @@
 //! # }
 //! ```
 
-use crate::error::Error;
+use crate::error::{Error, Full};
+use crate::map::MapSizes;
 use crate::raw;
 use std::cell::{Cell, UnsafeCell};
 use std::fmt;
+use std::num::NonZeroU64;
 use std::ptr::null_mut;
 
 /// No grace period begins at this number, which none reaches.
@@ -70,6 +72,20 @@ fn must(call: &str, fault: u32) {
     }
 }
 
+/// The value of the entry that a call wrote, where it wrote one.
+fn value_of(entry: raw::rcu_entry_t) -> Option<u64> {
+    (entry.key > 0).then_some(entry.value)
+}
+
+/// What a call that puts an entry into a map returned and wrote.
+fn put_by(call: &str, fault: u32, old: raw::rcu_entry_t) -> Result<Option<u64>, Full> {
+    if fault == raw::RCU_MAP_FULL {
+        return Err(Full);
+    }
+    must(call, fault);
+    Ok(value_of(old))
+}
+
 // SAFETY of the calls here and below: as the head of the file says.
 impl EngineHandle {
     /// An engine of so many processors, of which 0 is online.
@@ -80,6 +96,28 @@ impl EngineHandle {
         let mut raw = raw::rcu_t { at: null_mut() };
         match unsafe { raw::rcu_open(cpus, LAST, &mut raw) } {
             0 => Ok(EngineHandle(raw)),
+            raw::RCU_TOO_MANY_CPUS => Err(Error::BadCount),
+            _ => Err(Error::NoMemory),
+        }
+    }
+
+    /// An engine as [`EngineHandle::open`], with a map, which is empty. (One that is opened with
+    /// none has room for no entry.)
+    ///
+    /// # Errors
+    /// Those too, and [`Error::BadSizes`] where there is no bucket, or more than 2^32 / 3 buckets
+    /// and entries.
+    pub fn open_map(cpus: u32, sizes: MapSizes) -> Result<EngineHandle, Error> {
+        let nodes = sizes.buckets.checked_add(sizes.entries);
+        let sizes = raw::rcu_map_sizes_t {
+            buckets: sizes.buckets as u64,
+            nodes: nodes.ok_or(Error::BadSizes)? as u64,
+            seed: sizes.seed,
+        };
+        let mut raw = raw::rcu_t { at: null_mut() };
+        match unsafe { raw::rcu_open_map(cpus, LAST, &sizes, &mut raw) } {
+            0 => Ok(EngineHandle(raw)),
+            raw::RCU_BAD_SIZES => Err(Error::BadSizes),
             raw::RCU_TOO_MANY_CPUS => Err(Error::BadCount),
             _ => Err(Error::NoMemory),
         }
@@ -191,6 +229,71 @@ impl EngineHandle {
         });
         &room[..count as usize]
     }
+
+    /// Puts an entry into the map where none has its key. Returns the value of the one that has it:
+    /// then nothing else happened.
+    ///
+    /// # Errors
+    /// [`Full`] where no node is free. So too below.
+    pub fn map_insert(&mut self, key: NonZeroU64, value: u64) -> Result<Option<u64>, Full> {
+        let mut old = raw::rcu_entry_t::default();
+        let fault = unsafe { raw::rcu_map_insert(&mut self.0, key.get(), value, &mut old) };
+        put_by("insert", fault, old)
+    }
+
+    /// Puts an entry in the place of the one that has its key, and returns the value of that. Where
+    /// none has it, nothing happens.
+    ///
+    /// # Errors
+    /// [`Full`].
+    pub fn map_replace(&mut self, key: NonZeroU64, value: u64) -> Result<Option<u64>, Full> {
+        let mut old = raw::rcu_entry_t::default();
+        let fault = unsafe { raw::rcu_map_replace(&mut self.0, key.get(), value, &mut old) };
+        put_by("replace", fault, old)
+    }
+
+    /// Puts an entry in, in the place of the one that has its key where there is one. Returns the
+    /// value of that.
+    ///
+    /// # Errors
+    /// [`Full`].
+    pub fn map_put(&mut self, key: NonZeroU64, value: u64) -> Result<Option<u64>, Full> {
+        let mut old = raw::rcu_entry_t::default();
+        let fault = unsafe { raw::rcu_map_put(&mut self.0, key.get(), value, &mut old) };
+        put_by("put", fault, old)
+    }
+
+    /// Takes the entry of a key out. Returns its value. Its node is free at the first
+    /// [`EngineHandle::map_age`] where the cookie of an earlier one is done.
+    pub fn map_remove(&mut self, key: NonZeroU64) -> Option<u64> {
+        let mut old = raw::rcu_entry_t::default();
+        must("remove", unsafe {
+            raw::rcu_map_remove(&mut self.0, key.get(), &mut old)
+        });
+        value_of(old)
+    }
+
+    /// The value of a key, as it is now.
+    pub fn map_find(&mut self, key: NonZeroU64) -> Option<u64> {
+        let mut entry = raw::rcu_entry_t::default();
+        must("find", unsafe {
+            raw::rcu_map_find(&mut self.0, key.get(), &mut entry)
+        });
+        value_of(entry)
+    }
+
+    /// How many entries the map has.
+    pub fn map_len(&mut self) -> usize {
+        unsafe { raw::rcu_map_len(&mut self.0) as usize }
+    }
+
+    /// Frees the nodes of replaced and removed entries whose grace period is over. Returns the
+    /// cookie at which the others can be freed.
+    pub fn map_age(&mut self) -> u64 {
+        let mut cookie = 0;
+        must("age", unsafe { raw::rcu_map_age(&mut self.0, &mut cookie) });
+        cookie
+    }
 }
 
 impl Drop for EngineHandle {
@@ -287,6 +390,27 @@ impl SeatHandle {
     #[inline]
     pub fn is_done(&self, cookie: u64) -> bool {
         unsafe { raw::rcu_seat_poll(self.raw.get(), cookie) }
+    }
+
+    /// The value of a key in the map, as the open section finds it.
+    #[inline]
+    pub fn map_get(&self, key: NonZeroU64) -> Option<u64> {
+        let mut entry = raw::rcu_entry_t::default();
+        must("get", unsafe {
+            raw::rcu_map_get(self.raw.get(), key.get(), &mut entry)
+        });
+        value_of(entry)
+    }
+
+    /// The entry behind a key in the map's order, as the open section finds it: its key and its
+    /// value. 0 stands before the first one.
+    #[inline]
+    pub fn map_next(&self, key: u64) -> Option<(NonZeroU64, u64)> {
+        let mut entry = raw::rcu_entry_t::default();
+        must("next", unsafe {
+            raw::rcu_map_next(self.raw.get(), key, &mut entry)
+        });
+        NonZeroU64::new(entry.key).map(|it| (it, entry.value))
     }
 }
 

@@ -1,8 +1,10 @@
 //! The engine under its lock, and how its grace periods are made.
 
 use crate::deferred::{is_performing, Deferred, Queue};
-use crate::error::Error;
+use crate::error::{Error, Full};
 use crate::handles::{EngineHandle, SeatHandle};
+use crate::map::MapSizes;
+use std::num::NonZeroU64;
 use std::sync::atomic::{AtomicU64, Ordering::Relaxed};
 use std::sync::{Condvar, Mutex, MutexGuard};
 
@@ -18,9 +20,12 @@ const MOST: usize = 64;
 /// No code of a caller's runs under the lock.
 const PANICKED: &str = "a thread panicked under the engine's lock";
 
+/// How an entry is put into the map. What had its key is returned.
+pub(crate) type Put = fn(&mut EngineHandle, NonZeroU64, u64) -> Result<Option<u64>, Full>;
+
 /// What lies under the lock.
 pub(crate) struct Locked {
-    rcu: EngineHandle,
+    pub(crate) rcu: EngineHandle,
     /// The seat of processor 0, which is nobody's, and idle.
     _boot: SeatHandle,
     /// Seats that no reader has. Their processors are offline.
@@ -39,6 +44,8 @@ pub(crate) struct Locked {
 /// owns a part of this: so at the drop all seats are free.
 pub(crate) struct Inner {
     pub(crate) id: u64,
+    /// How many entries its map has room for.
+    entries: usize,
     locked: Mutex<Locked>,
     quiet: Condvar,
     pub(crate) ended: Condvar,
@@ -61,14 +68,11 @@ impl Locked {
         self.runs = false;
     }
 
-    /// Goes on with the grace periods that what is deferred waits for, and waits for none.
-    fn step(&mut self) {
-        let Some(last) = self.queue.last() else {
-            return;
-        };
+    /// Goes on with the grace periods that the cookie waits for, and waits for none.
+    fn step(&mut self, cookie: u64) {
         for _ in 0..ENDS {
             if !self.runs {
-                if self.rcu.is_done(last) {
+                if self.rcu.is_done(cookie) {
                     return;
                 }
                 self.begin();
@@ -82,16 +86,20 @@ impl Locked {
 }
 
 impl Inner {
-    pub(crate) fn open(readers: u32) -> Result<Inner, Error> {
+    pub(crate) fn open(readers: u32, sizes: Option<MapSizes>) -> Result<Inner, Error> {
         static IDS: AtomicU64 = AtomicU64::new(0);
         let cpus = readers + 1;
-        let mut rcu = EngineHandle::open(cpus)?;
+        let mut rcu = match sizes {
+            Some(sizes) => EngineHandle::open_map(cpus, sizes)?,
+            None => EngineHandle::open(cpus)?,
+        };
         let boot = rcu.seat(0)?;
         boot.idle();
         let free = (1..cpus as usize).map(|it| rcu.seat(it));
         let free = free.collect::<Result<Vec<_>, _>>()?;
         Ok(Inner {
             id: IDS.fetch_add(1, Relaxed),
+            entries: sizes.map_or(0, |it| it.entries),
             locked: Mutex::new(Locked {
                 rcu,
                 _boot: boot,
@@ -187,7 +195,7 @@ impl Inner {
         let is_time = locked.queue.queued() % EACH == 0;
         if is_time && locked.drivers == 0 && !is_performing() {
             if !locked.making {
-                locked.step();
+                locked.step(cookie);
             }
             self.perform(locked, MOST);
         }
@@ -212,6 +220,38 @@ impl Inner {
             Some(cookie) => self.perform(self.wait_for(locked, cookie), usize::MAX),
             None => 0,
         }
+    }
+
+    /// Puts an entry into the map. Where no node is free, but one will be, it waits for that.
+    pub(crate) fn put(&self, put: Put, key: NonZeroU64, value: u64) -> Result<Option<u64>, Full> {
+        let mut locked = self.lock();
+        loop {
+            let cookie = locked.rcu.map_age();
+            let done = put(&mut locked.rcu, key, value);
+            if done.is_ok() || locked.rcu.map_len() == self.entries {
+                return done;
+            }
+            locked = self.wait_for(locked, cookie);
+        }
+    }
+
+    /// Puts an entry into the map. Where no node is free it goes on with the grace periods, and
+    /// waits for none.
+    pub(crate) fn try_put(
+        &self,
+        put: Put,
+        key: NonZeroU64,
+        value: u64,
+    ) -> Result<Option<u64>, Full> {
+        let mut locked = self.lock();
+        let cookie = locked.rcu.map_age();
+        let done = put(&mut locked.rcu, key, value);
+        if done.is_ok() || locked.making || locked.rcu.map_len() == self.entries {
+            return done;
+        }
+        locked.step(cookie);
+        locked.rcu.map_age();
+        put(&mut locked.rcu, key, value)
     }
 
     /// A seat whose processor is online from now on.
@@ -243,18 +283,26 @@ impl Drop for Inner {
 
 #[cfg(test)]
 mod tests {
-    use crate::{Engine, Shared};
+    use crate::{Engine, MapSizes, Shared};
 
     /// (A thread that took a lock which it has would wait for ever.)
     #[test]
     fn a_reader_takes_no_lock() {
-        let engine = Engine::new(1).unwrap();
+        let sizes = MapSizes {
+            buckets: 1,
+            entries: 1,
+            seed: 0,
+        };
+        let (engine, map) = Engine::with_map(1, sizes).unwrap();
         let shared = Shared::new(&engine, 7);
+        map.insert(1, 7).unwrap();
         let mut reader = engine.reader().unwrap();
         let locked = engine.inner.lock();
         for _ in 0..100 {
             assert_eq!(*shared.load(&reader.enter()), 7);
             assert_eq!(reader.read(|guard| *shared.load(guard)), 7);
+            assert_eq!(reader.read(|guard| map.get(guard, 1)), Some(7));
+            assert!(map.iter(&reader.enter()).eq([(1, 7)]));
             reader.quiesce();
             reader.while_idle(|| ());
         }

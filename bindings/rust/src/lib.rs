@@ -26,10 +26,12 @@
 //! ```
 //!
 //! Who replaces and defers does now and then what is due, and waits for nobody ([`Engine::defer`]).
-//! A program with much to defer has a thread for it ([`Engine::drive`]).
+//! A program with much to defer has a thread for it ([`Engine::drive`]). An engine may have a table
+//! of words, which sections read by keys ([`Map`]).
 //!
 //! **What is proved.** The engine: that a cookie is done only where each section that was open at
-//! its taking has ended. The page docs/C.md of its repository says what of it holds for a caller.
+//! its taking has ended. And its map. The page docs/C.md of its repository says what of it holds
+//! for a caller.
 //!
 //! **What is not.** The lines of this crate. They keep what the header asks of a caller: a seat is
 //! used by one thread at a time, the engine under its lock, both go at the end. And they use the
@@ -53,13 +55,17 @@ mod error;
 #[allow(clippy::undocumented_unsafe_blocks)] // its head has the reason for all
 pub mod handles;
 mod inner;
+mod map;
 mod reader;
 #[allow(clippy::undocumented_unsafe_blocks)] // its head has the reason for all
 pub mod replica;
 mod shared;
+mod words;
 
 pub use engine::Engine;
-pub use error::Error;
+pub use error::{Error, Full};
+pub use map::{Entries, Map, MapSizes};
 pub use rcu_sys as raw;
 pub use reader::{Guard, Reader};
 pub use shared::Shared;
+pub use words::{Key, Word};

@@ -230,6 +230,11 @@ impl Guard<'_> {
     pub(crate) fn id(&self) -> u64 {
         self.reader.inner.id
     }
+
+    /// The seat of its reader, whose section is open.
+    pub(crate) fn seat(&self) -> &SeatHandle {
+        &self.reader.seat
+    }
 }
 
 impl Drop for Guard<'_> {

@@ -1,0 +1,366 @@
+//! The map of an engine: threads that read and update it, one that is full, and all that it answers
+//! beside a map of std's.
+
+use rcu::{Engine, Error, Full, Key, Map, MapSizes, Word};
+use std::collections::HashMap;
+use std::fmt::Debug;
+use std::num::NonZeroU64;
+use std::panic::{catch_unwind, AssertUnwindSafe};
+use std::sync::atomic::{AtomicBool, Ordering::SeqCst};
+use std::sync::Barrier;
+use std::thread;
+use std::time::Duration;
+
+/// A map is for all threads, whatever it has.
+const _: fn() = || {
+    fn may_be_shared<T: Send + Sync>() {}
+    may_be_shared::<Map<u32, u64>>();
+};
+
+fn sizes(buckets: usize, entries: usize) -> MapSizes {
+    MapSizes {
+        buckets,
+        entries,
+        seed: 7,
+    }
+}
+
+/// Drawn numbers, the same in each run.
+struct Draws(u64);
+
+impl Draws {
+    fn below(&mut self, end: u64) -> u64 {
+        self.0 ^= self.0 << 13;
+        self.0 ^= self.0 >> 7;
+        self.0 ^= self.0 << 17;
+        self.0 % end
+    }
+}
+
+fn panics<T>(call: impl FnOnce() -> T) -> bool {
+    catch_unwind(AssertUnwindSafe(call)).is_err()
+}
+
+#[test]
+fn a_key_that_stays_is_found_and_listed_while_others_come_and_go() {
+    const READERS: u32 = 3;
+    const STAY: u32 = 16;
+    const KEYS: u32 = 48;
+    const ROUNDS: u64 = 2000;
+    let (engine, map) = Engine::with_map::<u32, u64>(READERS, sizes(8, 56)).unwrap();
+    for key in 0..STAY {
+        map.insert(key, u64::from(key)).unwrap();
+    }
+    // A key's values go up, in steps of KEYS.
+    let is_of = |key: u32, value: u64| value % u64::from(KEYS) == u64::from(key);
+    let (over, begun) = (AtomicBool::new(false), Barrier::new(READERS as usize + 2));
+    thread::scope(|scope| {
+        for _ in 0..READERS {
+            scope.spawn(|| {
+                let mut reader = engine.reader().unwrap();
+                let mut last = [0; STAY as usize];
+                reader.while_idle(|| begun.wait());
+                while !over.load(SeqCst) {
+                    reader.read(|guard| {
+                        for key in 0..STAY {
+                            let value = map.get(guard, key).expect("the key stays");
+                            assert!(is_of(key, value) && value >= last[key as usize]);
+                            last[key as usize] = value;
+                        }
+                    });
+                    reader.read(|guard| {
+                        let mut listed: Vec<u32> = Vec::new();
+                        for (key, value) in map.iter(guard) {
+                            assert!(is_of(key, value));
+                            listed.push(key);
+                        }
+                        listed.sort();
+                        assert!(listed.windows(2).all(|it| it[0] < it[1]));
+                        assert!(listed.into_iter().take(STAY as usize).eq(0..STAY));
+                    });
+                }
+            });
+        }
+        let updaters: Vec<_> = (0..2)
+            .map(|me| {
+                let (map, begun) = (map.clone(), &begun);
+                scope.spawn(move || {
+                    begun.wait();
+                    for round in 1..=ROUNDS {
+                        let value = |key: u32| round * u64::from(KEYS) + u64::from(key);
+                        let stays = 2 * (round as u32 % (STAY / 2)) + me;
+                        assert!(map.replace(stays, value(stays)).unwrap().is_some());
+                        let comes = STAY + 2 * (round as u32 * 5 % ((KEYS - STAY) / 2)) + me;
+                        let there = map.find(comes);
+                        let old = match round % 3 {
+                            0 => map.remove(comes),
+                            1 => map.insert(comes, value(comes)).unwrap(),
+                            _ => map.put(comes, value(comes)).unwrap(),
+                        };
+                        assert_eq!(old, there);
+                    }
+                })
+            })
+            .collect();
+        updaters.into_iter().for_each(|it| it.join().unwrap());
+        over.store(true, SeqCst);
+    });
+}
+
+type Call<K, V> = fn(&Map<K, V>, K, V) -> Result<Option<V>, Full>;
+
+#[test]
+fn it_answers_as_a_map_of_std_does() {
+    const ROOM: usize = 20;
+    let calls: [(Call<i32, i64>, Call<i32, i64>); 3] = [
+        (Map::insert, Map::try_insert),
+        (Map::replace, Map::try_replace),
+        (Map::put, Map::try_put),
+    ];
+    for buckets in [1, 5, 64] {
+        let (engine, map) = Engine::with_map(1, sizes(buckets, ROOM)).unwrap();
+        let mut reader = engine.reader().unwrap();
+        let (mut model, mut draws) = (HashMap::new(), Draws(buckets as u64));
+        for round in 0..4000 {
+            let (key, value) = (draws.below(30) as i32 - 15, round - 2000);
+            let (there, fits) = (model.get(&key).copied(), model.len() < ROOM);
+            let which = draws.below(4) as usize;
+            if which < 3 {
+                let wants = [there.is_none(), there.is_some(), true][which];
+                let wanted = if fits || !wants { Ok(there) } else { Err(Full) };
+                let (waits, tries) = calls[which];
+                let call = if draws.below(2) == 0 { waits } else { tries };
+                assert_eq!(reader.while_idle(|| call(&map, key, value)), wanted);
+                if wants && fits {
+                    model.insert(key, value);
+                }
+            } else {
+                assert_eq!(map.remove(key), model.remove(&key));
+            }
+            assert_eq!(map.find(key), model.get(&key).copied());
+            assert_eq!((map.len(), map.is_empty()), (model.len(), model.is_empty()));
+            let guard = reader.enter();
+            assert_eq!(map.get(&guard, key), model.get(&key).copied());
+            let mut listed: Vec<_> = map.iter(&guard).collect();
+            listed.sort();
+            let mut wanted: Vec<_> = model.clone().into_iter().collect();
+            wanted.sort();
+            assert_eq!(listed, wanted);
+        }
+    }
+}
+
+#[test]
+fn what_a_section_may_read_keeps_its_room() {
+    let (engine, map) = Engine::with_map::<u8, u8>(1, sizes(1, 2)).unwrap();
+    assert_eq!((map.insert(1, 10), map.insert(2, 20)), (Ok(None), Ok(None)));
+    for call in [Map::insert, Map::try_insert, Map::put, Map::try_put] {
+        assert_eq!(call(&map, 3, 30), Err(Full));
+    }
+    for call in [Map::replace, Map::try_replace, Map::put, Map::try_put] {
+        assert_eq!(call(&map, 1, 11), Err(Full));
+    }
+    assert_eq!(
+        (map.insert(1, 11), map.replace(3, 30)),
+        (Ok(Some(10)), Ok(None))
+    );
+    let reader = engine.reader().unwrap();
+    let guard = reader.enter();
+    assert_eq!(map.remove(2), Some(20));
+    assert_eq!(map.try_put(3, 30), Err(Full));
+    let own = map.clone();
+    let waiter = thread::spawn(move || own.put(3, 30));
+    thread::sleep(Duration::from_millis(20));
+    assert!(!waiter.is_finished());
+    let seen = (map.get(&guard, 1), map.get(&guard, 3));
+    assert_eq!(seen, (Some(10), None));
+    drop(guard);
+    drop(reader);
+    assert_eq!(waiter.join().unwrap(), Ok(None));
+    assert_eq!((map.len(), map.find(3)), (2, Some(30)));
+}
+
+#[test]
+fn several_threads_wait_for_room() {
+    const ROOM: usize = 4;
+    let (engine, map) = Engine::with_map::<u32, usize>(1, sizes(2, ROOM)).unwrap();
+    for round in 0..20 {
+        let reader = engine.reader().unwrap();
+        let guard = reader.enter();
+        for key in 0..ROOM as u32 {
+            let old = map.remove(key);
+            assert_eq!(old, (round > 0).then(|| round - 1));
+        }
+        let put = |key| {
+            let own = map.clone();
+            thread::spawn(move || own.put(key, round))
+        };
+        let waiters: Vec<_> = (0..ROOM as u32).map(put).collect();
+        drop(guard);
+        drop(reader);
+        for waiter in waiters {
+            assert_eq!(waiter.join().unwrap(), Ok(None));
+        }
+    }
+}
+
+#[test]
+fn updates_go_on_beside_deferral_and_a_driver() {
+    let (engine, map) = Engine::with_map::<u32, u32>(2, sizes(4, 8)).unwrap();
+    thread::scope(|scope| {
+        let driver = scope.spawn(|| engine.drive());
+        let updaters: Vec<_> = (0..3)
+            .map(|me| {
+                let (engine, map) = (&engine, &map);
+                scope.spawn(move || {
+                    for round in 0..300 {
+                        let own = map.clone();
+                        engine.defer(move || {
+                            own.remove(10 + me);
+                        });
+                        assert!(map.put(me, round).is_ok());
+                        if map.try_put(10 + me, round).is_err() {
+                            engine.synchronize();
+                        }
+                    }
+                })
+            })
+            .collect();
+        updaters.into_iter().for_each(|it| it.join().unwrap());
+        engine.barrier();
+        engine.stop();
+        driver.join().unwrap();
+    });
+    assert!((0..3).all(|key| map.find(key) == Some(299)));
+}
+
+#[test]
+fn maps_are_told_apart() {
+    let (one, map) = Engine::with_map::<u8, u8>(1, sizes(1, 1)).unwrap();
+    let (other, _) = Engine::with_map::<u8, u8>(1, sizes(1, 1)).unwrap();
+    map.insert(1, 10).unwrap();
+    let reader = other.reader().unwrap();
+    let guard = reader.enter();
+    assert!(panics(|| map.get(&guard, 1)));
+    assert!(panics(|| map.iter(&guard).count()));
+    assert_eq!(map.get(&one.reader().unwrap().enter(), 1), Some(10));
+}
+
+#[test]
+fn a_map_keeps_its_engine() {
+    let (engine, map) = Engine::with_map::<u8, u8>(1, sizes(1, 1)).unwrap();
+    let (own, reader) = (map.clone(), engine.reader().unwrap());
+    drop((engine, map));
+    own.insert(1, 10).unwrap();
+    assert_eq!(own.get(&reader.enter(), 1), Some(10));
+    drop(reader);
+    assert_eq!(own.replace(1, 11), Err(Full));
+    assert_eq!((own.remove(1), own.insert(2, 20)), (Some(10), Ok(None)));
+}
+
+#[test]
+fn sizes_that_no_map_has_are_refused() {
+    const ALL: usize = usize::MAX;
+    let open = |readers, sizes| Engine::with_map::<u8, u8>(readers, sizes).err();
+    for (buckets, entries) in [
+        (0, 8),
+        (1 << 32, 0),
+        (1, 1 << 32),
+        (ALL, 1),
+        (1, ALL),
+        (ALL, ALL),
+    ] {
+        assert_eq!(open(1, sizes(buckets, entries)), Some(Error::BadSizes));
+    }
+    assert_eq!(open(0, sizes(1, 1)), Some(Error::BadCount));
+    assert_eq!(open(4096, sizes(1, 1)), Some(Error::BadCount));
+    let (engine, map) = Engine::with_map::<u8, u8>(1, sizes(1, 0)).unwrap();
+    assert_eq!((map.put(1, 1), map.try_put(1, 1)), (Err(Full), Err(Full)));
+    assert_eq!((map.remove(1), map.len()), (None, 0));
+    let reader = engine.reader().unwrap();
+    assert_eq!(map.iter(&reader.enter()).next(), None);
+}
+
+/// Puts each value at each key, and reads them all.
+fn keeps<K, V>(keys: &[K], values: &[V])
+where
+    K: Key + Debug + PartialEq,
+    V: Word + Debug + PartialEq,
+{
+    let (engine, map) = Engine::with_map(1, sizes(4, keys.len() + 1)).unwrap();
+    for &value in values {
+        for &key in keys {
+            map.put(key, value).unwrap();
+            assert_eq!(map.find(key), Some(value));
+        }
+        let reader = engine.reader().unwrap();
+        let guard = reader.enter();
+        let listed: Vec<_> = map.iter(&guard).collect();
+        assert_eq!(listed.len(), keys.len());
+        for &key in keys {
+            assert_eq!(map.get(&guard, key), Some(value));
+            assert!(listed.contains(&(key, value)));
+        }
+    }
+}
+
+#[test]
+fn keys_and_values_come_out_as_they_went_in() {
+    keeps(&[0, 1, u8::MAX], &[0, u8::MAX]);
+    keeps(&[0, 1, u16::MAX], &[0, u16::MAX]);
+    keeps(&[0, 1, u32::MAX], &[0, u32::MAX]);
+    keeps(&[i8::MIN, -1, 0, i8::MAX], &[i8::MIN, -1, 0, i8::MAX]);
+    keeps(&[i16::MIN, -1, 0, i16::MAX], &[i16::MIN, -1, 0, i16::MAX]);
+    keeps(&[i32::MIN, -1, 0, i32::MAX], &[i32::MIN, -1, 0, i32::MAX]);
+    keeps(&[NonZeroU64::MIN, NonZeroU64::MAX], &[0, u64::MAX]);
+    keeps(
+        &['\0', 'a', char::MAX],
+        &['\0', '\u{d7ff}', '\u{e000}', char::MAX],
+    );
+    keeps(&[7u8], &[i64::MIN, -1, i64::MAX]);
+    keeps(&[7u8], &[0, usize::MAX]);
+    keeps(&[7u8], &[isize::MIN, -1, isize::MAX]);
+    keeps(&[7u8], &[true, false]);
+}
+
+/// A key and a value that panic as they are told.
+#[derive(Clone, Copy, Debug, PartialEq)]
+struct Fragile(u64);
+
+impl Key for Fragile {
+    fn to_key(self) -> NonZeroU64 {
+        NonZeroU64::new(self.0).expect("a key")
+    }
+
+    fn of_key(word: NonZeroU64) -> Fragile {
+        Fragile(word.get())
+    }
+}
+
+impl Word for Fragile {
+    fn to_word(self) -> u64 {
+        assert!(self.0 != 13, "going in");
+        self.0
+    }
+
+    fn of_word(word: u64) -> Fragile {
+        assert!(word != 14, "coming out");
+        Fragile(word)
+    }
+}
+
+#[test]
+fn a_key_or_a_value_that_panics_leaves_the_map_as_it_is() {
+    let (engine, map) = Engine::with_map::<Fragile, Fragile>(1, sizes(2, 3)).unwrap();
+    let mut reader = engine.reader().unwrap();
+    assert!(panics(|| map.put(Fragile(0), Fragile(1))));
+    assert!(panics(|| map.put(Fragile(1), Fragile(13))));
+    assert!(panics(|| map.find(Fragile(0))));
+    assert_eq!(map.len(), 0);
+    map.put(Fragile(1), Fragile(14)).unwrap();
+    assert!(panics(|| map.find(Fragile(1))));
+    assert!(panics(|| reader.read(|guard| map.get(guard, Fragile(1)))));
+    assert!(panics(|| reader.read(|guard| map.iter(guard).count())));
+    assert!(panics(|| map.remove(Fragile(1))));
+    assert_eq!((map.len(), map.find(Fragile(1))), (0, None));
+}

@@ -1,0 +1,255 @@
+/* Three threads read a table, key by key and entry by entry, while one updates it, with a driver
+ * that sleeps (driver.h). Its values are records: one is freed once no section can have found it.
+ * A key that stays is found at each look, also while its record is replaced. Then what a map
+ * refuses. */
+#define _POSIX_C_SOURCE 200809L
+enum { READERS = 3, CPUS = 1 + READERS, STAY = 16, KEYS = 64, SPARE = 8, UPDATES = 2000 };
+
+#include "driver.h"
+#include <inttypes.h>
+#include <stdatomic.h>
+
+/* What a value is the place of. Keys 1 to STAY are there at any time, those up to KEYS come and
+ * go. */
+struct record {
+    rcu_link_t link; /* at first */
+    uint64_t key, count, twice;
+};
+
+static atomic_bool over;
+static atomic_uint wrong;
+static uint64_t made, freed;
+static pthread_barrier_t start;
+
+static void count_wrong(void) {
+    atomic_fetch_add_explicit(&wrong, 1, memory_order_relaxed);
+}
+
+/* ---- who reads */
+
+/* Whether an entry leads to its record. The thread sanitizer does not see what the map orders. */
+static bool is_whole(const rcu_entry_t *entry) {
+    struct record *record = (struct record *)(uintptr_t)entry->value;
+    RCU_SANITIZER_ACQUIRE(record);
+    return record->key == entry->key && record->twice == 2 * record->count;
+}
+
+static void look_up(rcu_seat_t *seat) {
+    rcu_entry_t entry;
+    for (uint64_t key = 1; key <= KEYS; key++) {
+        must("get", rcu_map_get(seat, key, &entry));
+        if (entry.key == 0 ? key <= STAY : entry.key != key || !is_whole(&entry)) count_wrong();
+    }
+}
+
+/* Each key that stays is listed, and none is listed twice. */
+static void list_all(rcu_seat_t *seat) {
+    const uint64_t stay = (UINT64_C(1) << STAY) - 1;
+    uint64_t listed = 0;
+    rcu_entry_t entry = {0, 0};
+    for (;;) {
+        must("next", rcu_map_next(seat, entry.key, &entry));
+        if (entry.key == 0) break;
+        uint64_t its = UINT64_C(1) << (entry.key - 1);
+        if ((listed & its) != 0 || !is_whole(&entry)) count_wrong();
+        listed |= its;
+    }
+    if ((listed & stay) != stay) count_wrong();
+}
+
+static void *read_table(void *it) {
+    struct place *place = it;
+    uint32_t depth;
+    pthread_barrier_wait(&start);
+    driver_arrive(place);
+    do {
+        must("enter", rcu_seat_enter(&place->seat, &depth));
+        look_up(&place->seat);
+        list_all(&place->seat);
+        must("exit", rcu_seat_exit(&place->seat, &depth));
+        driver_quiesce(place);
+    } while (!atomic_load_explicit(&over, memory_order_acquire));
+    driver_depart(place);
+    return 0;
+}
+
+/* ---- who updates: the main thread, by place 0, which is idle */
+
+static struct record *new_record(uint64_t key) {
+    struct record *record = malloc(sizeof *record);
+    if (!record) abort();
+    record->key = key;
+    record->count = ++made;
+    record->twice = 2 * record->count;
+    RCU_SANITIZER_RELEASE(record);
+    return record;
+}
+
+static void free_record(rcu_link_t *link) {
+    struct record *record = (struct record *)link;
+    record->twice = 1;
+    free(record);
+    freed++;
+}
+
+static void free_later(const rcu_entry_t *old) {
+    driver_defer(&places[0], &((struct record *)(uintptr_t)old->value)->link, free_record);
+}
+
+/* Replaces the record of a key that is there. */
+static void replace(uint64_t key) {
+    rcu_entry_t old;
+    struct record *record = new_record(key);
+    must("replace", driver_map_put(rcu_map_replace, key, (uintptr_t)record, &old));
+    if (old.key != key) count_wrong();
+    free_later(&old);
+}
+
+/* Puts a record in, be the key there or not. */
+static void put(uint64_t key) {
+    rcu_entry_t old;
+    struct record *record = new_record(key);
+    must("put", driver_map_put(rcu_map_put, key, (uintptr_t)record, &old));
+    if (old.key) free_later(&old);
+}
+
+static void take_out(uint64_t key) {
+    rcu_entry_t old;
+    pthread_mutex_lock(&lock);
+    must("remove", rcu_map_remove(&rcu, key, &old));
+    pthread_mutex_unlock(&lock);
+    if (old.key) free_later(&old);
+}
+
+/* Puts a record in where the key is not there, and takes the one out that is. */
+static void come_or_go(uint64_t key) {
+    rcu_entry_t old;
+    struct record *record = new_record(key);
+    must("insert", driver_map_put(rcu_map_insert, key, (uintptr_t)record, &old));
+    if (!old.key) return;
+    free_record(&record->link);
+    take_out(key);
+}
+
+static uint64_t count_entries(void) {
+    pthread_mutex_lock(&lock);
+    uint64_t count = rcu_map_len(&rcu);
+    pthread_mutex_unlock(&lock);
+    return count;
+}
+
+static void update_table(void) {
+    pthread_t readers[READERS];
+    rcu_map_sizes_t sizes = {.buckets = 8, .nodes = 8 + KEYS + SPARE, .seed = 1};
+    pthread_barrier_init(&start, 0, READERS + 1);
+    driver_open_map(&sizes);
+    for (uint64_t key = 1; key <= STAY; key++) come_or_go(key);
+    for (unsigned i = 0; i < READERS; i++)
+        if (pthread_create(&readers[i], 0, read_table, &places[1 + i])) abort();
+    pthread_barrier_wait(&start);
+    for (uint64_t i = 0; i < UPDATES; i++) {
+        replace(1 + i % STAY);
+        if (i % 2) put(STAY + 1 + i * 5 % (KEYS - STAY));
+        else come_or_go(STAY + 1 + i * 7 % (KEYS - STAY));
+    }
+    atomic_store_explicit(&over, true, memory_order_release);
+    for (unsigned i = 0; i < READERS; i++) pthread_join(readers[i], 0);
+    uint64_t entries = count_entries();
+    for (uint64_t key = 1; key <= KEYS; key++) take_out(key);
+    driver_barrier(&places[0]);
+    printf("%" PRIu64 " records made, %" PRIu64 " freed; %" PRIu64 " entries, then %" PRIu64
+           "; read wrong %u\n", made, freed, entries, count_entries(), atomic_load(&wrong));
+    driver_close();
+    pthread_barrier_destroy(&start);
+}
+
+/* ---- what is refused */
+
+static void tell(const char *what, uint32_t fault) { printf("%s: %" PRIu32 "\n", what, fault); }
+
+static void refuse_sizes(void) {
+    rcu_t none = {0};
+    static const rcu_map_sizes_t bad[] = {
+        {0, 8, 0}, {8, 7, 0}, {8, UINT64_C(1) << 32, 0}, {UINT64_MAX, UINT64_MAX, 0}};
+    printf("bad sizes:");
+    for (unsigned i = 0; i < sizeof bad / sizeof *bad; i++)
+        printf(" %" PRIu32, rcu_open_map(0, 3, &bad[i], &none));
+    printf("\n");
+    rcu_map_sizes_t sizes = {8, 8, 0};
+    tell("no processor", rcu_open_map(0, 3, &sizes, &none));
+    tell("a bad last number", rcu_open_map_as(1, 3, rcu_new_identity(), &sizes, &none));
+}
+
+/* What each call returns on these handles, for this key. */
+static void tell_all(const char *handles, rcu_t *engine, rcu_seat_t *seat, uint64_t key) {
+    rcu_entry_t entry;
+    uint64_t cookie;
+    const uint32_t told[] = {
+        rcu_map_insert(engine, key, 7, &entry), rcu_map_replace(engine, key, 7, &entry),
+        rcu_map_put(engine, key, 7, &entry),    rcu_map_remove(engine, key, &entry),
+        rcu_map_find(engine, key, &entry),      rcu_map_age(engine, &cookie),
+        rcu_map_get(seat, key, &entry),         rcu_map_next(seat, key, &entry)};
+    printf("%s:", handles);
+    for (unsigned i = 0; i < sizeof told / sizeof *told; i++) printf(" %" PRIu32, told[i]);
+    printf("; entries: %" PRIu64 "\n", rcu_map_len(engine));
+}
+
+/* Until the cookie is done: no processor of the engine is awaited. */
+static void pass_grace_periods(rcu_t *engine, uint64_t cookie) {
+    rcu_turn_t turn;
+    while (!rcu_poll(engine, cookie)) must("drive", rcu_drive_for(engine, cookie, &turn));
+}
+
+/* A map with room for two entries. */
+static void fill(rcu_t *engine, rcu_seat_t *seat) {
+    rcu_entry_t old;
+    uint64_t cookie;
+    uint32_t depth;
+    must("insert", rcu_map_insert(engine, 1, 10, &old));
+    must("insert", rcu_map_insert(engine, 2, 20, &old));
+    tell("full, an insertion", rcu_map_insert(engine, 3, 30, &old));
+    tell("a replacement", rcu_map_replace(engine, 1, 11, &old));
+    tell("either", rcu_map_put(engine, 1, 11, &old));
+    tell("an insertion of a key that is there", rcu_map_insert(engine, 1, 11, &old));
+    printf("it has %" PRIu64 "\n", old.value);
+    tell("a replacement of a key that is not there", rcu_map_replace(engine, 3, 30, &old));
+    must("remove", rcu_map_remove(engine, 2, &old));
+    tell("behind a removal", rcu_map_insert(engine, 3, 30, &old));
+    must("age", rcu_map_age(engine, &cookie));
+    tell("once the node waits", rcu_map_insert(engine, 3, 30, &old));
+    pass_grace_periods(engine, cookie);
+    must("age", rcu_map_age(engine, &cookie));
+    tell("a grace period later", rcu_map_insert(engine, 3, 30, &old));
+    tell("a look in no section", rcu_map_get(seat, 3, &old));
+    tell("a next one in no section", rcu_map_next(seat, 0, &old));
+    must("pin", rcu_seat_pin(seat, &depth));
+    must("get", rcu_map_get(seat, 3, &old));
+    printf("a section finds %" PRIu64 "\n", old.value);
+    printf("insert, replace, put, remove, find, age, get, next:\n");
+    tell_all("key 0", engine, seat, 0);
+    must("unpin", rcu_seat_unpin(seat, &depth));
+}
+
+static void refuse_calls(void) {
+    rcu_map_sizes_t sizes = {.buckets = 1, .nodes = 3, .seed = 0};
+    rcu_t engine = {0}, closed = {0};
+    rcu_seat_t seat = {0}, no_seat = {0};
+    must("open", rcu_open_map(1, 8, &sizes, &engine));
+    must("seat", rcu_seat_open(&engine, 0, &seat));
+    must("idle", rcu_seat_idle(&seat));
+    fill(&engine, &seat);
+    tell_all("closed", &closed, &no_seat, 3);
+    tell_all("of the other kind", (rcu_t *)&seat, (rcu_seat_t *)&engine, 3);
+    rcu_seat_close(&seat);
+    rcu_close(&engine);
+    must("open", rcu_open(1, 8, &engine));
+    tell_all("a map of no entry, a closed seat", &engine, &seat, 3);
+    rcu_close(&engine);
+}
+
+int main(void) {
+    update_table();
+    refuse_sizes();
+    refuse_calls();
+    return 0;
+}
