@@ -2,10 +2,11 @@
 ghost use Rattle.std.specs.Prelude.{◌≡◌, ◌<◌, slice_index};
 ghost use Rattle.rcu_live.specs.CpuSeat.{after_word_step};
 ghost use Rattle.rcu_graph.specs.Graph.{IsWalking};
+ghost use Rattle.rcu_graph.specs.Opening.{row_of};
 ghost use Rattle.rcu_cell.specs.Cell.{IsLoaded, ReadsSlot, version_in};
 
 use crate::shape::{CellSeat, OneLink, Version};
-use rcu_graph::Graph;
+use rcu_graph::{Graph, Row};
 use std::marker::Model;
 
 /// A value of `W` words among the shared words of a running engine. Each version that is published
@@ -45,6 +46,15 @@ impl<F: Version<W>, const W: usize> Cell<F, W> {
         Cell { graph }
     }
 
+    /// The row of each node, by constants: what waits for a load multiplies by no other number.
+    fn row(&self) -> Row
+        ensures { result ≡ row_of self.now.plan }
+    {
+        // A borrow of a field shows the prover what the type keeps: that a node has one link.
+        let _ = &self.graph;
+        Row { links: 1, words: W }
+    }
+
     /// Loads which slot is shown, and returns it: the open section reads its version from now on,
     /// as it was published, until it closes or loads again (Linux's `rcu_dereference`).
     pub fn load(&self, seat: &mut CellSeat<F, W>) -> usize
@@ -57,7 +67,7 @@ impl<F: Version<W>, const W: usize> Cell<F, W> {
         // A borrow of a field shows the prover what the type keeps: that there is one root.
         let graph = &self.graph;
         graph.plan();
-        graph.follow(seat, 1 + W, 0, 0).unwrap_or(0)
+        graph.follow(seat, self.row(), 0, 0).unwrap_or(0)
     }
 
     /// Loads a word of the version that the section reads: the one that it had when it was loaded.
@@ -70,6 +80,6 @@ impl<F: Version<W>, const W: usize> Cell<F, W> {
         // A borrow of a field shows the prover what the type keeps: that there is one root.
         let graph = &self.graph;
         graph.plan();
-        graph.read(seat, 1 + W, slot, word)
+        graph.read(seat, self.row(), slot, word)
     }
 }

@@ -8,6 +8,7 @@ use Rattle.rcu_graph.specs.declared.not_opened.NotOpened.{NotOpened}
 use Rattle.rcu_graph.specs.declared.not_opened.NotOpened.TheVariants.{BadSizes}
 use Rattle.rcu_graph.specs.declared.not_opened.NotOpened.TheVariants as not_opened
 use Rattle.rcu_graph.specs.declared.plan.Plan.{Plan}
+use Rattle.rcu_graph.specs.declared.plan.Row.{Row}
 
 -- a graph may be as large as that: the roots are nodes, each node has a word, and all links and
 -- words fit in memory
@@ -16,6 +17,10 @@ pub record IsSized (plan : Plan) : Type 0 where
   pub inside : plan.roots ≤ plan.nodes
   pub row : plan.links + plan.words ≤ 2 ^ 32
   pub small : (plan.links + plan.words) * plan.nodes ≤ 2 ^ 32
+
+-- the row of each node
+abbrev pub row_of : Plan → Row
+row_of plan = record { links = plan.links; words = plan.words }
 
 -- the fault that the tests of an opening found that has good sizes: none where it is accepted, or
 -- where memory is refused

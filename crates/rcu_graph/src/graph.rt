@@ -5,11 +5,12 @@ ghost use Rattle.std.specs.Arc.{arc_value};
 ghost use Rattle.rcu_live.specs.CpuSeat.{after_word_step};
 ghost use Rattle.rcu_graph.specs.Graph.{IsAt, IsWalking, word_to};
 ghost use Rattle.rcu_graph.specs.Nodes.{IsOn, first_place, place_of};
+ghost use Rattle.rcu_graph.specs.Opening.{row_of};
 ghost use Rattle.rcu_graph.specs.Steps.{Followed};
 
 use crate::allowed::{follow_is_allowed, read_is_allowed};
 use crate::places::place_of;
-use crate::plan::Plan;
+use crate::plan::{Plan, Row};
 use crate::rule::{Follow, GraphRule, GraphSeat, Read, Shape};
 use rcu_live::Board;
 use std::alloc::{AllocError, Global};
@@ -79,18 +80,16 @@ impl<F: Shape> Graph<F> {
         self.plan
     }
 
-    /// How long a node's row is: how many links and words it has.
-    pub fn row(&self) -> usize
-        ensures { result ≡ self.now.plan.links + self.now.plan.words }
+    /// The row of each of its nodes.
+    pub fn row(&self) -> Row
+        ensures { result ≡ row_of self.now.plan }
     {
-        // A borrow of a field shows the prover what the type keeps: that the words fit in memory.
-        let plan = &self.plan;
-        plan.links + plan.words
+        self.plan().row()
     }
 
     /// The place of the cell `k` of a node's row: its links stand there, and its words behind them.
-    pub(crate) fn place(&self, row: usize, node: usize, k: usize) -> usize
-        requires row { row ≡ self.now.plan.links + self.now.plan.words }
+    pub(crate) fn place(&self, row: Row, node: usize, k: usize) -> usize
+        requires row { row ≡ row_of self.now.plan }
         requires node { node < self.now.plan.nodes }
         requires inside { k < self.now.plan.links + self.now.plan.words }
         ensures place { result ≡ place_of (self.now.plan.links + self.now.plan.words) node k }
@@ -99,7 +98,7 @@ impl<F: Shape> Graph<F> {
     {
         // A borrow of a field shows the prover what the type keeps: that the words fit in memory.
         let plan = &self.plan;
-        place_of(row, plan.nodes, node, k)
+        place_of(row.links + row.words, plan.nodes, node, k)
     }
 
     /// Loads a link of the node that the section is on, and returns the node that it led to at that
@@ -111,11 +110,11 @@ impl<F: Shape> Graph<F> {
     pub fn follow(
         &self,
         seat: &mut GraphSeat<F>,
-        row: usize,
+        row: Row,
         from: usize,
         link: usize,
     ) -> Option<usize>
-        requires row { row ≡ self.now.plan.links + self.now.plan.words }
+        requires row { row ≡ row_of self.now.plan }
         requires at { IsAt (F.first self.now.plan) self.now seat.old from }
         requires link { link < self.now.plan.links }
         ensures same { seat.new ≡ after_word_step seat.old seat.new.view.client }
@@ -141,8 +140,8 @@ impl<F: Shape> Graph<F> {
 
     /// Loads a word of the node that the section is on: the one that it had when the section came
     /// to it. The row is as of [`follow`](Self::follow).
-    pub fn read(&self, seat: &mut GraphSeat<F>, row: usize, node: usize, word: usize) -> u64
-        requires row { row ≡ self.now.plan.links + self.now.plan.words }
+    pub fn read(&self, seat: &mut GraphSeat<F>, row: Row, node: usize, word: usize) -> u64
+        requires row { row ≡ row_of self.now.plan }
         requires at { IsAt (F.first self.now.plan) self.now seat.old node }
         requires word { word < self.now.plan.words }
         ensures same { seat.new ≡ seat.old }
@@ -152,7 +151,7 @@ impl<F: Shape> Graph<F> {
     {
         // A borrow of a field shows the prover what the type keeps: that the words fit in memory.
         let board = &*self.board;
-        let place = self.place(row, node, self.plan.links + word);
+        let place = self.place(row, node, row.links + word);
         read_is_allowed(seat, node, word, place);
         seat.load_word::<_, Read<F>>(board, place)
     }

@@ -31,7 +31,7 @@ pub use keeper::{Full, Keeper};
 pub use node_state::NodeState;
 pub use not_opened::NotOpened;
 pub use opening::{Opened, UnlockedEngine};
-pub use plan::Plan;
+pub use plan::{Plan, Row};
 pub use rule::{GraphEngine, GraphSeat, GraphWatcher, Shape};
 pub use value::{Invariant, Value};
 pub use walk::Walk;

@@ -15,12 +15,19 @@ pub struct Plan {
     pub seed: u64,
 }
 
+/// What a node's row has: so many links, and behind them so many words.
+#[derive(Clone, Copy, Debug, PartialEq, Eq)]
+pub struct Row {
+    pub links: usize,
+    pub words: usize,
+}
+
 /// How many links and words a graph has at most.
 const MOST: usize = 1 << 32;
 
 impl Plan {
-    ghost use Rattle.std.specs.Prelude.{◌↔◌, IsTrue};
-    ghost use Rattle.rcu_graph.specs.Opening.{IsSized};
+    ghost use Rattle.std.specs.Prelude.{◌≡◌, ◌↔◌, IsTrue};
+    ghost use Rattle.rcu_graph.specs.Opening.{IsSized, row_of};
 
     /// Whether a graph may be as large as that: its roots are nodes, each node has a word, and all
     /// links and words are no more than 2^32.
@@ -37,5 +44,15 @@ impl Plan {
             return false;
         }
         matches!(row.checked_mul(self.nodes), Some(cells) if cells <= MOST)
+    }
+
+    /// The row of each of its nodes.
+    pub fn row(self) -> Row
+        ensures { result ≡ row_of self }
+    {
+        Row {
+            links: self.links,
+            words: self.words,
+        }
     }
 }

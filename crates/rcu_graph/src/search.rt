@@ -4,15 +4,17 @@ ghost use Rattle.std.specs.Prelude.{◌≡◌, ◌<◌, ◌+◌, ℕ, IfSome, Li
 ghost use Rattle.rcu_live.specs.CpuSeat.{after_word_step};
 ghost use Rattle.rcu_graph.specs.Graph.{IsAt, IsWalking};
 ghost use Rattle.rcu_graph.specs.Nodes.{IsOn};
+ghost use Rattle.rcu_graph.specs.Opening.{row_of};
 ghost use Rattle.rcu_graph.specs.Search.{Ascends, IsFound, IsSearched};
 
 use crate::graph::Graph;
+use crate::plan::Row;
 use crate::rule::{GraphSeat, Shape};
 
 impl<F: Shape> Graph<F> {
     /// The key of a node on which the section is.
-    fn key_of(&self, seat: &mut GraphSeat<F>, row: usize, node: usize) -> u64
-        requires row { row ≡ self.now.plan.links + self.now.plan.words }
+    fn key_of(&self, seat: &mut GraphSeat<F>, row: Row, node: usize) -> u64
+        requires row { row ≡ row_of self.now.plan }
         requires at { IsAt (F.first self.now.plan) self.now seat.old node }
         ensures same { seat.new ≡ seat.old }
         ensures told { (words : List ℕ) → IsOn (F.first self.now.plan) self.now.plan.roots
@@ -27,8 +29,8 @@ impl<F: Shape> Graph<F> {
     /// each node that it came to; the one that it returns has the key, and is whole. It returns
     /// none only where a hop led nowhere, or to a greater key. The row is as of
     /// [`follow`](Self::follow).
-    pub fn find(&self, seat: &mut GraphSeat<F>, row: usize, root: usize, key: u64) -> Option<usize>
-        requires row { row ≡ self.now.plan.links + self.now.plan.words }
+    pub fn find(&self, seat: &mut GraphSeat<F>, row: Row, root: usize, key: u64) -> Option<usize>
+        requires row { row ≡ row_of self.now.plan }
         requires walking { IsWalking self.now seat.old }
         requires root { root < self.now.plan.roots }
         requires link { 0 < self.now.plan.links }

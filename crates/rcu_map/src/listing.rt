@@ -23,10 +23,10 @@ impl<E: Entry<W>, const W: usize> Map<E, W> {
     {
         words_are_two::<E, W>();
         self.plan();
-        let Some(node) = self.graph.follow(seat, 1 + W, at.node, 0) else {
+        let Some(node) = self.graph.follow(seat, self.row(), at.node, 0) else {
             return Cursor::at_root(at.bucket + 1);
         };
-        let key = self.graph.read(seat, 1 + W, node, 0);
+        let key = self.graph.read(seat, self.row(), node, 0);
         Cursor {
             bucket: at.bucket,
             node,

@@ -5,6 +5,7 @@ ghost use Rattle.std.specs.Arc.{arc_value};
 ghost use Rattle.rcu_live.specs.CpuSeat.{after_word_step};
 ghost use Rattle.rcu_graph.specs.Graph.{IsAt, IsWalking};
 ghost use Rattle.rcu_graph.specs.Nodes.{IsOn};
+ghost use Rattle.rcu_graph.specs.Opening.{row_of};
 ghost use Rattle.rcu_graph.specs.Search.{IsFound, IsSearched};
 ghost use Rattle.rcu_map.specs.Found.{IsGot, IsLookedUp};
 ghost use Rattle.rcu_map.specs.Keys.{IsWhole, bucket_of, key_in, root_words};
@@ -12,7 +13,7 @@ ghost use Rattle.rcu_map.specs.Keys.{IsWhole, bucket_of, key_in, root_words};
 use crate::bucket::bucket_of;
 use crate::entry::Entry;
 use crate::shape::{MapRule, MapSeat, MapShape};
-use rcu_graph::{Graph, Plan};
+use rcu_graph::{Graph, Plan, Row};
 use rcu_live::Board;
 use std::alloc::{AllocError, Global};
 use std::marker::Model;
@@ -91,6 +92,15 @@ impl<E: Entry<W>, const W: usize> Map<E, W> {
         &self.graph
     }
 
+    /// The row of each node, by constants: what waits for a load multiplies by no other number.
+    pub(crate) fn row(&self) -> Row
+        ensures { result ≡ row_of self.now.plan }
+    {
+        // A borrow of a field shows the prover what the type keeps: that a node has one link.
+        let _ = &self.graph;
+        Row { links: 1, words: W }
+    }
+
     /// The words of the node that the section is on, whose key was read: by a load each of the
     /// others.
     pub(crate) fn words_at(&self, seat: &mut MapSeat<E, W>, node: usize, key: u64) -> [u64; W]
@@ -104,7 +114,7 @@ impl<E: Entry<W>, const W: usize> Map<E, W> {
         self.plan();
         let mut words = [key; W];
         for word in 1..W {
-            words[word] = self.graph.read(seat, 1 + W, node, word);
+            words[word] = self.graph.read(seat, self.row(), node, word);
         }
         words
     }
@@ -128,7 +138,7 @@ impl<E: Entry<W>, const W: usize> Map<E, W> {
             return None;
         }
         let bucket = bucket_of(self.plan(), key);
-        self.graph.find(seat, 1 + W, bucket, key)
+        self.graph.find(seat, self.row(), bucket, key)
     }
 
     /// The entry of this key, by two loads for each node of its bucket up to there, and one for

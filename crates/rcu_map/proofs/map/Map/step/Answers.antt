@@ -1,6 +1,7 @@
-use Rattle.std.proofs.Common.{◌+◌, ◌<◌, ◌≤◌, sym, subst, arith}
+use Rattle.std.proofs.Common.{◌+◌, ◌∙◌, ◌<◌, ◌≤◌, ap, sym, subst, arith}
 use Rattle.rcu_live.specs.Board.{Object}
 use Rattle.rcu_live.specs.CpuSeat.{Seated}
+use Rattle.rcu_graph.specs.Opening.{row_of}
 use Rattle.rcu_graph.specs.declared.known.Planned.{Planned}
 use Rattle.rcu_graph.specs.declared.plan.Plan.{Plan}
 use Rattle.rcu_map.specs.Cursors.{HasStepped, MayGoOn}
@@ -21,9 +22,7 @@ follow-requires g c =
     (let words = c.self.invariant.words in omega (arith, c.words_are_two.ensures, words)) inside
     (may.on inside) in
     record {
-      row = let one = c.self.invariant.one in
-          let words = c.self.invariant.words in
-          omega (arith, one, words);
+      row = c.row.ensures ∙ ap (λ (map : Object Plan). row_of map.plan) back;
       at = record {
         walking = may.walking;
         words = o.words;
