@@ -5,7 +5,6 @@ use mathlib.Core.Logic.{dite}
 use native.Mathlib.Decide.{ℕ_discrete}
 use Rattle.rcu_live.specs.Board.{Object}
 use Rattle.rcu_live.specs.CpuSeat.{Seated}
-use Rattle.rcu_graph.specs.Graph.{IsWalking}
 use Rattle.rcu_graph.specs.Nodes.{hops_in}
 use Rattle.rcu_graph.specs.Search.{key_after}
 use Rattle.rcu_graph.specs.declared.known.Hop.{Hop}
@@ -17,7 +16,7 @@ use Rattle.rcu_map.specs.Cursors.{HasStepped, MayGoOn}
 use Rattle.rcu_map.specs.Keys.{bucket_of}
 use Rattle.rcu_map.specs.Listing.{GoOn, at_root, left_from}
 use Rattle.rcu_map.specs.declared.cursor.Cursor.{Cursor}
-use Rattle.rcu_map.proofs.Stepping.{left_on, went_on, went_over}
+use Rattle.rcu_map.proofs.Stepping.{at_most, left_on, went_on, went_over}
 
 -- a section that goes on from the root of a key's bucket, and came to no entry behind the key yet
 pub record IsNearing (buckets seed key : ℕ) (was now : Known) (at : Cursor) : Type 0 where
@@ -61,31 +60,10 @@ pub limit_of : (bucket start key here limit : ℕ) → bucket ≡ start
 limit_of bucket start key here limit is l =
     subst (λ (b : ℕ). IsLimit b key here limit) is l
 
--- a section may go on from the root of a bucket
-pub may_begin : (map : Object Plan) (seat : Seated Planned) (bucket : ℕ) (at : Cursor)
-    → IsWalking map seat → bucket < map.plan.roots → map.plan.roots ≤ map.plan.nodes
-    → at ≡ at_root bucket → MayGoOn map seat at
-may_begin map seat bucket at walking inside few is =
-    subst (λ (c : Cursor). MayGoOn map seat c) (sym is) (record {
-      walking = walking;
-      within = omega (arith, inside);
-      small = omega arith;
-      on = λ low. record {
-        inside = omega (arith, inside, few);
-        root = λ none. refl;
-        led = λ up. absurd (omega (arith, up));
-        key = λ up. absurd (omega (arith, up));
-        same = λ up. absurd (omega (arith, up));
-      };
-    })
-
 -- less is left after a step
 less_over : (buckets : ℕ) (at : Cursor) → at.bucket < buckets → at.key < 2 ^ 64
     → left_from buckets (at_root (at.bucket + 1)) < left_from buckets at
 less_over buckets at low small = omega (arith, low, small)
-
-trans_le : (a b c : ℕ) → a ≤ b → b ≤ c → a ≤ c
-trans_le a b c low high = omega (arith, low, high)
 
 module _ (holds : List ℕ → Type 0) (map : Object Plan) (old new : Seated Planned)
     (mid at : Cursor) (s : HasStepped holds map old mid new at) where
@@ -128,7 +106,7 @@ module _ (holds : List ℕ → Type 0) (map : Object Plan) (old new : Seated Pla
     start = bucket_of buckets seed key
 
     on_further : start ≤ at.bucket
-    on_further = trans_le start mid.bucket at.bucket n.on no_nearer
+    on_further = at_most start mid.bucket at.bucket n.on no_nearer
 
     goes_on : ((s.hop.to ≡ 0) ⊎ IsUpTo buckets seed key (key_after s.hop))
         → IsNearing buckets seed key was new.view.client.known at

@@ -95,6 +95,24 @@ module _ (count buckets seed width : ℕ) (known : Known) (at : Cursor) where
             ∙ (ap (bucket_of buckets seed) is ∙ c.same up);
       })
 
+-- a section may go on from the root of a bucket
+pub may_begin : (map : Object Plan) (seat : Seated Planned) (bucket : ℕ) (at : Cursor)
+    → IsWalking map seat → bucket ≤ map.plan.roots → map.plan.roots ≤ map.plan.nodes
+    → at ≡ at_root bucket → MayGoOn map seat at
+may_begin map seat bucket at walking low few is =
+    subst (λ (c : Cursor). MayGoOn map seat c) (sym is) (record {
+      walking = walking;
+      within = low;
+      small = omega arith;
+      on = λ inside. record {
+        inside = omega (arith, inside, few);
+        root = λ none. refl;
+        led = λ up. absurd (omega (arith, up));
+        key = λ up. absurd (omega (arith, up));
+        same = λ up. absurd (omega (arith, up));
+      };
+    })
+
 module _ (holds : List ℕ → Type 0) (map : Object Plan) (old new : Seated Planned)
     (start : Cursor) (inside : start.bucket < map.plan.roots)
     (o : IsOnWords map.plan.nodes map.plan.roots map.plan.seed map.plan.words old.view.client.known
@@ -130,18 +148,8 @@ module _ (holds : List ℕ → Type 0) (map : Object Plan) (old new : Seated Pla
       same = λ node led. absurd (omega (arith, led));
     };
     led = refl;
-    may = record {
-      walking = walking;
-      within = omega (arith, inside);
-      small = omega arith;
-      on = λ low. record {
-        inside = omega (arith, low, few);
-        root = λ none. refl;
-        led = λ up. absurd (omega (arith, up));
-        key = λ up. absurd (omega (arith, up));
-        same = λ up. absurd (omega (arith, up));
-      };
-    };
+    may = may_begin map new (start.bucket + 1) (at_root (start.bucket + 1)) walking
+        (omega (arith, inside)) few refl;
     whole = λ up. absurd (omega (arith, up));
   }
 
@@ -316,7 +324,7 @@ pub left_on : (buckets : ℕ) (at to : Cursor)
     → left_from buckets to < left_from buckets at
 left_on buckets at to low small same up = omega (arith, low, small, same, up)
 
-at_most : (a b c : ℕ) → a ≤ b → b ≤ c → a ≤ c
+pub at_most : (a b c : ℕ) → a ≤ b → b ≤ c → a ≤ c
 at_most a b c low high = omega (arith, low, high)
 
 below : (a b c : ℕ) → a < b → b ≤ c → a < c

@@ -7,8 +7,8 @@ use Rattle.rcu_map.specs.After.{IsBehind, IsEntryAfter}
 use Rattle.rcu_map.specs.Keys.{bucket_of}
 use Rattle.rcu_map.specs.Listing.{at_root}
 use Rattle.rcu_map.proofs.Nearing.{begins, is_behind, is_entry, is_none, less_left}
-use Rattle.rcu_map.proofs.Nearing.{limit_of, may_begin, passes}
-use Rattle.rcu_map.proofs.Stepping.{on_entry, step_held, went_on}
+use Rattle.rcu_map.proofs.Nearing.{limit_of, passes}
+use Rattle.rcu_map.proofs.Stepping.{may_begin, on_entry, step_held, went_on}
 use Rattle.rcu_map.proofs.map.Map.next_after.Goals as goal
 use Rattle.rcu_map.proofs.map.Map.next_after.Goals.{else-at-bucket, then-at-bucket}
 
