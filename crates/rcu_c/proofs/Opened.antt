@@ -5,12 +5,14 @@ use Rattle.rcu_live.specs.Board.{Object}
 use Rattle.rcu_live.specs.Engine.{Locked}
 use Rattle.rcu_live.specs.Opening.{engine_at_first}
 use Rattle.rcu_live.specs.Watcher.{Watching}
+use Rattle.rcu_graph.specs.Opening.{keeper_at_first}
 use Rattle.rcu_graph.specs.Planned.{of_plan}
 use Rattle.rcu_graph.specs.declared.known.Known.TheVariants.{Idle}
 use Rattle.rcu_graph.specs.declared.known.Planned.{Planned}
 use Rattle.rcu_graph.specs.declared.plan.Plan.{Plan}
+use Rattle.rcu_map.specs.Keys.{root_words}
 use Rattle.rcu_wish.specs.Wishes.{Wishing, wishes_at_first}
-use Rattle.rcu_c.specs.Engines.{EngineAndSeats, keeper_at_first, most_in_c, opened_at_first}
+use Rattle.rcu_c.specs.Engines.{EngineAndSeats, most_in_c, opened_at_first}
 use Rattle.rcu_c.specs.Seats.{Seat, seat_at_first}
 use Rattle.rcu_c.specs.declared.identity.Identity.{Identity}
 
@@ -28,7 +30,7 @@ pub opened : (identity : Identity) (o : Object Plan) (plan : Plan) (cpus last : 
     ≡ map (λ cpu. Some (seat_at_first identity o.table wishes.words o.plan o.cpus cpu))
     (range_with_len 0 o.cpus)
     → wishes ≡ wishes_at_first wishes.words
-    → keeper ≡ keeper_at_first o.table plan cpus
+    → keeper ≡ keeper_at_first (root_words plan.words) o.table cpus plan
     → made ≡ opened_at_first identity made.engine.table made.wishes.words plan cpus last
 opened identity o plan cpus last engine seats wishes keeper made is same planned at_start each
     no_wish keeps =

@@ -19,7 +19,7 @@ use Rattle.rcu_map.specs.Keys.{GoesUp, IsWhole, root_words}
 use Rattle.rcu_c.specs.Engines.{is_own}
 use Rattle.rcu_c.specs.Holding.{ReadsMapOf, ReadsWordsOf, cpu_of, engine_of, grace_of, opened_of}
 use Rattle.rcu_c.specs.Holding.{seat_of, wisher_of, wishes_of}
-use Rattle.rcu_c.specs.MapEntries.{HasKey}
+use Rattle.rcu_c.specs.MapEntries.{IsKeyed}
 use Rattle.rcu_c.specs.declared.contents.Contents.{Contents}
 
 -- the seat is one of the engine's: it reads the words that the engine writes, and the map that the
@@ -38,7 +38,7 @@ pub record IsSameObject (e f : Locked Planned ℕ) : Type 0 where
 -- what holds of the words of a map of this plan, and of what all seats know of it: the rule of the
 -- client of an engine of C's
 abbrev pub IsMapKept : Plan → List ℕ → Slots (Unit {0}) → Views Planned → Type 0
-IsMapKept = IsKeptBy (λ plan. IsWhole HasKey plan.words)
+IsMapKept = IsKeptBy (λ plan. IsWhole IsKeyed plan.words)
     (λ plan _ from to. GoesUp plan.roots plan.seed from to) (λ plan. root_words plan.words)
 
 -- the shared words at one moment, and what each seat has seen of them

@@ -1,16 +1,15 @@
 -- The engine of an open handle, as contracts see it.
-use Rattle.std.specs.Prelude.{ℕ, ◌^◌, ◌==◌, ◌&&◌, Bool, nat_lt, List, [], map, Option, Some, None}
+use Rattle.std.specs.Prelude.{ℕ, ◌^◌, ◌==◌, ◌&&◌, Bool, nat_lt, List, map, Option, Some, None}
 use Rattle.std.specs.Prelude.{slice_index_or, slice_set}
 use Rattle.std.specs.List.{range_with_len}
 use Rattle.atomic_table.specs.Seated.{TableId}
 use Rattle.rcu_seq.specs.Numbers.{Number}
 use Rattle.rcu_live.specs.Engine.{Locked}
 use Rattle.rcu_live.specs.Opening.{engine_at_first}
-use Rattle.rcu_live.specs.Watcher.{Watching, after_word_step, watcher_at_first}
-use Rattle.rcu_live.specs.Words.{base_of}
-use Rattle.rcu_graph.specs.Nodes.{first_nodes}
+use Rattle.rcu_live.specs.Watcher.{Watching}
+use Rattle.rcu_graph.specs.Opening.{keeper_at_first}
 use Rattle.rcu_graph.specs.Planned.{of_plan}
-use Rattle.rcu_graph.specs.declared.known.Known.TheVariants.{Idle, Keeper, Owner}
+use Rattle.rcu_graph.specs.declared.known.Known.TheVariants.{Idle}
 use Rattle.rcu_graph.specs.declared.known.Planned.{Planned}
 use Rattle.rcu_graph.specs.declared.plan.Plan.{Plan}
 use Rattle.rcu_map.specs.Keys.{root_words}
@@ -52,14 +51,6 @@ with_seat o s = record o { seats = slice_set o.seats s.cpu.cpu (Some s) }
 abbrev pub most_in_c : ℕ
 most_in_c = 2 ^ 62
 
--- the keeper of a map of this plan as it is opened, among the words of an engine of so many
--- processors: it has no entry
-abbrev pub keeper_at_first : TableId → Plan → ℕ → Watching Planned
-keeper_at_first table plan cpus =
-    after_word_step (watcher_at_first table (base_of cpus) (of_plan plan Owner))
-    (of_plan plan (Keeper 0
-    (first_nodes plan.links plan.words (root_words plan.words) plan.roots plan.nodes) []))
-
 -- an engine of so many processors as it is opened, with a seat for each, with these words, these
 -- for wishes, and a map of this plan
 abbrev pub opened_at_first : Identity → TableId → TableId → Plan → ℕ → Number → EngineAndSeats
@@ -69,5 +60,5 @@ opened_at_first identity table wishes plan cpus last = record {
       map (λ cpu. Some (seat_at_first identity table wishes plan cpus cpu)) (range_with_len 0 cpus);
   wishes = wishes_at_first wishes;
   identity = identity;
-  map = keeper_at_first table plan cpus;
+  map = keeper_at_first (root_words plan.words) table cpus plan;
 }

@@ -5,12 +5,12 @@ use Rattle.rcu_map.specs.Keys.{key_in}
 use Rattle.rcu_c.specs.declared.map_entry.MapEntry.{MapEntry}
 
 -- these words are an entry's: their key is 1 or more
-abbrev pub HasKey : List ℕ → Type 0
-HasKey words = 0 < key_in words
+abbrev pub IsKeyed : List ℕ → Type 0
+IsKeyed words = 0 < key_in words
 
 -- the words of an entry, and the entry of words
-abbrev pub words_of : MapEntry → List ℕ
-words_of entry = entry.key ∷ entry.value ∷ []
+abbrev pub entry_words : MapEntry → List ℕ
+entry_words entry = entry.key ∷ entry.value ∷ []
 
 abbrev pub entry_in : List ℕ → MapEntry
 entry_in words = record { key = slice_index words 0; value = slice_index words 1 }

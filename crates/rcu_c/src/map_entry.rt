@@ -16,19 +16,19 @@ pub struct MapEntry {
 }
 
 impl Invariant for MapEntry {
-    ghost use Rattle.rcu_c.specs.MapEntries.{HasKey};
+    ghost use Rattle.rcu_c.specs.MapEntries.{IsKeyed};
 
-    ghost holds = { HasKey };
+    ghost holds = { IsKeyed };
 }
 
 impl Value<2> for MapEntry {
     ghost use Rattle.std.specs.Prelude.{◌≤◌, ◌<◌};
     ghost use Rattle.std.proofs.Common.{rules};
-    ghost use Rattle.rcu_c.specs.MapEntries.{entry_in, words_of};
+    ghost use Rattle.rcu_c.specs.MapEntries.{entry_in, entry_words};
 
     ghost valid = { λ entry. 0 < entry.key };
 
-    ghost in_words = { words_of };
+    ghost in_words = { entry_words };
 
     ghost decode = { entry_in };
 

@@ -6,7 +6,7 @@ ghost use Rattle.rcu_graph.specs.declared.known.Planned.{Planned};
 ghost use Rattle.rcu_graph.specs.declared.plan.Plan.{Plan};
 ghost use Rattle.rcu_map.specs.Beside.{AreMadeOver, HadKey, IsMapOver, IsReadOver, since};
 ghost use Rattle.rcu_map.specs.Runs.{HasKeyThroughout, IsRun};
-ghost use Rattle.rcu_c.specs.MapEntries.{HasKey};
+ghost use Rattle.rcu_c.specs.MapEntries.{IsKeyed};
 ghost use Rattle.rcu_c.specs.Maps.{IsGotBetween};
 ghost use Rattle.rcu_c.specs.declared.contents.Contents.{Contents};
 ghost use Rattle.rcu_c.specs.declared.map_entry.MapEntry.{MapEntry};
@@ -18,13 +18,13 @@ use rcu_map::laws;
 /// `rcu_map_get` in the run: it writes an entry of that key.
 pub fn keys_that_stay_are_found()
     ensures { (plan : Plan) (opened key keeper id from done last : ℕ) (moments : ℕ → Moment)
-        (now : Watching Planned) (run : IsRun HasKey plan opened now)
+        (now : Watching Planned) (run : IsRun IsKeyed plan opened now)
         (before after : Option Contents) (entry : MapEntry) →
         0 < plan.roots → plan.links ≡ 1 → plan.words ≡ 2 → 0 < key → from + done ≤ last →
-        IsMapOver HasKey plan keeper last moments →
-        AreMadeOver HasKey plan opened moments last now run →
-        HasKeyThroughout HasKey plan opened key now run →
-        IsReadOver HasKey plan id opened done (since from moments) →
+        IsMapOver IsKeyed plan keeper last moments →
+        AreMadeOver IsKeyed plan opened moments last now run →
+        HasKeyThroughout IsKeyed plan opened key now run →
+        IsReadOver IsKeyed plan id opened done (since from moments) →
         IsGotBetween plan key (moments from) (moments (from + done)) before entry after →
         entry.key ≡ key }
 {
@@ -35,14 +35,14 @@ pub fn keys_that_stay_are_found()
 /// one of its calls.
 pub fn found_keys_were_there()
     ensures { (plan : Plan) (opened key keeper id from done last : ℕ) (moments : ℕ → Moment)
-        (now : Watching Planned) (run : IsRun HasKey plan opened now)
+        (now : Watching Planned) (run : IsRun IsKeyed plan opened now)
         (before after : Option Contents) (entry : MapEntry) →
         0 < plan.roots → plan.links ≡ 1 → plan.words ≡ 2 → 0 < key → from + done ≤ last →
-        IsMapOver HasKey plan keeper last moments →
-        AreMadeOver HasKey plan opened moments last now run →
-        IsReadOver HasKey plan id opened done (since from moments) →
+        IsMapOver IsKeyed plan keeper last moments →
+        AreMadeOver IsKeyed plan opened moments last now run →
+        IsReadOver IsKeyed plan id opened done (since from moments) →
         IsGotBetween plan key (moments from) (moments (from + done)) before entry after →
-        0 < entry.key → HadKey HasKey plan opened key now run }
+        0 < entry.key → HadKey IsKeyed plan opened key now run }
 {
     laws::keys_found_over_a_run_were_there::<MapEntry, 2>();
 }

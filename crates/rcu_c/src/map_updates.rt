@@ -4,8 +4,8 @@ ghost use Rattle.std.specs.Prelude.{◌≡◌, ◌≢◌, ◌<◌};
 ghost use Rattle.rcu_map.specs.Entries.{entries_in};
 ghost use Rattle.rcu_map.specs.declared.put.Put.{Put};
 ghost use Rattle.rcu_c.specs.Answers.{number_in_c};
-ghost use Rattle.rcu_c.specs.Maps.{HasAged, IsFound, IsNotPut, IsPut, IsTakenOut, buckets_of};
-ghost use Rattle.rcu_c.specs.Maps.{entry_of, key_refusal, nodes_of};
+ghost use Rattle.rcu_c.specs.Maps.{HasAgedInC, IsFoundInC, IsNotPutInC, IsPutInC, IsTakenOutInC};
+ghost use Rattle.rcu_c.specs.Maps.{entry_of, key_refusal, map_buckets, map_nodes};
 ghost use Rattle.rcu_c.specs.Refusals.{engine_number};
 ghost use Rattle.rcu_c.specs.Staying.{BothStay};
 
@@ -19,8 +19,8 @@ use rcu_seq::{Cookie, Tag};
 fn put(rcu: &mut Rcu, how: Put, entry: MapEntry, old: &mut MapEntry) -> u32
     ensures fault { result ≢ 31 → result ≡ engine_number rcu.old.contents
         (number_in_c (key_refusal entry.key)) }
-    ensures put { result ≡ 0 → IsPut how entry rcu.old.contents old.new rcu.new.contents }
-    ensures full { result ≡ 31 → IsNotPut how entry rcu.old.contents rcu.new.contents }
+    ensures put { result ≡ 0 → IsPutInC how entry rcu.old.contents old.new rcu.new.contents }
+    ensures full { result ≡ 31 → IsNotPutInC how entry rcu.old.contents rcu.new.contents }
     ensures unchanged { result ≢ 0 →
         BothStay rcu.old.contents rcu.new.contents old.old old.new }
 {
@@ -52,9 +52,9 @@ pub extern "C" fn rcu_map_insert(rcu: &mut Rcu, key: u64, value: u64, old: &mut 
     ensures fault { result ≢ 31 → result ≡ engine_number rcu.old.contents
         (number_in_c (key_refusal key)) }
     ensures put { result ≡ 0 →
-        IsPut Put.Insert (entry_of key value) rcu.old.contents old.new rcu.new.contents }
+        IsPutInC Put.Insert (entry_of key value) rcu.old.contents old.new rcu.new.contents }
     ensures full { result ≡ 31 →
-        IsNotPut Put.Insert (entry_of key value) rcu.old.contents rcu.new.contents }
+        IsNotPutInC Put.Insert (entry_of key value) rcu.old.contents rcu.new.contents }
     ensures unchanged { result ≢ 0 →
         BothStay rcu.old.contents rcu.new.contents old.old old.new }
 {
@@ -74,9 +74,9 @@ pub extern "C" fn rcu_map_replace(rcu: &mut Rcu, key: u64, value: u64, old: &mut
     ensures fault { result ≢ 31 → result ≡ engine_number rcu.old.contents
         (number_in_c (key_refusal key)) }
     ensures put { result ≡ 0 →
-        IsPut Put.Replace (entry_of key value) rcu.old.contents old.new rcu.new.contents }
+        IsPutInC Put.Replace (entry_of key value) rcu.old.contents old.new rcu.new.contents }
     ensures full { result ≡ 31 →
-        IsNotPut Put.Replace (entry_of key value) rcu.old.contents rcu.new.contents }
+        IsNotPutInC Put.Replace (entry_of key value) rcu.old.contents rcu.new.contents }
     ensures unchanged { result ≢ 0 →
         BothStay rcu.old.contents rcu.new.contents old.old old.new }
 {
@@ -92,9 +92,9 @@ pub extern "C" fn rcu_map_put(rcu: &mut Rcu, key: u64, value: u64, old: &mut Map
     ensures fault { result ≢ 31 → result ≡ engine_number rcu.old.contents
         (number_in_c (key_refusal key)) }
     ensures put { result ≡ 0 →
-        IsPut Put.Upsert (entry_of key value) rcu.old.contents old.new rcu.new.contents }
+        IsPutInC Put.Upsert (entry_of key value) rcu.old.contents old.new rcu.new.contents }
     ensures full { result ≡ 31 →
-        IsNotPut Put.Upsert (entry_of key value) rcu.old.contents rcu.new.contents }
+        IsNotPutInC Put.Upsert (entry_of key value) rcu.old.contents rcu.new.contents }
     ensures unchanged { result ≢ 0 →
         BothStay rcu.old.contents rcu.new.contents old.old old.new }
 {
@@ -107,7 +107,7 @@ pub extern "C" fn rcu_map_put(rcu: &mut Rcu, key: u64, value: u64, old: &mut Map
 #[unsafe(no_mangle)]
 pub extern "C" fn rcu_map_remove(rcu: &mut Rcu, key: u64, old: &mut MapEntry) -> u32
     ensures fault { result ≡ engine_number rcu.old.contents 0 }
-    ensures removed { result ≡ 0 → IsTakenOut key rcu.old.contents old.new rcu.new.contents }
+    ensures removed { result ≡ 0 → IsTakenOutInC key rcu.old.contents old.new rcu.new.contents }
     ensures unchanged { result ≢ 0 →
         BothStay rcu.old.contents rcu.new.contents old.old old.new }
 {
@@ -126,7 +126,7 @@ pub extern "C" fn rcu_map_remove(rcu: &mut Rcu, key: u64, old: &mut MapEntry) ->
 pub extern "C" fn rcu_map_find(rcu: &mut Rcu, key: u64, entry: &mut MapEntry) -> u32
     ensures fault { result ≡ engine_number rcu.old.contents 0 }
     ensures state { rcu.new.contents ≡ rcu.old.contents }
-    ensures found { result ≡ 0 → IsFound key rcu.old.contents entry.new }
+    ensures found { result ≡ 0 → IsFoundInC key rcu.old.contents entry.new }
     ensures unchanged { result ≢ 0 → entry.new ≡ entry.old }
 {
     match rcu.engine() {
@@ -142,7 +142,8 @@ pub extern "C" fn rcu_map_find(rcu: &mut Rcu, key: u64, entry: &mut MapEntry) ->
 #[unsafe(no_mangle)]
 pub extern "C" fn rcu_map_len(rcu: &mut Rcu) -> u64
     ensures unchanged { rcu.new.contents ≡ rcu.old.contents }
-    ensures value { result ≡ entries_in (buckets_of rcu.old.contents) (nodes_of rcu.old.contents) }
+    ensures value { result ≡
+        entries_in (map_buckets rcu.old.contents) (map_nodes rcu.old.contents) }
 {
     match rcu.engine() {
         Ok(opened) => opened.map.len() as u64,
@@ -158,7 +159,7 @@ pub extern "C" fn rcu_map_len(rcu: &mut Rcu) -> u64
 #[unsafe(no_mangle)]
 pub extern "C" fn rcu_map_age(rcu: &mut Rcu, cookie: &mut u64) -> u32
     ensures fault { result ≡ engine_number rcu.old.contents 0 }
-    ensures aged { result ≡ 0 → HasAged rcu.old.contents cookie.new rcu.new.contents }
+    ensures aged { result ≡ 0 → HasAgedInC rcu.old.contents cookie.new rcu.new.contents }
     ensures unchanged { result ≢ 0 →
         BothStay rcu.old.contents rcu.new.contents cookie.old cookie.new }
 {

@@ -1,12 +1,8 @@
 -- A cell as it is opened.
-use Rattle.std.specs.Prelude.{◌+◌, ◌<◌, ℕ, List, []}
-use Rattle.rcu_live.specs.Board.{Object}
-use Rattle.rcu_live.specs.Watcher.{Watching, after_word_step, watcher_at_first}
-use Rattle.rcu_live.specs.Words.{base_of}
-use Rattle.rcu_graph.specs.Nodes.{first_nodes}
+use Rattle.std.specs.Prelude.{◌+◌, ◌<◌, ℕ, List}
+use Rattle.rcu_live.specs.Watcher.{Watching}
 use Rattle.rcu_graph.specs.Opening.{IsSized}
-use Rattle.rcu_graph.specs.Planned.{of_plan, plan_of}
-use Rattle.rcu_graph.specs.declared.known.Known.TheVariants.{Keeper, Owner}
+use Rattle.rcu_graph.specs.Planned.{plan_of}
 use Rattle.rcu_graph.specs.declared.known.Planned.{Planned}
 use Rattle.rcu_graph.specs.declared.plan.Plan.{Plan}
 use Rattle.rcu_cell.specs.Keeper.{Updated}
@@ -21,13 +17,6 @@ plan_of_cell width slots = plan_of 1 1 width (1 + slots) 0
 pub record HasSizes (width slots : ℕ) : Type 0 where
   pub several : 1 < slots
   pub sized : IsSized (plan_of_cell width slots)
-
--- who keeps the nodes of a graph of this plan with one root, which are as at first
-abbrev pub keeper_at_first : Object Plan → ℕ → Plan → List ℕ → Watching Planned
-keeper_at_first cell cpus plan first =
-    after_word_step (watcher_at_first cell.table (base_of cpus) (of_plan plan Owner))
-    (of_plan plan
-    (Keeper 0 (first_nodes plan.links plan.words (λ _. first) plan.roots plan.nodes) []))
 
 -- the keeper's first update showed these words in place of the root's
 pub record ShowsFirst (keeper : Watching Planned) (words : List ℕ)

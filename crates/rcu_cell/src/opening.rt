@@ -5,12 +5,12 @@ ghost use Rattle.rcu_live.specs.Opening.{AreDealt, AreFanouts};
 ghost use Rattle.rcu_graph.specs.Graph.{IsWatcherOf};
 ghost use Rattle.rcu_graph.specs.Keeper.{IsKeeperOf};
 ghost use Rattle.rcu_graph.specs.Nodes.{first_place};
-ghost use Rattle.rcu_graph.specs.Opening.{tested_opening};
+ghost use Rattle.rcu_graph.specs.Opening.{keeper_at_first, tested_opening};
 ghost use Rattle.rcu_graph.specs.Planned.{of_plan};
 ghost use Rattle.rcu_graph.specs.Steps.{IsClaimed};
 ghost use Rattle.rcu_graph.specs.declared.known.Known.TheVariants.{Idle};
 ghost use Rattle.rcu_graph.specs.declared.not_opened.NotOpened.{NotOpened};
-ghost use Rattle.rcu_cell.specs.Opening.{HasSizes, ShowsFirst, keeper_at_first, plan_of_cell};
+ghost use Rattle.rcu_cell.specs.Opening.{HasSizes, ShowsFirst, plan_of_cell};
 
 use crate::cell::Cell;
 use crate::keeper::Keeper;
@@ -101,7 +101,7 @@ impl<F: Version<W>, const W: usize> Cell<F, W> {
         ensures live { IfOk result (λ opened. opened.live ≡ opened.cell) }
         ensures keeper { IfOk result (λ opened. IsWatcherOf opened.cell opened.keeper) }
         ensures shown { IfOk result (λ opened. ShowsFirst
-            (keeper_at_first opened.cell cpus (plan_of_cell W slots) F.first)
+            (keeper_at_first (λ _. F.first) opened.cell.table cpus (plan_of_cell W slots))
             words.now opened.keeper) }
     {
         let Some(plan) = plan_of(W, slots) else {

@@ -1,9 +1,15 @@
 -- The words of a graph at first.
 use Rattle.std.specs.Prelude.{◌≡◌, Err, None, Ok, Option, Result, ℕ, ◌+◌, ◌*◌, ◌^◌, ◌<◌, ◌≤◌, List}
-use Rattle.std.specs.Prelude.{length, slice_index}
+use Rattle.std.specs.Prelude.{[], length, slice_index}
+use Rattle.atomic_table.specs.Seated.{TableId}
 use Rattle.rcu_seq.specs.Memory.{tested_fault}
 use Rattle.rcu_seq.specs.declared.fault.Fault.{Fault}
-use Rattle.rcu_graph.specs.Nodes.{place_of}
+use Rattle.rcu_live.specs.Watcher.{Watching, after_word_step, watcher_at_first}
+use Rattle.rcu_live.specs.Words.{base_of}
+use Rattle.rcu_graph.specs.Nodes.{first_nodes, place_of}
+use Rattle.rcu_graph.specs.Planned.{of_plan}
+use Rattle.rcu_graph.specs.declared.known.Known.TheVariants.{Keeper, Owner}
+use Rattle.rcu_graph.specs.declared.known.Planned.{Planned}
 use Rattle.rcu_graph.specs.declared.not_opened.NotOpened.{NotOpened}
 use Rattle.rcu_graph.specs.declared.not_opened.NotOpened.TheVariants.{BadSizes}
 use Rattle.rcu_graph.specs.declared.not_opened.NotOpened.TheVariants as not_opened
@@ -44,3 +50,10 @@ pub record AreFirst (first : ℕ → List ℕ) (roots links width : ℕ) (words 
       ≡ slice_index (first i) k
   pub rest : (i k : ℕ) → roots ≤ i → k < width
       → slice_index words (place_of (links + width) i (links + k)) ≡ 0
+
+-- who keeps the nodes of a graph of this plan, of an engine of so many processors, as they are at
+-- first
+abbrev pub keeper_at_first : (ℕ → List ℕ) → TableId → ℕ → Plan → Watching Planned
+keeper_at_first first table cpus plan =
+    after_word_step (watcher_at_first table (base_of cpus) (of_plan plan Owner))
+    (of_plan plan (Keeper 0 (first_nodes plan.links plan.words first plan.roots plan.nodes) []))

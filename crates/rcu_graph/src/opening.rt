@@ -1,15 +1,14 @@
 //! The opening of a graph.
-ghost use Rattle.std.specs.Prelude.{◌≡◌, ◌≢◌, ◌↔◌, ◌+◌, ◌*◌, ◌^◌, ◌<◌, ◌≤◌, ℕ, [], Err, IfOk};
+ghost use Rattle.std.specs.Prelude.{◌≡◌, ◌≢◌, ◌↔◌, ◌+◌, ◌*◌, ◌^◌, ◌<◌, ◌≤◌, ℕ, Err, IfOk};
 ghost use Rattle.std.specs.Prelude.{length, slice_index};
 ghost use Rattle.rcu_geometry.specs.Opening.{opening_refusal};
 ghost use Rattle.rcu_live.specs.Opening.{AreDealt, AreFanouts, engine_at_first};
-ghost use Rattle.rcu_live.specs.Watcher.{after_word_step, watcher_at_first};
-ghost use Rattle.rcu_live.specs.Words.{base_of};
 ghost use Rattle.rcu_graph.specs.Keeper.{IsKeeperOf};
-ghost use Rattle.rcu_graph.specs.Nodes.{first_nodes, first_place, place_of};
-ghost use Rattle.rcu_graph.specs.Opening.{AreFirst, AreWhole, IsSized, tested_opening};
+ghost use Rattle.rcu_graph.specs.Nodes.{first_place, place_of};
+ghost use Rattle.rcu_graph.specs.Opening.{AreFirst, AreWhole, IsSized, keeper_at_first};
+ghost use Rattle.rcu_graph.specs.Opening.{tested_opening};
 ghost use Rattle.rcu_graph.specs.Planned.{of_plan};
-ghost use Rattle.rcu_graph.specs.declared.known.Known.TheVariants.{Idle, Keeper, Owner};
+ghost use Rattle.rcu_graph.specs.declared.known.Known.TheVariants.{Idle};
 ghost use Rattle.rcu_graph.specs.declared.not_opened.NotOpened.{NotOpened};
 
 use crate::graph::Graph;
@@ -111,10 +110,8 @@ impl<F: Shape> Graph<F> {
         ensures plan { IfOk result (λ opened. opened.graph.plan ≡ plan) }
         ensures live { IfOk result (λ opened. opened.live ≡ opened.graph) }
         ensures keeper { IfOk result (λ opened. IsKeeperOf opened.graph opened.own) }
-        ensures own { IfOk result (λ opened. opened.own ≡ after_word_step
-            (watcher_at_first opened.graph.table (base_of cpus) (of_plan plan Owner)) (of_plan plan
-            (Keeper 0
-            (first_nodes plan.links plan.words (F.first plan) plan.roots plan.nodes) []))) }
+        ensures own { IfOk result (λ opened.
+            opened.own ≡ keeper_at_first (F.first plan) opened.graph.table cpus plan) }
     {
         let opened = Self::open_unlocked::<LEAF, FAN, T>(alloc, cpus, last, plan)?;
         let Opened {
@@ -156,10 +153,8 @@ impl<F: Shape> Graph<F> {
         ensures engine { IfOk result (λ opened. opened.live ≡ engine_at_first
             opened.graph.table cpus last (2 ^ 62) (of_plan plan Idle)) }
         ensures keeper { IfOk result (λ opened. IsKeeperOf opened.graph opened.own) }
-        ensures own { IfOk result (λ opened. opened.own ≡ after_word_step
-            (watcher_at_first opened.graph.table (base_of cpus) (of_plan plan Owner)) (of_plan plan
-            (Keeper 0
-            (first_nodes plan.links plan.words (F.first plan) plan.roots plan.nodes) []))) }
+        ensures own { IfOk result (λ opened.
+            opened.own ≡ keeper_at_first (F.first plan) opened.graph.table cpus plan) }
     {
         if !plan.is_sized() {
             return Err(NotOpened::BadSizes);

@@ -1,14 +1,12 @@
 //! The opening of a map.
-ghost use Rattle.std.specs.Prelude.{◌≡◌, ◌↔◌, ◌+◌, ◌*◌, ◌^◌, ◌<◌, [], Err, IfOk};
+ghost use Rattle.std.specs.Prelude.{◌≡◌, ◌↔◌, ◌+◌, ◌*◌, ◌^◌, ◌<◌, Err, IfOk};
 ghost use Rattle.rcu_geometry.specs.Opening.{opening_refusal};
 ghost use Rattle.rcu_live.specs.Opening.{AreDealt, AreFanouts, engine_at_first};
-ghost use Rattle.rcu_live.specs.Watcher.{after_word_step, watcher_at_first};
-ghost use Rattle.rcu_live.specs.Words.{base_of};
 ghost use Rattle.rcu_graph.specs.Keeper.{IsKeeperOf};
-ghost use Rattle.rcu_graph.specs.Nodes.{first_nodes, first_place};
-ghost use Rattle.rcu_graph.specs.Opening.{tested_opening};
+ghost use Rattle.rcu_graph.specs.Nodes.{first_place};
+ghost use Rattle.rcu_graph.specs.Opening.{keeper_at_first, tested_opening};
 ghost use Rattle.rcu_graph.specs.Planned.{of_plan};
-ghost use Rattle.rcu_graph.specs.declared.known.Known.TheVariants.{Idle, Keeper, Owner};
+ghost use Rattle.rcu_graph.specs.declared.known.Known.TheVariants.{Idle};
 ghost use Rattle.rcu_graph.specs.declared.not_opened.NotOpened.{NotOpened};
 ghost use Rattle.rcu_map.specs.Chains.{HasSizes, plan_of_map};
 ghost use Rattle.rcu_map.specs.Keys.{root_words};
@@ -66,11 +64,9 @@ impl<E: Entry<W>, const W: usize> Map<E, W> {
         ensures plan { IfOk result (λ opened. opened.map.plan ≡ plan_of_map buckets W nodes seed) }
         ensures live { IfOk result (λ opened. opened.live ≡ opened.map) }
         ensures keeper { IfOk result (λ opened. IsKeeperOf opened.map opened.keeper) }
-        ensures own { IfOk result (λ opened. opened.keeper ≡ after_word_step
-            (watcher_at_first opened.map.table (base_of cpus)
-            (of_plan (plan_of_map buckets W nodes seed) Owner))
-            (of_plan (plan_of_map buckets W nodes seed)
-            (Keeper 0 (first_nodes 1 W (root_words W) buckets nodes) []))) }
+        ensures own { IfOk result (λ opened.
+            opened.keeper ≡ keeper_at_first (root_words W) opened.map.table cpus
+            (plan_of_map buckets W nodes seed)) }
     {
         let opened = Self::open_unlocked::<LEAF, FAN, T>(alloc, cpus, last, buckets, nodes, seed)?;
         let Opened {
@@ -113,11 +109,9 @@ impl<E: Entry<W>, const W: usize> Map<E, W> {
         ensures engine { IfOk result (λ opened. opened.live ≡ engine_at_first
             opened.map.table cpus last (2 ^ 62) (of_plan opened.map.plan Idle)) }
         ensures keeper { IfOk result (λ opened. IsKeeperOf opened.map opened.keeper) }
-        ensures own { IfOk result (λ opened. opened.keeper ≡ after_word_step
-            (watcher_at_first opened.map.table (base_of cpus)
-            (of_plan (plan_of_map buckets W nodes seed) Owner))
-            (of_plan (plan_of_map buckets W nodes seed)
-            (Keeper 0 (first_nodes 1 W (root_words W) buckets nodes) []))) }
+        ensures own { IfOk result (λ opened.
+            opened.keeper ≡ keeper_at_first (root_words W) opened.map.table cpus
+            (plan_of_map buckets W nodes seed)) }
     {
         if buckets == 0 {
             return Err(NotOpened::BadSizes);

@@ -3,7 +3,7 @@ use Rattle.rcu_graph.specs.Search.{IsSearched}
 use Rattle.rcu_graph.specs.declared.known.Known.{Known}
 use Rattle.rcu_graph.specs.declared.plan.Plan.{Plan}
 use Rattle.rcu_map.specs.Keys.{bucket_of}
-use Rattle.rcu_c.specs.Maps.{known_of, plan_of}
+use Rattle.rcu_c.specs.Maps.{known_of, map_plan}
 use Rattle.rcu_c.proofs.MapLaws.{node_told}
 use Rattle.rcu_c.proofs.map_laws.found_keys_were_there.Goals as goal
 
@@ -19,8 +19,9 @@ returns c = λ plan opened key keeper id from done last moments now run before a
     moments now run some one width up early kept made walks
     (subst (λ (p : Plan). Searches p (moments from).section (moments (from + done)).section
     (Some node.0)) between.planned
-    (subst (λ (k : Known). Searches (plan_of before) k (moments (from + done)).section
+    (subst (λ (k : Known). Searches (map_plan before) k (moments (from + done)).section
     (Some node.0)) between.begins
-    (subst (λ (k : Known). Searches (plan_of before) (known_of before) k (Some node.0)) between.ends
-    (subst (λ (n : Option ℕ). Searches (plan_of before) (known_of before) (known_of after) n) node.1
-    is.searched))))
+    (subst (λ (k : Known). Searches (map_plan before) (known_of before) k (Some node.0))
+    between.ends
+    (subst (λ (n : Option ℕ). Searches (map_plan before) (known_of before) (known_of after) n)
+    node.1 is.searched))))

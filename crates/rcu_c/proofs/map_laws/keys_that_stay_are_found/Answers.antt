@@ -3,7 +3,7 @@ use Rattle.rcu_graph.specs.Search.{IsSearched}
 use Rattle.rcu_graph.specs.declared.known.Known.{Known}
 use Rattle.rcu_graph.specs.declared.plan.Plan.{Plan}
 use Rattle.rcu_map.specs.Keys.{bucket_of}
-use Rattle.rcu_c.specs.Maps.{known_of, plan_of}
+use Rattle.rcu_c.specs.Maps.{known_of, map_plan}
 use Rattle.rcu_c.proofs.MapLaws.{told_of_key}
 use Rattle.rcu_c.proofs.map_laws.keys_that_stay_are_found.Goals as goal
 
@@ -19,7 +19,7 @@ returns c = λ plan opened key keeper id from done last moments now run before a
     now run is.node some one width up early kept made has walks
     (subst (λ (p : Plan). Searches p (moments from).section (moments (from + done)).section)
     between.planned
-    (subst (λ (k : Known). Searches (plan_of before) k (moments (from + done)).section)
+    (subst (λ (k : Known). Searches (map_plan before) k (moments (from + done)).section)
     between.begins
-    (subst (λ (k : Known). Searches (plan_of before) (known_of before) k) between.ends
+    (subst (λ (k : Known). Searches (map_plan before) (known_of before) k) between.ends
     is.searched))))

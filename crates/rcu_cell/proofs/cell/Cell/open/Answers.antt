@@ -6,7 +6,8 @@ use Rattle.rcu_graph.specs.Nodes.{first_nodes}
 use Rattle.rcu_graph.specs.declared.known.Known.TheVariants.{Keeper}
 use Rattle.rcu_graph.specs.declared.known.Planned.{Planned}
 use Rattle.rcu_graph.specs.declared.plan.Plan.{Plan}
-use Rattle.rcu_cell.specs.Opening.{ShowsFirst, keeper_at_first}
+use Rattle.rcu_graph.specs.Opening.{keeper_at_first}
+use Rattle.rcu_cell.specs.Opening.{ShowsFirst}
 use Rattle.rcu_cell.proofs.cell.Cell.open.Goals as goal
 
 pub keep-requires : goal.keep-requires
@@ -38,8 +39,10 @@ returns-clause-shown g c =
     let e = c.in_ok-opened.ensures in
     subst (λ (k : Watching Planned). ShowsFirst k c.args.words.now c.in-Ok.keeper)
     (e.own
-    ∙ (ap (λ (o : Object Plan). keeper_at_first o c.args.cpus c.in-Some.plan g.F.Version.first)
+    ∙ (ap (λ (o : Object Plan). keeper_at_first (λ _. g.F.Version.first) o.table c.args.cpus
+    c.in-Some.plan)
     (sym c.over-cell.ensures)
-    ∙ ap (λ (p : Plan). keeper_at_first c.over-cell.result c.args.cpus p g.F.Version.first)
+    ∙ ap (λ (p : Plan). keeper_at_first (λ _. g.F.Version.first) c.over-cell.result.table
+    c.args.cpus p)
     c.in-Some.ensures.1))
     c.in-Ok.ensures
