@@ -8,6 +8,7 @@ mod runs;
 mod tends;
 
 use crate::barrier::most::{fill, is_full};
+use crate::made::compare;
 use rcu_barrier::{BarrierState, Lists, Visit};
 use rcu_cblist::Queued;
 use rcu_cblist::laws::greatest_bounds_each;
@@ -57,10 +58,7 @@ fn ask(rt: &impl Abort, lists: &Lists<u64>) -> Asked {
 /// Compares the fault of a row's call whose growth was refused, and what it left with what was
 /// there.
 fn refused(rt: &impl Abort, row: usize, fault: Fault, lists: &Lists<u64>, before: Asked) {
-    assert_eq!(rt;
-        (row, fault, ask(rt, lists)),
-        (row, Fault::NoMemory, before)
-    );
+    compare(rt, row, (fault, ask(rt, lists)), (Fault::NoMemory, before));
 }
 
 /// Lists for so many processors, made by a second call where the first is refused a growth.
@@ -93,7 +91,7 @@ fn queue_again(
 ) {
     assert!(rt; cpu < lists.cpus());
     let queued = lists.queue(cpu, Tag::of_first_epoch(0), value);
-    assert_eq!(rt; (row, queued.map_err(|back| back.fault)), (row, Ok(wanted)));
+    compare(rt, row, queued.map_err(|back| back.fault), Ok(wanted));
 }
 
 /// Queues a row's callback, by a second call where the first is refused a growth, and compares how
@@ -102,14 +100,14 @@ fn queue(rt: &impl Abort, row: usize, lists: &mut Lists<u64>, cpu: u32, value: u
     let before = ask(rt, lists);
     assert!(rt; cpu < lists.cpus());
     match lists.queue(cpu, Tag::of_first_epoch(0), value) {
-        Ok(count) => assert_eq!(rt; (row, count), (row, wanted)),
+        Ok(count) => compare(rt, row, count, wanted),
         Err(back) => {
             refused(rt, row, back.fault, lists, before);
-            assert_eq!(rt; (row, back.value), (row, value));
+            compare(rt, row, back.value, value);
             queue_again(rt, row, lists, cpu, back.value, wanted);
         }
     }
-    assert_eq!(rt; (row, lists.queued()), (row, wanted));
+    compare(rt, row, lists.queued(), wanted);
 }
 
 /// Tends a row's list: how many callbacks are done and how many wait.
@@ -143,7 +141,7 @@ fn tend(
     requires state { number % 4 ≤ 1 }
     requires bounded { number ≤ 2 ^ 62 }
 {
-    assert_eq!(rt; (row, tended(rt, row, lists, cpu, number)), (row, wanted));
+    compare(rt, row, tended(rt, row, lists, cpu, number), wanted);
 }
 
 /// Takes a row's callbacks, by a second call where the first is refused a growth, and compares
@@ -154,9 +152,9 @@ fn run(rt: &impl Abort, row: usize, lists: &mut Lists<u64>, cpu: u32, max: u64, 
 
 /// Compares the values of a row's callbacks.
 fn have_values(rt: &impl Abort, row: usize, calls: &[Queued<u64>], wanted: &[u64]) {
-    assert_eq!(rt; (row, calls.len()), (row, wanted.len()));
+    compare(rt, row, calls.len(), wanted.len());
     for (place, (call, wanted)) in calls.iter().zip(wanted).enumerate() {
-        assert_eq!(rt; (row, place, call.value), (row, place, *wanted));
+        compare(rt, (row, place), call.value, *wanted);
     }
 }
 
@@ -189,7 +187,7 @@ fn migrate(rt: &impl Abort, row: usize, lists: &mut Lists<u64>, wanted: u64) {
         refused(rt, row, Fault::NoMemory, lists, before);
         moved = migrate_once(rt, row, lists);
     }
-    assert_eq!(rt; (row, moved), (row, Ok(wanted)));
+    compare(rt, row, moved, Ok(wanted));
 }
 
 /// Moves processor 1's list, which is empty then, unless that is refused: how many moved.
@@ -210,7 +208,7 @@ fn visit(rt: &impl Abort, row: usize, lists: &mut Lists<u64>, cpu: u32, wanted: 
         refused(rt, row, Fault::NoMemory, lists, before);
         visit = visit_once(rt, row, lists, cpu);
     }
-    assert_eq!(rt; (row, visit), (row, Ok(wanted)));
+    compare(rt, row, visit, Ok(wanted));
 }
 
 /// Visits a processor, which is visited then, unless that is refused: what it did.
@@ -230,13 +228,13 @@ fn visit_once(
 /// A visit of processor 0 where no barrier runs.
 fn no_visit(rt: &impl Abort, row: usize, lists: &mut Lists<u64>) {
     assert!(rt; 0 < lists.cpus());
-    assert_eq!(rt; (row, lists.visit(0)), (row, Err(Fault::NoBarrier)));
+    compare(rt, row, lists.visit(0), Err(Fault::NoBarrier));
 }
 
 /// Compares the greatest number that a callback of a processor carries.
 fn carries(rt: &impl Abort, row: usize, lists: &Lists<u64>, cpu: u32, wanted: Option<u64>) {
     assert!(rt; cpu < lists.cpus());
-    assert_eq!(rt; (row, lists.greatest_waiting(cpu)), (row, wanted));
+    compare(rt, row, lists.greatest_waiting(cpu), wanted);
 }
 
 /// A call on the lists of two processors, with what it has to answer, or a look.
@@ -280,11 +278,11 @@ fn make(rt: &impl Abort, row: usize, lists: &mut Lists<u64>, step: &Step) {
         Step::Greatest(cpu, wanted) => carries(rt, row, lists, *cpu, *wanted),
         Step::Run(cpu, max, wanted) => run(rt, row, lists, *cpu, *max, wanted),
         Step::Migrate(wanted) => migrate(rt, row, lists, *wanted),
-        Step::Begin(wanted) => assert_eq!(rt; (row, lists.barrier_begin()), (row, *wanted)),
+        Step::Begin(wanted) => compare(rt, row, lists.barrier_begin(), *wanted),
         Step::Visit(cpu, wanted) => visit(rt, row, lists, *cpu, *wanted),
         Step::NoVisit => no_visit(rt, row, lists),
-        Step::Test(wanted) => assert_eq!(rt; (row, lists.barrier_test()), (row, *wanted)),
-        Step::IsRunning(wanted) => assert_eq!(rt; (row, lists.is_running()), (row, *wanted)),
+        Step::Test(wanted) => compare(rt, row, lists.barrier_test(), *wanted),
+        Step::IsRunning(wanted) => compare(rt, row, lists.is_running(), *wanted),
         Step::Full => is_full(rt, row, lists),
     }
 }

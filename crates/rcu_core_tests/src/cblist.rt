@@ -5,6 +5,7 @@ mod plain;
 mod random;
 mod rooms;
 
+use crate::made::compare;
 use rcu_cblist::{Queued, SegList, Taken};
 use rcu_seq::{Fault, Tag};
 use std::alloc::Global;
@@ -35,7 +36,7 @@ fn ask(list: &SegList<u64>) -> Asked {
 /// Compares the fault of a row's call whose growth was refused, and what it left of a list with
 /// what was there.
 fn refused(rt: &impl Abort, row: usize, fault: Fault, now: Asked, before: Asked) {
-    assert_eq!(rt; (row, fault, now), (row, Fault::NoMemory, before));
+    compare(rt, row, (fault, now), (Fault::NoMemory, before));
 }
 
 /// The callback of this order number, number of epoch 0 at queueing, and value.
@@ -55,11 +56,8 @@ fn queue(rt: &impl Abort, row: usize, list: &mut SegList<u64>, call: Queued<u64>
     if let Err(back) = list.queue(call) {
         refused(rt, row, back.fault, ask(list), before);
         let item = back.value;
-        assert_eq!(rt; (row, item.ord, item.at, item.value), (row, ord, at, value));
-        assert_eq!(rt;
-            (row, list.queue(item).map_err(|back| back.fault)),
-            (row, Ok(()))
-        );
+        compare(rt, row, (item.ord, item.at, item.value), (ord, at, value));
+        compare(rt, row, list.queue(item).map_err(|back| back.fault), Ok(()));
     }
 }
 
@@ -78,9 +76,9 @@ fn accelerate(rt: &impl Abort, list: &mut SegList<u64>, snap: u64) {
 /// Compares the values of the callbacks that a row took, and how many markers were passed.
 fn compare_taken(rt: &impl Abort, row: usize, taken: &Taken<u64>, wanted: &[u64], markers: u64) {
     let count = taken.calls.len();
-    assert_eq!(rt; (row, taken.markers, count), (row, markers, wanted.len()));
+    compare(rt, row, (taken.markers, count), (markers, wanted.len()));
     for (place, (call, wanted)) in taken.calls.iter().zip(wanted).enumerate() {
-        assert_eq!(rt; (row, place, call.value), (row, place, *wanted));
+        compare(rt, (row, place), call.value, *wanted);
     }
 }
 
@@ -111,7 +109,7 @@ fn migrate(rt: &impl Abort, row: usize, list: &mut SegList<u64>, target: &mut Se
     if let Err(fault) = list.migrate_into(target) {
         refused(rt, row, fault, ask(list), before);
         refused(rt, row, fault, ask(target), there);
-        assert_eq!(rt; (row, list.migrate_into(target)), (row, Ok(())));
+        compare(rt, row, list.migrate_into(target), Ok(()));
     }
 }
 
@@ -122,7 +120,7 @@ fn migrate_marked(rt: &impl Abort, row: usize, list: &mut SegList<u64>, target: 
     if let Err(fault) = list.move_into(target, true) {
         refused(rt, row, fault, ask(list), before);
         refused(rt, row, fault, ask(target), there);
-        assert_eq!(rt; (row, list.move_into(target, true)), (row, Ok(())));
+        compare(rt, row, list.move_into(target, true), Ok(()));
     }
 }
 
@@ -135,7 +133,7 @@ fn entrain(rt: &impl Abort, row: usize, list: &mut SegList<u64>, wanted: bool) {
         refused(rt, row, Fault::NoMemory, ask(list), before);
         marked = list.entrain();
     }
-    assert_eq!(rt; (row, marked), (row, Ok(wanted)));
+    compare(rt, row, marked, Ok(wanted));
 }
 
 /// Compares how many callbacks are done and how many wait, how many there are, and the greatest
@@ -153,8 +151,8 @@ fn counts(
         list.waiting_count(),
         list.greatest_waiting(),
     );
-    assert_eq!(rt; (row, found), (row, (done, waiting, greatest)));
-    assert_eq!(rt; (row, list.count().checked_sub(done)), (row, Some(waiting)));
+    compare(rt, row, found, (done, waiting, greatest));
+    compare(rt, row, list.count().checked_sub(done), Some(waiting));
 }
 
 /// A call on a list, with what it has to answer, or a look at the list.
@@ -204,8 +202,8 @@ fn make(
         Step::MigrateMarked => migrate_marked(rt, row, list, other),
         Step::Swap => swap(list, other),
         Step::Counts(done, waiting, greatest) => counts(rt, row, list, *done, *waiting, *greatest),
-        Step::Segments(wanted) => assert_eq!(rt; (row, list.segments()), (row, *wanted)),
-        Step::IsEmpty(wanted) => assert_eq!(rt; (row, list.is_empty()), (row, *wanted)),
+        Step::Segments(wanted) => compare(rt, row, list.segments(), *wanted),
+        Step::IsEmpty(wanted) => compare(rt, row, list.is_empty(), *wanted),
     }
 }
 

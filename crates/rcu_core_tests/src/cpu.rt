@@ -1,5 +1,5 @@
 //! The nesting of read sections to its limit, and each call with each of its faults.
-use crate::made::is_done;
+use crate::made::compare;
 use rcu_cpu::CpuData;
 use rcu_report::Report;
 use rcu_seq::{Fault, Tag};
@@ -30,46 +30,40 @@ enum Step {
 /// Makes a row's call, or looks, and compares.
 fn make(rt: &impl Abort, row: usize, data: &mut CpuData, step: &Step) {
     match step {
-        Step::Enter(wanted) => is_depth(rt, row, data.enter(), *wanted),
-        Step::Exit(wanted) => is_depth(rt, row, data.exit(), *wanted),
+        Step::Enter(wanted) => compare(rt, row, data.enter(), *wanted),
+        Step::Exit(wanted) => compare(rt, row, data.exit(), *wanted),
         Step::Note(number, epoch, wanted) => {
-            is_done(rt, row, data.note(tag(*number, *epoch)), *wanted);
+            compare(rt, row, data.note(tag(*number, *epoch)), *wanted);
         },
         Step::Quiesce(number, epoch) => quiesce(rt, row, data, Ok(tag(*number, *epoch))),
         Step::NoReport(fault) => quiesce(rt, row, data, Err(*fault)),
         Step::Arrive(number, epoch, wanted) => {
-            is_done(rt, row, data.arrive(tag(*number, *epoch)), *wanted);
+            compare(rt, row, data.arrive(tag(*number, *epoch)), *wanted);
         },
-        Step::Depart(wanted) => is_done(rt, row, data.depart(), *wanted),
-        Step::Idle(wanted) => is_done(rt, row, data.idle(), *wanted),
-        Step::Wake(wanted) => is_done(rt, row, data.wake(), *wanted),
-        Step::IsIdle(wanted) => assert_eq!(rt; (row, data.is_idle()), (row, *wanted)),
+        Step::Depart(wanted) => compare(rt, row, data.depart(), *wanted),
+        Step::Idle(wanted) => compare(rt, row, data.idle(), *wanted),
+        Step::Wake(wanted) => compare(rt, row, data.wake(), *wanted),
+        Step::IsIdle(wanted) => compare(rt, row, data.is_idle(), *wanted),
         Step::Is(online, depth, number, epoch) => {
             is_at(rt, row, data, (*online, *depth, tag(*number, *epoch)));
         },
     }
 }
 
-/// Compares the depth after a row's call, or its fault.
-fn is_depth(rt: &impl Abort, row: usize, answer: Result<u32, Fault>, wanted: Result<u32, Fault>) {
-    assert_eq!(rt; (row, answer), (row, wanted));
-}
-
 /// Makes a row's quiescent state, and compares the report.
 fn quiesce(rt: &impl Abort, row: usize, data: &mut CpuData, wanted: Result<Tag, Fault>) {
     let cpu = data.cpu();
-    assert_eq!(rt;
-        (row, data.quiesce()),
-        (row, wanted.map(|tag| Report { cpu, tag }))
+    compare(
+        rt,
+        row,
+        data.quiesce(),
+        wanted.map(|tag| Report { cpu, tag }),
     );
 }
 
 /// Compares whether the processor is online, the depth of its section, and what is noted.
 fn is_at(rt: &impl Abort, row: usize, data: &CpuData, wanted: (bool, u32, Tag)) {
-    assert_eq!(rt;
-        (row, (data.online(), data.depth(), data.noted())),
-        (row, wanted)
-    );
+    compare(rt, row, (data.online(), data.depth(), data.noted()), wanted);
 }
 
 /// This number of this epoch.
@@ -81,7 +75,7 @@ fn tag(number: u64, epoch: u64) -> Tag {
 fn make_all(rt: &impl Abort, mut data: CpuData, cpu: u32, steps: &[Step]) {
     for (row, step) in steps.iter().enumerate() {
         make(rt, row, &mut data, step);
-        assert_eq!(rt; (row, data.cpu()), (row, cpu));
+        compare(rt, row, data.cpu(), cpu);
     }
 }
 

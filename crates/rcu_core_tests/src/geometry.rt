@@ -1,5 +1,6 @@
 //! The shapes of some trees, with every public call.
 
+use crate::made::compare;
 use rcu_geometry::Geometry;
 use rcu_seq::Fault;
 use std::process::Abort;
@@ -7,11 +8,6 @@ use std::process::Abort;
 /// The shape of a tree that is to be.
 fn geometry<const LEAF: u32, const FAN: u32>(rt: &impl Abort, cpus: u32) -> Geometry<LEAF, FAN> {
     Geometry::new(cpus).expect(rt, "there is such a tree")
-}
-
-/// Compares the two numbers that are said of a level or a processor.
-fn is_said(rt: &impl Abort, place: u32, said: (u32, u32), wanted: (u32, u32)) {
-    assert_eq!(rt; (place, said), (place, wanted));
 }
 
 /// Compares where each level begins and how many nodes it has, and how many nodes there are.
@@ -31,7 +27,7 @@ fn has_levels<const LEAF: u32, const FAN: u32>(
     for (level, wanted) in (0..geometry.levels()).zip(wanted) {
         assert!(rt; level < geometry.levels());
         let said = (geometry.level_start(level), geometry.level_nodes(level));
-        is_said(rt, level, said, *wanted);
+        compare(rt, level, said, *wanted);
     }
 }
 
@@ -39,7 +35,7 @@ fn has_levels<const LEAF: u32, const FAN: u32>(
 fn refuses<const LEAF: u32, const FAN: u32>(rt: &impl Abort, cpus: u32, wanted: Fault) {
     match Geometry::<LEAF, FAN>::new(cpus) {
         Ok(_) => panic!(rt; "there is such a tree"),
-        Err(fault) => assert_eq!(rt; (cpus, fault), (cpus, wanted)),
+        Err(fault) => compare(rt, cpus, fault, wanted),
     }
 }
 
@@ -95,7 +91,7 @@ fn has_parents<const LEAF: u32, const FAN: u32>(
     for (node, wanted) in (0..geometry.nodes()).zip(wanted) {
         assert!(rt; node < geometry.nodes());
         let said = (geometry.parent(node), geometry.bit_in_parent(node));
-        assert_eq!(rt; (node, said), (node, *wanted));
+        compare(rt, node, said, *wanted);
     }
 }
 
@@ -108,7 +104,7 @@ fn has_leaves<const LEAF: u32, const FAN: u32>(
     assert_eq!(rt; geometry.cpus() as usize, wanted.len());
     for (cpu, wanted) in (0..geometry.cpus()).zip(wanted) {
         assert!(rt; cpu < geometry.cpus());
-        is_said(
+        compare(
             rt,
             cpu,
             (geometry.leaf_of(cpu), geometry.bit_of(cpu)),

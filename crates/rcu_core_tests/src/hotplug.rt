@@ -1,5 +1,5 @@
 //! Each public call over each kind of awaited set.
-use crate::made::{flat, is_answer, is_done, is_said, refused, tree};
+use crate::made::{compare, flat, refused, tree};
 use rcu_hotplug::Hotplug;
 use rcu_node::{Answer, Awaited, Flat, Tree};
 use rcu_report::Report;
@@ -34,8 +34,8 @@ fn awaits<A: Awaited>(rt: &impl Abort, hotplug: &Hotplug<A>, wanted: &[u32]) {
     let awaited = hotplug.awaited();
     for cpu in 0..awaited.cpus() {
         let awaits = awaited.awaits(cpu);
-        is_said(rt, cpu, awaits, wanted.contains(&cpu));
-        is_said(rt, cpu, !awaits || hotplug.online(cpu), true);
+        compare(rt, cpu, awaits, wanted.contains(&cpu));
+        compare(rt, cpu, !awaits || hotplug.online(cpu), true);
     }
     assert_eq!(rt; awaited.count() as usize, wanted.len());
 }
@@ -57,10 +57,9 @@ fn report<A: Awaited>(rt: &impl Abort, hotplug: &mut Hotplug<A>, reports: &[(u32
             cpu: *cpu,
             tag: Tag::of_first_epoch(*number),
         };
-        is_answer(
+        compare(
             rt,
-            row,
-            report,
+            (row, report),
             hotplug.report(report.cpu, report.tag),
             *wanted,
         );
@@ -69,12 +68,12 @@ fn report<A: Awaited>(rt: &impl Abort, hotplug: &mut Hotplug<A>, reports: &[(u32
 
 /// Takes a processor online.
 fn arrives<A: Awaited>(rt: &impl Abort, hotplug: &mut Hotplug<A>, cpu: u32) {
-    assert_eq!(rt; (cpu, hotplug.arrive(cpu)), (cpu, Ok(())));
+    compare(rt, cpu, hotplug.arrive(cpu), Ok(()));
 }
 
 /// Takes a processor offline.
 fn departs<A: Awaited>(rt: &impl Abort, hotplug: &mut Hotplug<A>, cpu: u32) {
-    assert_eq!(rt; (cpu, hotplug.depart(cpu)), (cpu, Ok(())));
+    compare(rt, cpu, hotplug.depart(cpu), Ok(()));
 }
 
 /// A processor that arrives while a grace period runs is awaited by the next one.
@@ -120,14 +119,14 @@ fn departed_and_back<A: Awaited>(rt: &impl Abort, hotplug: &mut Hotplug<A>) {
 /// Compares why each of these processors does not arrive.
 fn refuses_arrival<A: Awaited>(rt: &impl Abort, hotplug: &mut Hotplug<A>, rows: &[(u32, Fault)]) {
     for (row, (cpu, wanted)) in rows.iter().enumerate() {
-        is_done(rt, row, hotplug.arrive(*cpu), Err(*wanted));
+        compare(rt, row, hotplug.arrive(*cpu), Err(*wanted));
     }
 }
 
 /// Compares why each of these processors does not depart.
 fn refuses_departure<A: Awaited>(rt: &impl Abort, hotplug: &mut Hotplug<A>, rows: &[(u32, Fault)]) {
     for (row, (cpu, wanted)) in rows.iter().enumerate() {
-        is_done(rt, row, hotplug.depart(*cpu), Err(*wanted));
+        compare(rt, row, hotplug.depart(*cpu), Err(*wanted));
     }
 }
 

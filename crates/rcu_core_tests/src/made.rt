@@ -6,26 +6,22 @@ use rcu_node::{Answer, Awaited, CpuSet, Flat, Tree};
 use rcu_report::Report;
 use rcu_seq::Fault;
 use std::alloc::Global;
+use std::fmt::Debug;
 use std::process::Abort;
+
+/// Compares what came of a row with what was wanted: a test that fails says its row.
+pub fn compare<R: Debug + Drop, T: Debug + Drop + PartialEq>(
+    rt: &impl Abort,
+    row: R,
+    found: T,
+    wanted: T,
+) {
+    assert_eq!(rt; found, wanted, "{row:?}");
+}
 
 /// Compares the fault of a call whose growth was refused.
 pub fn refused(rt: &impl Abort, fault: Fault) {
     assert_eq!(rt; fault, Fault::NoMemory);
-}
-
-/// Compares what is said of a processor.
-pub fn is_said(rt: &impl Abort, cpu: u32, said: bool, wanted: bool) {
-    assert_eq!(rt; (cpu, said), (cpu, wanted));
-}
-
-/// Compares the answer to the report of a row.
-pub fn is_answer(rt: &impl Abort, row: usize, report: Report, answer: Answer, wanted: Answer) {
-    assert_eq!(rt; (row, report, answer), (row, report, wanted));
-}
-
-/// Compares whether the call of a row was made, or its fault.
-pub fn is_done(rt: &impl Abort, row: usize, answer: Result<(), Fault>, wanted: Result<(), Fault>) {
-    assert_eq!(rt; (row, answer), (row, wanted));
 }
 
 /// An empty set.

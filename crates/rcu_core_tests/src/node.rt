@@ -4,7 +4,7 @@
 mod masks;
 mod merging;
 
-use crate::made::{empty_set, everyone, flat, is_answer, is_said, tree};
+use crate::made::{compare, empty_set, everyone, flat, tree};
 use rcu_node::{Answer, Awaited, CpuSet, Flat, Tree};
 use rcu_report::Report;
 use rcu_seq::{Fault, Tag};
@@ -15,7 +15,7 @@ use std::process::Abort;
 fn insert(rt: &impl Abort, set: &mut CpuSet, cpus: &[(u32, bool)]) {
     for (cpu, wanted) in cpus {
         assert!(rt; *cpu < set.cpus());
-        is_said(rt, *cpu, set.insert(*cpu), *wanted);
+        compare(rt, *cpu, set.insert(*cpu), *wanted);
     }
 }
 
@@ -23,7 +23,7 @@ fn insert(rt: &impl Abort, set: &mut CpuSet, cpus: &[(u32, bool)]) {
 fn contains(rt: &impl Abort, set: &CpuSet, cpus: &[(u32, bool)]) {
     for (cpu, wanted) in cpus {
         assert!(rt; *cpu < set.cpus());
-        is_said(rt, *cpu, set.contains(*cpu), *wanted);
+        compare(rt, *cpu, set.contains(*cpu), *wanted);
     }
 }
 
@@ -36,10 +36,9 @@ fn report_of<A: Awaited>(
     wanted: Answer,
 ) {
     assert!(rt; report.cpu < awaited.cpus());
-    is_answer(
+    compare(
         rt,
-        row,
-        report,
+        (row, report),
         awaited.report(report.cpu, report.tag),
         wanted,
     );
@@ -61,7 +60,7 @@ fn awaits<A: Awaited>(rt: &impl Abort, awaited: &A, cpus: &[(u32, bool, bool)]) 
     for (cpu, at_start, now) in cpus {
         assert!(rt; *cpu < awaited.cpus());
         let found = (awaited.starts(*cpu), awaited.awaits(*cpu));
-        assert_eq!(rt; (*cpu, found), (*cpu, (*at_start, *now)));
+        compare(rt, *cpu, found, (*at_start, *now));
     }
 }
 
@@ -209,19 +208,14 @@ fn report_54<A: Awaited>(rt: &impl Abort, awaited: &mut A) {
 /// Takes a processor out, and compares whether it was there.
 fn remove(rt: &impl Abort, set: &mut CpuSet, cpu: u32, wanted: bool) {
     assert!(rt; cpu < set.cpus());
-    is_said(rt, cpu, set.remove(cpu), wanted);
-}
-
-/// Compares flags as a word, which begins at this processor.
-fn is_word(rt: &impl Abort, from: u32, bits: u64, wanted: u64) {
-    assert_eq!(rt; (from, bits), (from, wanted));
+    compare(rt, cpu, set.remove(cpu), wanted);
 }
 
 /// Compares flags as words, each of a first processor and a number of processors.
 fn has_bits(rt: &impl Abort, set: &CpuSet, words: &[(u32, u32, u64)]) {
     for (from, width, wanted) in words {
         assert!(rt; *from < set.cpus() && *width <= 64);
-        is_word(rt, *from, set.bits_from(*from, *width), *wanted);
+        compare(rt, *from, set.bits_from(*from, *width), *wanted);
     }
 }
 
@@ -293,7 +287,7 @@ fn union_of_three_words(rt: HostRuntime) {
 fn no_set(rt: &impl Abort, alloc: Global, cpus: u32) {
     let found = (CpuSet::new(alloc, cpus).err(), Flat::new(alloc, cpus).err());
     let wanted = (Some(Fault::TooManyCpus), Some(Fault::TooManyCpus));
-    assert_eq!(rt; (cpus, found), (cpus, wanted));
+    compare(rt, cpus, found, wanted);
 }
 
 /// No tree of so many processors is made.
@@ -304,7 +298,7 @@ fn no_tree<const LEAF: u32, const FAN: u32>(
     wanted: Fault,
 ) {
     let found = Tree::<LEAF, FAN>::new(alloc, cpus).err();
-    assert_eq!(rt; (LEAF, FAN, cpus, found), (LEAF, FAN, cpus, Some(wanted)));
+    compare(rt, (LEAF, FAN, cpus), found, Some(wanted));
 }
 
 /// Neither a set nor a tree of so many processors is made.

@@ -2,7 +2,7 @@
 
 mod replicas;
 
-use crate::made::{everyone, is_said, refused, tree};
+use crate::made::{compare, everyone, refused, tree};
 use rcu_node::{Awaited, Tree};
 use rcu_report::{Batch, Report};
 use rcu_seq::{Fault, Tag};
@@ -42,13 +42,13 @@ fn batch(rt: &impl Abort, alloc: Global, cpus: u32, tag: Tag) -> Batch {
 fn add(rt: &impl Abort, batch: &mut Batch, cpu: u32, tag: Tag, wanted: Result<(), Fault>) {
     assert!(rt; cpu < batch.cpus());
     let report = Report { cpu, tag };
-    assert_eq!(rt; (report, batch.add(report)), (report, wanted));
+    compare(rt, report, batch.add(report), wanted);
 }
 
 /// Compares which processors are in a batch.
 fn contains(rt: &impl Abort, batch: &Batch, wanted: &[u32]) {
     for cpu in 0..batch.cpus() {
-        is_said(rt, cpu, batch.contains(cpu), wanted.contains(&cpu));
+        compare(rt, cpu, batch.contains(cpu), wanted.contains(&cpu));
     }
 }
 
@@ -62,7 +62,7 @@ fn apply<A: Awaited>(rt: &impl Abort, batch: &Batch, to: &mut A, wanted: u32) {
 /// Compares which processors are awaited.
 fn awaits<A: Awaited>(rt: &impl Abort, awaited: &A, wanted: &[u32]) {
     for cpu in 0..awaited.cpus() {
-        is_said(rt, cpu, awaited.awaits(cpu), wanted.contains(&cpu));
+        compare(rt, cpu, awaited.awaits(cpu), wanted.contains(&cpu));
     }
 }
 
@@ -159,7 +159,7 @@ fn unlike_batches(rt: HostRuntime) {
 /// No batch of so many processors is made.
 fn no_batch(rt: &impl Abort, alloc: Global, cpus: u32) {
     let found = Batch::new(alloc, cpus, FIRST).err();
-    assert_eq!(rt; (cpus, found), (cpus, Some(Fault::TooManyCpus)));
+    compare(rt, cpus, found, Some(Fault::TooManyCpus));
 }
 
 /// A batch of so many processors is made.

@@ -1,4 +1,5 @@
 //! A counter from its making to its last number, its cookies, and the numbers of faults.
+use crate::made::compare;
 use crate::path::{Since, Turn, steps, turn_at};
 use rcu_seq::{Cookie, Fault, Seq, Tag};
 use std::process::Abort;
@@ -22,45 +23,39 @@ enum Step {
 /// Makes a row's call, or looks, and compares.
 fn make(rt: &impl Abort, row: usize, seq: &mut Seq, step: &Step) {
     match step {
-        Step::Start(wanted) => is_number(rt, row, seq.start(), *wanted),
-        Step::End(wanted) => is_number(rt, row, seq.end(), *wanted),
+        Step::Start(wanted) => compare(rt, row, seq.start(), *wanted),
+        Step::End(wanted) => compare(rt, row, seq.end(), *wanted),
         Step::Is(value, last, running) => is_at(rt, row, seq, (*value, *last, *running)),
         Step::Snap(number, epoch) => has_cookie(rt, row, seq, *number, *epoch),
         Step::Done(number, epoch, wanted) => is_done(rt, row, seq, *number, *epoch, *wanted),
-        Step::Renumber(wanted) => is_number(rt, row, seq.renumber(), *wanted),
+        Step::Renumber(wanted) => compare(rt, row, seq.renumber(), *wanted),
         Step::Tag(number, epoch) => has_tag(rt, row, seq, *number, *epoch),
     }
 }
 
-/// Compares the number or the epoch after a row's call, or its fault.
-fn is_number(rt: &impl Abort, row: usize, answer: Result<u64, Fault>, wanted: Result<u64, Fault>) {
-    assert_eq!(rt; (row, answer), (row, wanted));
-}
-
 /// Compares the number, the last one, and whether a grace period runs.
 fn is_at(rt: &impl Abort, row: usize, seq: &Seq, wanted: (u64, u64, bool)) {
-    assert_eq!(rt;
-        (row, (seq.value(), seq.last(), seq.is_running())),
-        (row, wanted)
-    );
+    compare(rt, row, (seq.value(), seq.last(), seq.is_running()), wanted);
 }
 
 /// Compares the epoch and the tag.
 fn has_tag(rt: &impl Abort, row: usize, seq: &Seq, number: u64, epoch: u64) {
-    assert_eq!(rt;
-        (row, seq.epoch(), seq.tag()),
-        (row, epoch, Tag { epoch, number })
+    compare(
+        rt,
+        row,
+        (seq.epoch(), seq.tag()),
+        (epoch, Tag { epoch, number }),
     );
 }
 
 /// Compares the cookie of a taking.
 fn has_cookie(rt: &impl Abort, row: usize, seq: &Seq, number: u64, epoch: u64) {
-    assert_eq!(rt; (row, seq.snap()), (row, Cookie { epoch, number }));
+    compare(rt, row, seq.snap(), Cookie { epoch, number });
 }
 
 /// Compares whether a cookie is done.
 fn is_done(rt: &impl Abort, row: usize, seq: &Seq, number: u64, epoch: u64, wanted: bool) {
-    assert_eq!(rt; (row, seq.done(Cookie { epoch, number })), (row, wanted));
+    compare(rt, row, seq.done(Cookie { epoch, number }), wanted);
 }
 
 /// Makes the steps in turn.
@@ -186,7 +181,7 @@ fn go(rt: &impl Abort, seq: &mut Seq, place: u32, turn: Turn) {
         Turn::End => seq.end(),
         Turn::Renumber => seq.renumber(),
     };
-    assert_eq!(rt; (place, gone.err()), (place, None));
+    compare(rt, place, gone.err(), None);
 }
 
 /// Takes a cookie at a place of the path, and polls it there and at each place behind.
@@ -198,7 +193,7 @@ fn poll_from(rt: &impl Abort, mut seq: Seq, last: u32, place: u32) {
     let mut since = Since::taking();
     for behind in place..steps(last) {
         let (found, wanted) = (seq.done(cookie), since.has_full_period());
-        assert_eq!(rt; (place, behind, found), (place, behind, wanted));
+        compare(rt, (place, behind), found, wanted);
         go(rt, &mut seq, behind, turn_at(last, behind));
         since.go(turn_at(last, behind));
     }
@@ -275,7 +270,7 @@ static NUMBERS: [(Fault, u32); 22] = [
 
 /// Compares the number of a fault.
 fn has_number(rt: &impl Abort, fault: Fault, number: u32) {
-    assert_eq!(rt; (fault, fault.number()), (fault, number));
+    compare(rt, fault, fault.number(), number);
 }
 
 #[test]

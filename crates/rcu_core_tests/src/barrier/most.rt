@@ -2,6 +2,7 @@
 ghost use Rattle.std.specs.Prelude.{◌≤◌, ◌^◌};
 
 use super::{Step, make_each, queue_again};
+use crate::made::compare;
 use rcu_barrier::Lists;
 use rcu_seq::{Fault, Tag};
 use std::alloc::Global;
@@ -24,15 +25,12 @@ fn lists_with_most(rt: &impl Abort, alloc: Global, most: u64) -> Lists<u64>
 
 /// No more callback is queued on either processor.
 pub(super) fn is_full(rt: &impl Abort, row: usize, lists: &mut Lists<u64>) {
-    assert_eq!(rt; (row, lists.queued()), (row, lists.most()));
+    compare(rt, row, lists.queued(), lists.most());
     for cpu in 0..2 {
         assert!(rt; cpu < lists.cpus());
         let refusal = lists.queue(cpu, Tag::of_first_epoch(0), 8);
         let found = refusal.map_err(|back| (back.fault, back.value));
-        assert_eq!(rt;
-            (row, cpu, found),
-            (row, cpu, Err((Fault::CallbacksFull, 8)))
-        );
+        compare(rt, (row, cpu), found, Err((Fault::CallbacksFull, 8)));
     }
 }
 
@@ -41,7 +39,7 @@ pub(super) fn fill(rt: &impl Abort, lists: &mut Lists<u64>) {
     for count in 0..1_000_000u64 {
         assert!(rt; 0 < lists.cpus());
         if let Err(back) = lists.queue(0, Tag::of_first_epoch(0), 7) {
-            assert_eq!(rt; (count, back.fault), (count, Fault::NoMemory));
+            compare(rt, count, back.fault, Fault::NoMemory);
             queue_again(rt, count as usize, lists, 0, back.value, count + 1);
         }
     }

@@ -3,6 +3,7 @@
 
 use super::{lists_of, take, tended, visit_once};
 use crate::draw::Draw;
+use crate::made::compare;
 use rcu_barrier::{BarrierState, Lists};
 use rcu_cblist::Queued;
 use rcu_seq::Tag;
@@ -39,7 +40,7 @@ impl Told {
                 "row {row}: {}",
                 call.ord
             );
-            assert_eq!(rt; (row, call.value), (row, call.ord.wrapping_mul(7)));
+            compare(rt, row, call.value, call.ord.wrapping_mul(7));
             let place = (call.ord as usize).wrapping_sub(1);
             assert!(rt; place < MOST);
             self.times[place] = self.times[place].saturating_add(1);

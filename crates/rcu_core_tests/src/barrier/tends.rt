@@ -1,6 +1,7 @@
 //! Tends at the numbers of epochs, beside a plain list with the number of each callback.
 use super::{lists, queue, take, tend};
 use crate::draw::Draw;
+use crate::made::compare;
 use rcu_barrier::Lists;
 use rcu_cblist::Queued;
 use std::process::Abort;
@@ -39,9 +40,9 @@ impl Plain {
 
     /// Hands out callbacks, and compares them with those that were taken in a row.
     fn hand_out(&mut self, rt: &impl Abort, row: usize, calls: &[Queued<u64>], max: u64) {
-        assert_eq!(rt; (row, calls.len() as u64), (row, self.counts().0.min(max)));
+        compare(rt, row, calls.len() as u64, self.counts().0.min(max));
         for call in calls {
-            assert_eq!(rt; (row, call.value), (row, self.handed));
+            compare(rt, row, call.value, self.handed);
             self.handed = self.handed.saturating_add(1);
         }
     }

@@ -3,6 +3,7 @@
 use crate::cblist::plain::{Item, Mark, Plain, ROOM};
 use crate::cblist::{Asked, accelerate, ask};
 use crate::draw::Draw;
+use crate::made::compare;
 use rcu_cblist::{Queued, SegList};
 use rcu_seq::Tag;
 use std::mem::swap;
@@ -28,9 +29,9 @@ fn asked_of(plain: &Plain) -> Asked {
 }
 
 /// Compares counts, the greatest number and the segments after this call.
-fn compare(rt: &impl Abort, call: u64, list: &SegList<u64>, plain: &Plain) {
-    assert_eq!(rt; (call, ask(list)), (call, asked_of(plain)));
-    assert_eq!(rt; (call, list.is_empty()), (call, plain.len == 0));
+fn compare_list(rt: &impl Abort, call: u64, list: &SegList<u64>, plain: &Plain) {
+    compare(rt, call, ask(list), asked_of(plain));
+    compare(rt, call, list.is_empty(), plain.len == 0);
 }
 
 /// Queues a callback, by a second call where the first is refused a growth.
@@ -45,7 +46,7 @@ fn queue(rt: &impl Abort, list: &mut SegList<u64>, plain: &mut Plain, value: u64
     };
     if let Err(back) = list.queue(call) {
         let again = list.queue(back.value).map_err(|back| back.fault);
-        assert_eq!(rt; (value, again), (value, Ok(())));
+        compare(rt, value, again, Ok(()));
     }
     plain.push(Item::Call(value, Mark::Unmarked));
 }
@@ -59,7 +60,7 @@ fn entrain(rt: &impl Abort, call: u64, list: &mut SegList<u64>, plain: &mut Plai
         Ok(marked) => marked,
         Err(_) => list.entrain().expect(rt, "the second call has memory"),
     };
-    assert_eq!(rt; (call, marked), (call, plain.len > 0));
+    compare(rt, call, marked, plain.len > 0);
     if marked {
         plain.push(Item::Marker);
     }
@@ -79,7 +80,7 @@ fn take(rt: &impl Abort, call: u64, list: &mut SegList<u64>, plain: &mut Plain, 
             Some(Item::Call(value, _)) => {
                 left = left.saturating_sub(1);
                 let found = taken.calls.get(place).map(|call| call.value);
-                assert_eq!(rt; (call, place, found), (call, place, Some(value)));
+                compare(rt, (call, place), found, Some(value));
                 place = place.saturating_add(1);
             }
             Some(Item::Marker) => markers = markers.saturating_add(1),
@@ -87,7 +88,7 @@ fn take(rt: &impl Abort, call: u64, list: &mut SegList<u64>, plain: &mut Plain, 
         }
     }
     let found = (taken.calls.len(), taken.markers);
-    assert_eq!(rt; (call, found), (call, (place, markers)));
+    compare(rt, call, found, (place, markers));
 }
 
 /// Takes one callback, with no memory.
@@ -104,7 +105,7 @@ fn pop(rt: &impl Abort, call: u64, list: &mut SegList<u64>, plain: &mut Plain) {
         wanted = Some((value, markers));
     }
     let popped = list.pop_done().map(|popped| (popped.0.value, popped.1));
-    assert_eq!(rt; (call, popped), (call, wanted));
+    compare(rt, call, popped, wanted);
 }
 
 /// Moves a list to another, by a second call where the first is refused a growth.
@@ -157,7 +158,7 @@ fn drain(rt: &impl Abort, call: u64, list: &mut SegList<u64>, plain: &mut Plain)
     plain.accelerate(LAST);
     advance(list, plain, LAST);
     take(rt, call, list, plain, u64::MAX);
-    assert_eq!(rt; (call, list.count(), list.is_empty()), (call, 0, true));
+    compare(rt, call, (list.count(), list.is_empty()), (0, true));
 }
 
 #[test]
@@ -195,8 +196,8 @@ fn calls_at_random(rt: HostRuntime) {
                 kind == 15,
             ),
         }
-        compare(&rt, call, &list, &plain);
-        compare(&rt, call, &other, &other_plain);
+        compare_list(&rt, call, &list, &plain);
+        compare_list(&rt, call, &other, &other_plain);
         if call % DRAINS == 0 {
             drain(&rt, call, &mut other, &mut other_plain);
         }
@@ -228,11 +229,11 @@ fn tends_at_the_numbers_of_epochs(rt: HostRuntime) {
                 plain.advance(number);
                 accelerate(&rt, &mut list, snap);
                 plain.accelerate(snap);
-                assert_eq!(rt; (call, list.segments()[3]), (call, 0));
+                compare(&rt, call, list.segments()[3], 0);
                 periods = periods.saturating_add(running);
             }
         }
-        compare(&rt, call, &list, &plain);
+        compare_list(&rt, call, &list, &plain);
     }
     drain(&rt, CALLS, &mut list, &mut plain);
 }

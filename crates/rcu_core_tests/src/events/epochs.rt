@@ -1,5 +1,6 @@
 //! Events across renumberings: cookies, callbacks, memory, and each two places of a path.
 use crate::events::machine::{both, core, run, step, takes, told_all};
+use crate::made::compare;
 use crate::path::{Since, Turn, steps, turn_at};
 use rcu_core::{Core, Event, Reply};
 use rcu_node::Flat;
@@ -172,7 +173,7 @@ fn take(rt: &impl Abort, core: &mut Core<Flat, u64>) -> Cookie {
 /// Compares whether a cookie is done at a place of the path.
 fn is_done(rt: &impl Abort, at: u32, core: &mut Core<Flat, u64>, cookie: Cookie, wanted: bool) {
     match core.step(Event::Poll(cookie.number, cookie.epoch)) {
-        Reply::Polled(done) => assert_eq!(rt; (at, cookie, done), (at, cookie, wanted)),
+        Reply::Polled(done) => compare(rt, (at, cookie), done, wanted),
         _ => panic!(rt; "no answer"),
     }
 }

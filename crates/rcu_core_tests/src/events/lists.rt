@@ -1,5 +1,6 @@
 //! A list of processors and a list of values, read.
 
+use crate::made::compare;
 use rcu_cblist::Queued;
 use rcu_core::{CpuList, ValueList};
 use rcu_seq::Tag;
@@ -48,7 +49,7 @@ fn has_values(rt: &impl Abort, list: &ValueList, wanted: &[u64]) {
     assert_eq!(rt; list.is_empty(), wanted.is_empty());
     assert_eq!(rt; list.len(), wanted.len());
     for place in 0..list.len() {
-        assert_eq!(rt; (place, list.value(place)), (place, wanted[place]));
+        compare(rt, place, list.value(place), wanted[place]);
     }
 }
 

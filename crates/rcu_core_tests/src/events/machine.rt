@@ -1,5 +1,5 @@
 //! Machines of two processors, and events taken one at a time or as a list.
-use crate::made::{flat, refused};
+use crate::made::{compare, flat, refused};
 use rcu_core::{Core, Event, Reply};
 use rcu_node::Flat;
 use rcu_seq::{Cookie, Fault};
@@ -59,7 +59,7 @@ pub fn step(rt: &impl Abort, core: &mut Core<Flat, u64>, event: Event) -> Reply 
     let before = ask(core);
     match core.step(event) {
         Reply::Fault(Fault::NoMemory) => {
-            assert_eq!(rt; (event, ask(core)), (event, before));
+            compare(rt, event, ask(core), before);
             core.step(event)
         }
         reply => reply,
@@ -93,7 +93,7 @@ fn told(rt: &impl Abort, alloc: Global, row: usize, reply: &Reply, wanted: &str)
         Ok(text) => text,
         Err(_) => format!(in alloc; "{reply:?}").expect(rt, "the second call has memory"),
     };
-    assert_eq!(rt; (row, text.as_str()), (row, wanted));
+    compare(rt, row, text.as_str(), wanted);
 }
 
 /// Compares replies with the texts that they print as.

@@ -3,7 +3,7 @@
 
 mod rooms;
 
-use crate::made::{flat, refused};
+use crate::made::{compare, flat, refused};
 use rcu_barrier::{BarrierState, Visit};
 use rcu_core::gp_state::{GpState, Turned};
 use rcu_node::{Answer, Awaited, Flat};
@@ -79,13 +79,13 @@ fn queue(rt: &impl Abort, state: &mut State, cpu: u32, value: u64, wanted: u64) 
     let before = ask(rt, state);
     assert!(rt; cpu < state.cpus());
     match state.queue(cpu, value) {
-        Ok(count) => assert_eq!(rt; (cpu, value, count), (cpu, value, wanted)),
+        Ok(count) => compare(rt, (cpu, value), count, wanted),
         Err(back) => {
             left(rt, back.fault, state, before);
             assert_eq!(rt; back.value, value);
             assert!(rt; cpu < state.cpus());
             let again = state.queue(cpu, back.value).map_err(|back| back.fault);
-            assert_eq!(rt; (cpu, value, again), (cpu, value, Ok(wanted)));
+            compare(rt, (cpu, value), again, Ok(wanted));
         }
     }
 }
@@ -95,11 +95,11 @@ fn visit(rt: &impl Abort, state: &mut State, cpu: u32) {
     let before = ask(rt, state);
     assert!(rt; cpu < state.cpus());
     match state.visit(cpu) {
-        Ok(visit) => assert_eq!(rt; (cpu, visit), (cpu, Visit::Marked)),
+        Ok(visit) => compare(rt, cpu, visit, Visit::Marked),
         Err(fault) => {
             left(rt, fault, state, before);
             assert!(rt; cpu < state.cpus());
-            assert_eq!(rt; (cpu, state.visit(cpu)), (cpu, Ok(Visit::Marked)));
+            compare(rt, cpu, state.visit(cpu), Ok(Visit::Marked));
         }
     }
 }
@@ -233,7 +233,7 @@ fn first_begin(rt: &impl Abort, alloc: Global, last: u64) -> Result<(u64, u32), 
 /// A state opens with this last number, and begins.
 fn opens(rt: &impl Abort, alloc: Global, last: u64) {
     match first_begin(rt, alloc, last) {
-        Ok(begun) => assert_eq!(rt; (last, begun), (last, (1, 1))),
+        Ok(begun) => compare(rt, last, begun, (1, 1)),
         Err(fault) => refused(rt, fault),
     }
 }
@@ -241,7 +241,7 @@ fn opens(rt: &impl Abort, alloc: Global, last: u64) {
 /// No state opens, since this is no last number.
 fn refuses(rt: &impl Abort, alloc: Global, last: u64) {
     let found = first_begin(rt, alloc, last);
-    assert_eq!(rt; (last, found), (last, Err(Fault::BadLast)));
+    compare(rt, last, found, Err(Fault::BadLast));
 }
 
 /// States open with the least and the greatest last number, and with none beyond.

@@ -1,6 +1,6 @@
 //! The machine over events: one after another, and all of a list.
 use crate::events::machine::{core, core_of, lacks_memory, run, takes, told_all};
-use crate::made::flat;
+use crate::made::{compare, flat};
 use rcu_core::{Core, Event};
 use rcu_seq::Fault;
 use std::alloc::Global;
@@ -129,7 +129,7 @@ fn refused_events_change_nothing(rt: HostRuntime) {
 /// No machine opens, since this is no last number.
 fn refuses(rt: &impl Abort, alloc: Global, last: u64) {
     let opened = Core::<_, u64>::new(alloc, flat(rt, alloc, 2), last);
-    assert_eq!(rt; (last, opened.err()), (last, Some(Fault::BadLast)));
+    compare(rt, last, opened.err(), Some(Fault::BadLast));
 }
 
 /// A machine opens with this last number, and begins.

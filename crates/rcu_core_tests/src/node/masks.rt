@@ -3,7 +3,7 @@ ghost use Rattle.std.specs.Prelude.{◌<◌};
 
 use super::{begin, insert, report};
 use crate::draw::Draw;
-use crate::made::{empty_set, flat, is_answer, tree};
+use crate::made::{compare, empty_set, flat, tree};
 use rcu_geometry::Geometry;
 use rcu_node::{Answer, Awaited, CpuSet, Flat, Tree};
 use rcu_report::Report;
@@ -34,7 +34,7 @@ impl<const LEAF: u32, const FAN: u32> Shown for Tree<LEAF, FAN> {
             let found = (self.qsmask(node), self.qsmaskinit(node), self.grpmask(node));
             let (current, initial) = (mask_at(&now, node), mask_at(&first, node));
             let wanted = (current, initial, own_bit(&geometry, node));
-            assert_eq!(rt; (node, found), (node, wanted));
+            compare(rt, node, found, wanted);
         }
     }
 }
@@ -101,7 +101,7 @@ fn compare_each<A: Awaited, R: Abort>(rt: &R, shown: &A, flat: &Flat) {
     for cpu in 0..flat.cpus() {
         assert!(rt; cpu < flat.cpus() && cpu < shown.cpus());
         let found = (shown.awaits(cpu), shown.starts(cpu));
-        assert_eq!(rt; (cpu, found), (cpu, (flat.awaits(cpu), flat.starts(cpu))));
+        compare(rt, cpu, found, (flat.awaits(cpu), flat.starts(cpu)));
     }
 }
 
@@ -126,7 +126,7 @@ fn sets_of<R: Abort>(rt: &R, alloc: Global, flat: &Flat) -> (CpuSet, CpuSet) {
 }
 
 /// Compares all that is said of each processor with what the flat set says, and then the masks.
-fn compare<A: Awaited + Shown, R: Abort>(rt: &R, alloc: Global, shown: &A, flat: &Flat) {
+fn compare_sets<A: Awaited + Shown, R: Abort>(rt: &R, alloc: Global, shown: &A, flat: &Flat) {
     assert_eq!(rt; (shown.cpus(), shown.tag()), (flat.cpus(), flat.tag()));
     assert_eq!(rt;
         (shown.count(), shown.is_empty()),
@@ -162,10 +162,9 @@ fn answer_alike<A: Awaited, R: Abort>(
 ) {
     assert!(rt; report.cpu < flat.cpus() && report.cpu < shown.cpus());
     let wanted = flat.report(report.cpu, report.tag);
-    is_answer(
+    compare(
         rt,
-        row,
-        report,
+        (row, report),
         shown.report(report.cpu, report.tag),
         wanted,
     );
@@ -204,7 +203,7 @@ fn beside_flat<A: Awaited + Shown, R: Abort>(rt: &R, alloc: Global, mut shown: A
     let cpus = shown.cpus();
     let mut flat = flat(rt, alloc, cpus);
     let mut draw = Draw(88_172_645_463_325_252);
-    compare(rt, alloc, &shown, &flat);
+    compare_sets(rt, alloc, &shown, &flat);
     for now in &PERIODS {
         period_beside(rt, alloc, &mut shown, &mut flat, &mut draw, *now, reports);
     }
@@ -212,7 +211,7 @@ fn beside_flat<A: Awaited + Shown, R: Abort>(rt: &R, alloc: Global, mut shown: A
         let report = Report { cpu, tag: LATEST };
         answer_alike(rt, cpu as usize, &mut shown, &mut flat, report);
     }
-    compare(rt, alloc, &shown, &flat);
+    compare_sets(rt, alloc, &shown, &flat);
     assert!(rt; shown.is_empty());
 }
 
@@ -228,10 +227,10 @@ fn period_beside<A: Awaited + Shown, R: Abort>(
 ) {
     let set = drawn_set(rt, alloc, draw, shown.cpus());
     assert!(rt; begin_both(shown, flat, now, &set));
-    compare(rt, alloc, shown, flat);
+    compare_sets(rt, alloc, shown, flat);
     for row in 0..reports {
         report_both(rt, row as usize, shown, flat, draw, now);
-        compare(rt, alloc, shown, flat);
+        compare_sets(rt, alloc, shown, flat);
     }
 }
 
@@ -299,10 +298,7 @@ fn masks<R: Abort>(rt: &R, tree: &Tree<2, 2>, wanted: &[u64; 6]) {
         assert!(rt; node < tree.nodes());
         let place = node as usize;
         let found = (tree.qsmask(node), tree.qsmaskinit(node), tree.grpmask(node));
-        assert_eq!(rt;
-            (node, found),
-            (node, (wanted[place], START[place], GROUP[place]))
-        );
+        compare(rt, node, found, (wanted[place], START[place], GROUP[place]));
     }
 }
 

@@ -1,6 +1,6 @@
 //! Merging of flat sets and trees, of each kind into each other kind.
 use super::{awaits, begin, begin_at, insert, report};
-use crate::made::{empty_set, everyone, flat, tree};
+use crate::made::{compare, empty_set, everyone, flat, tree};
 use rcu_node::merging::merge;
 use rcu_node::{Answer, Awaited, CpuSet};
 use rcu_seq::{Fault, Tag};
@@ -172,10 +172,7 @@ fn merge_left<A: Awaited, B: Awaited>(
     hear(rt, first, left);
     hear(rt, second, other);
     merges(rt, first, second, Ok(()));
-    assert_eq!(rt;
-        (left, other, bits_awaited(rt, first)),
-        (left, other, left & other)
-    );
+    compare(rt, (left, other), bits_awaited(rt, first), left & other);
 }
 
 /// Two trees of five processors.

@@ -2,7 +2,7 @@
 ghost use Rattle.std.specs.Prelude.{◌≡◌, false, replicate, length};
 ghost use Rattle.rcu_seq.specs.Tags.{first_tag};
 
-use crate::made::{everyone, flat, is_said, set_of, tree};
+use crate::made::{compare, everyone, flat, set_of, tree};
 use rcu_node::{Answer, Awaited, CpuSet, Flat, Tree};
 use rcu_report::Replica;
 use rcu_seq::Fault;
@@ -50,7 +50,7 @@ fn report<A: Awaited>(
     reports: &[(u32, u64, Result<Answer, Fault>)],
 ) {
     for (row, (cpu, tag, wanted)) in reports.iter().enumerate() {
-        assert_eq!(rt; (row, replica.report(*cpu, *tag)), (row, *wanted));
+        compare(rt, row, replica.report(*cpu, *tag), *wanted);
     }
 }
 
@@ -61,7 +61,7 @@ fn depart<A: Awaited>(
     cpu: u32,
     wanted: Result<(), Fault>,
 ) {
-    assert_eq!(rt; (cpu, replica.depart(cpu)), (cpu, wanted));
+    compare(rt, cpu, replica.depart(cpu), wanted);
 }
 
 /// Ends, and compares the result.
@@ -88,7 +88,7 @@ fn merge<A: Awaited, B: Awaited>(
 fn awaits<A: Awaited>(rt: &impl Abort, replica: &Replica<A>, wanted: &[u32]) {
     let awaited = replica.awaited();
     for cpu in 0..awaited.cpus() {
-        is_said(rt, cpu, awaited.awaits(cpu), wanted.contains(&cpu));
+        compare(rt, cpu, awaited.awaits(cpu), wanted.contains(&cpu));
     }
     assert_eq!(rt; awaited.count() as usize, wanted.len());
 }
@@ -286,7 +286,7 @@ fn opens(rt: &impl Abort, alloc: Global, all: &CpuSet, last: u64) {
 /// No replica opens, since this is no last number.
 fn refuses(rt: &impl Abort, alloc: Global, last: u64) {
     let opened = Replica::new(flat(rt, alloc, 2), last);
-    assert_eq!(rt; (last, opened.err()), (last, Some(Fault::BadLast)));
+    compare(rt, last, opened.err(), Some(Fault::BadLast));
 }
 
 /// Replicas open with the least and the greatest last number, and with none beyond.
