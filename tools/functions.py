@@ -114,13 +114,14 @@ def functions_of(crate):
     return {path: functions_in(*of_file, types) for path, of_file in files.items()}
 
 
-def has_proof_apart(crate, path):
-    """Whether the function is proved by hand, or in one proof with others, or with closures."""
+def has_proof_apart(crate, path, by_hand=True):
+    """Whether the function is in one proof with others, or with closures, or proved by hand."""
     around, name = os.path.split(f"{crate.folder}/proofs/{path.replace('::', '/')}")
     beside = os.listdir(around) if os.path.isdir(around) else []
     is_with_others = any(it.startswith("+") and name in it.split("+") for it in beside)
     has_closures = os.path.isdir(f"{around}/fn/{name}")
-    return is_with_others or has_closures or os.path.isfile(f"{around}/{name}/Proof.antt")
+    is_by_hand = by_hand and os.path.isfile(f"{around}/{name}/Proof.antt")
+    return is_with_others or has_closures or is_by_hand
 
 
 def proof_with_hole(crate, path):

@@ -52,7 +52,7 @@ class Edit:
     def twin(self, path, text, change, labels):
         """What adds a twin of the function with the change, behind it; or nothing, where a twin
         would have no proof of its own. Its proof files are noted."""
-        if self.of.is_of_trait or has_proof_apart(self.crate, self.of.path):
+        if self.of.is_of_trait or has_proof_apart(self.crate, self.of.path, by_hand=False):
             return None
         lines, first = text.split("\n"), self.of.first
         while lines[first - 1].lstrip().startswith("#["):
@@ -108,13 +108,13 @@ def proofs_of_twin(crate, path, twin):
     """The proof files of the function, as those of its twin."""
     before, after = (it.replace("::", "/") for it in (path, twin))
     folder, texts = f"{crate.folder}/proofs/{before}", {}
-    names = [it.replace("/", ".") for it in (before, after)]
+    named = rf"\.(proofs|contracts)\.{re.escape(path.replace('::', '.'))}\b"
+    ends = [it.rpartition("::")[2] for it in (path, twin)]
     for at, _, files in os.walk(folder):
         for file in files:
-            text = rtlib.text_of(f"{at}/{file}")
+            text = rtlib.text_of(f"{at}/{file}").replace(f"{ends[0]}_spec", f"{ends[1]}_spec")
             to = os.path.relpath(f"{at}/{file}", folder)
-            of_twin = text.replace(f".proofs.{names[0]}.", f".proofs.{names[1]}.")
-            texts[f"proofs/{after}/{to}"] = of_twin
+            texts[f"proofs/{after}/{to}"] = re.sub(named, rf".\1.{twin.replace('::', '.')}", text)
     return texts
 
 
@@ -139,7 +139,7 @@ def edits_of(crate):
 
 
 def planted(edits, changes_beside):
-    """The texts of the files that the edits change or add, with all made, and those beside: of those
+    """The texts of the files that the edits change or add, with all made, and those beside. Of those
     that change a function no two lie in one place."""
     places, texts = {path: [*changes] for path, changes in changes_beside.items()}, {}
     for edit in edits:
@@ -155,7 +155,7 @@ def planted(edits, changes_beside):
 
 
 def taken_at_word(crate, names):
-    """By what the functions that are not named are taken at their contracts' word, where one can be:
+    """By what the functions that are not named are taken at their contracts' word, where one can:
     proof files, and changes that leave them no code to read."""
     holes, changes = {}, {}
     for path, functions in functions_of(crate).items():
