@@ -1,13 +1,14 @@
 //! The handle that C keeps.
-ghost use Rattle.std.specs.Prelude.{◌≡◌, if◌then◌else◌, IfOk, IsNone, IsSome, Option, Some};
+ghost use Rattle.std.specs.Prelude.{◌≡◌, if◌then◌else◌, IfOk, IsNone, IsOk, IsSome, Option, Some};
 ghost use Rattle.std.specs.Prelude.{is_none, is_some};
 ghost use Rattle.std.specs.Borrow.{sem};
 ghost use Rattle.std.specs.Result.{result_err};
 ghost use Rattle.rcu_c.specs.declared.contents.Contents.{Contents};
 ghost use Rattle.rcu_c.specs.Handle.{handle_owns, contents_coded};
 ghost use Rattle.rcu_c.specs.Holding.{HoldsEngine, HoldsSeat};
-ghost use Rattle.rcu_c.specs.Refusals.{engine_refusal, seat_refusal};
+ghost use Rattle.rcu_c.specs.Refusals.{engine_refusal, return_refusal, seat_refusal};
 ghost use Rattle.rcu_c.specs.Replicas.{HoldsReplica, replica_refusal};
+ghost use Rattle.rcu_c.specs.Staying.{BothStay};
 
 use crate::contents::Contents;
 use crate::open_engine::OpenEngine;
@@ -128,7 +129,7 @@ impl Handle {
     }
 
     /// The engine of an engine's handle.
-    fn open_engine(&mut self) -> &mut OpenEngine
+    pub(crate) fn open_engine(&mut self) -> &mut OpenEngine
         requires { HoldsEngine self.old.contents }
         ensures* writes_back { sem 𝓛 (lends_engine self.entry result) }
         ensures value { self.old.contents ≡ Some (Contents.Engine result.now) }
@@ -140,7 +141,7 @@ impl Handle {
     }
 
     /// The seat of a seat's handle.
-    fn open_seat(&mut self) -> &mut SeatParts
+    pub(crate) fn open_seat(&mut self) -> &mut SeatParts
         requires { HoldsSeat self.old.contents }
         ensures* writes_back { sem 𝓛 (lends_seat self.entry result) }
         ensures value { self.old.contents ≡ Some (Contents.Seat result.now) }
@@ -187,6 +188,24 @@ impl Handle {
             Ok(self.open_seat())
         } else {
             Err(self.refusal())
+        }
+    }
+
+    /// Whether this is the handle of an open engine, and the other one that of an open seat of
+    /// it; or why not.
+    pub(crate) fn has_dealt(&mut self, seat: &mut RcuSeat) -> Result<(), Refusal>
+        ensures fault { result_err result ≡ return_refusal self.old.contents seat.old.contents }
+        ensures engine { IsOk result → HoldsEngine self.old.contents }
+        ensures seat { IsOk result → HoldsSeat seat.old.contents }
+        ensures unchanged { BothStay
+            self.old.contents self.new.contents seat.old.contents seat.new.contents }
+    {
+        let engine = self.engine()?;
+        let parts = seat.seat()?;
+        if engine.owns(parts) {
+            Ok(())
+        } else {
+            Err(Refusal::OtherEngine)
         }
     }
 

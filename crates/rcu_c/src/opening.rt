@@ -19,6 +19,7 @@ use crate::map_sizes::MapSizes;
 use crate::open_engine::OpenEngine;
 use crate::raw_box::RawBox;
 use crate::refusal::Refusal;
+use crate::seat_parts::SeatParts;
 use rcu_seq::Fault;
 use std::alloc::Global;
 
@@ -159,7 +160,14 @@ fn deal_into(contents: &mut Contents, opened: &mut OpenEngine, cpu: u32)
     let Some(dealt) = opened.deal(cpu) else {
         unreachable!()
     };
-    *contents = Contents::Seat(dealt);
+    hold(contents, dealt);
+}
+
+/// Has a seat held in place of what was held.
+fn hold(contents: &mut Contents, seat: SeatParts)
+    ensures { contents.new ≡ Contents.Seat seat }
+{
+    *contents = Contents::Seat(seat);
 }
 
 /// Deals the seat of a processor; each has one. That of processor 0 is online at first, any other
@@ -223,19 +231,11 @@ pub extern "C" fn rcu_seat_return(alloc: Global, rcu: &mut Rcu, seat: &mut RcuSe
     ensures unchanged { result ≢ 0 →
         BothStay rcu.old.contents rcu.new.contents seat.old.contents seat.new.contents }
 {
-    let opened = match rcu.engine() {
-        Ok(opened) => opened,
-        Err(refusal) => return refusal.number(),
-    };
-    let parts = match seat.seat() {
-        Ok(parts) => parts,
-        Err(refusal) => return refusal.number(),
-    };
-    if !opened.owns(parts) {
-        return Refusal::OtherEngine.number();
+    if let Err(refusal) = rcu.has_dealt(seat) {
+        return refusal.number();
     }
     let mut contents = seat.close(alloc).into_box();
-    opened.take_back(contents.take_seat());
+    rcu.open_engine().take_back(contents.take_seat());
     0
 }
 

@@ -14,7 +14,6 @@ ghost use Rattle.rcu_c.specs.Staying.{BothStay};
 
 use crate::codes::{code, status, write_out};
 use crate::handle::{Rcu, RcuSeat};
-use crate::refusal::Refusal;
 
 /// The seat's processor comes online.
 ///
@@ -36,17 +35,10 @@ pub extern "C" fn rcu_arrive_unfenced(rcu: &mut Rcu, seat: &mut RcuSeat) -> u32
     ensures unchanged { result ≢ 0 →
         BothStay rcu.old.contents rcu.new.contents seat.old.contents seat.new.contents }
 {
-    let engine = match rcu.engine() {
-        Ok(engine) => engine,
-        Err(refusal) => return refusal.number(),
-    };
-    let seat = match seat.seat() {
-        Ok(seat) => seat,
-        Err(refusal) => return refusal.number(),
-    };
-    if !engine.owns(seat) {
-        return Refusal::OtherEngine.number();
+    if let Err(refusal) = rcu.has_dealt(seat) {
+        return refusal.number();
     }
+    let (engine, seat) = (rcu.open_engine(), seat.open_seat());
     let arrived = seat.cpu.arrive(&**seat.map.board());
     if arrived.is_ok() {
         engine.inner.join(seat.cpu.cpu());
@@ -96,20 +88,13 @@ pub extern "C" fn rcu_depart(rcu: &mut Rcu, seat: &mut RcuSeat, moved: &mut u64)
         (latest_word (engine_of rcu.new.contents))) rcu.old.contents }
     ensures unchanged_moved { result ≢ 0 → moved.new ≡ moved.old }
 {
-    let opened = match rcu.engine() {
-        Ok(opened) => opened,
-        Err(refusal) => return refusal.number(),
-    };
-    let seat = match seat.seat() {
-        Ok(seat) => seat,
-        Err(refusal) => return refusal.number(),
-    };
-    if !opened.owns(seat) {
-        return Refusal::OtherEngine.number();
+    if let Err(refusal) = rcu.has_dealt(seat) {
+        return refusal.number();
     }
+    let (engine, seat) = (rcu.open_engine(), seat.open_seat());
     let again = match seat.cpu.depart(&**seat.map.board()) {
         Ok(again) => again,
         Err(fault) => return code(fault),
     };
-    write_out(opened.inner.leave(seat.cpu.cpu(), again), moved)
+    write_out(engine.inner.leave(seat.cpu.cpu(), again), moved)
 }
