@@ -12,7 +12,7 @@ use Rattle.rcu_graph.specs.declared.known.Known.{Known}
 use Rattle.rcu_graph.specs.declared.known.Planned.{Planned}
 use Rattle.rcu_graph.specs.declared.plan.Plan.{Plan}
 use Rattle.rcu_map.specs.After.{IsBehind, IsEntryAfter, IsNoneAfter, IsUpTo, LedUpTo}
-use Rattle.rcu_map.specs.Cursors.{HasStepped, MayGoOn}
+use Rattle.rcu_map.specs.Cursors.{HasStepped}
 use Rattle.rcu_map.specs.Keys.{bucket_of}
 use Rattle.rcu_map.specs.Listing.{GoOn, at_root, left_from}
 use Rattle.rcu_map.specs.declared.cursor.Cursor.{Cursor}

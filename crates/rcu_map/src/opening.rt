@@ -1,5 +1,5 @@
 //! The opening of a map.
-ghost use Rattle.std.specs.Prelude.{◌≡◌, ◌↔◌, ◌+◌, ◌*◌, ◌^◌, ◌<◌, Err, IfOk};
+ghost use Rattle.std.specs.Prelude.{◌≡◌, ◌↔◌, ◌+◌, ◌*◌, ◌^◌, ◌<◌, Err, IfErr, IfOk, OnErr, OnOk};
 ghost use Rattle.rcu_geometry.specs.Opening.{opening_refusal};
 ghost use Rattle.rcu_live.specs.Opening.{AreDealt, AreFanouts, engine_at_first};
 ghost use Rattle.rcu_graph.specs.Keeper.{IsKeeperOf};
@@ -35,6 +35,27 @@ pub struct Opened<L: Drop, E: Entry<W>, const W: usize> {
     pub watchers: Vec<MapWatcher<E, W>>,
     /// Who puts the entries.
     pub keeper: MapKeeper<E, W>,
+}
+
+/// The plan of a map of so many buckets and nodes, and of this seed.
+///
+/// Fault: `BadSizes` for no bucket.
+fn make_plan<const W: usize>(buckets: usize, nodes: usize, seed: u64) -> Result<Plan, NotOpened>
+    ensures plan { IfOk result (λ plan. plan ≡ plan_of_map buckets W nodes seed) }
+    ensures some { OnOk result (0 < buckets) }
+    ensures fault { IfErr result (λ fault. fault ≡ NotOpened.BadSizes) }
+    ensures none { OnErr result (buckets ≡ 0) }
+{
+    if buckets == 0 {
+        return Err(NotOpened::BadSizes);
+    }
+    Ok(Plan {
+        roots: buckets,
+        links: 1,
+        words: W,
+        nodes,
+        seed: multiplier_of(seed),
+    })
 }
 
 impl<E: Entry<W>, const W: usize> Map<E, W> {
@@ -113,16 +134,7 @@ impl<E: Entry<W>, const W: usize> Map<E, W> {
             opened.keeper ≡ keeper_at_first (root_words W) opened.map.table cpus
             (plan_of_map buckets W nodes seed)) }
     {
-        if buckets == 0 {
-            return Err(NotOpened::BadSizes);
-        }
-        let plan = Plan {
-            roots: buckets,
-            links: 1,
-            words: W,
-            nodes,
-            seed: multiplier_of(seed),
-        };
+        let plan = make_plan::<W>(buckets, nodes, seed)?;
         let opened = Graph::open_unlocked::<LEAF, FAN, T>(alloc, cpus, last, plan)?;
         let rcu_graph::Opened {
             live,
