@@ -448,7 +448,7 @@ fn a_million_callbacks(rt: HostRuntime) {
     );
     let count = taken(&rt, &mut lists, 1_000_000);
     if count != Err(Fault::NoMemory) {
-        assert_eq!(rt; count, Ok(1_000_000));
+        compare(&rt, "count", count, Ok(1_000_000));
     }
     make_each(&rt, &mut lists, &[Step::Full]);
 }
@@ -461,11 +461,21 @@ fn call_without_memory(rt: &impl Abort, lists: &mut Lists<u64>) {
         Step::Tend(0, 0, 0, 1),
     ];
     make_each(rt, lists, &tends);
-    assert_eq!(rt; taken(rt, lists, 9), Ok(0));
-    assert_eq!(rt; migrate_once(rt, 3, lists), Ok(0));
+    compare(rt, "taken", taken(rt, lists, 9), Ok(0));
+    compare(rt, "migrate", migrate_once(rt, 3, lists), Ok(0));
     make_each(rt, lists, &[Step::Tend(0, 4, 1, 0), Step::Begin(Ok(()))]);
-    assert_eq!(rt; visit_once(rt, 5, lists, 1), Ok(Visit::Empty));
-    assert_eq!(rt; visit_once(rt, 6, lists, 1), Ok(Visit::Already));
+    compare(
+        rt,
+        "first visit",
+        visit_once(rt, 5, lists, 1),
+        Ok(Visit::Empty),
+    );
+    compare(
+        rt,
+        "second visit",
+        visit_once(rt, 6, lists, 1),
+        Ok(Visit::Already),
+    );
     make_each(rt, lists, &[Step::Test(Ok(BarrierState::Waits(1)))]);
 }
 
@@ -478,6 +488,16 @@ fn calls_without_memory(rt: HostRuntime) {
 
 #[test]
 fn sizes(rt: HostRuntime) {
-    assert_eq!(rt; lists_of(&rt, rt.alloc(), 1).cpus(), 1);
-    assert_eq!(rt; lists_of(&rt, rt.alloc(), 4096).cpus(), 4096);
+    compare(
+        &rt,
+        "fewest processors",
+        lists_of(&rt, rt.alloc(), 1).cpus(),
+        1,
+    );
+    compare(
+        &rt,
+        "most processors",
+        lists_of(&rt, rt.alloc(), 4096).cpus(),
+        4096,
+    );
 }

@@ -432,16 +432,16 @@ fn markers_passed(list: &mut SegList<u64>, max: u64) -> Result<u64, Fault> {
 
 /// The calls that ask for no memory: none of them is refused a growth.
 fn call_without_memory(rt: &impl Abort, list: &mut SegList<u64>, empty: &mut SegList<u64>) {
-    assert_eq!(rt; empty.entrain(), Ok(false));
-    assert_eq!(rt; empty.migrate_into(list), Ok(()));
-    assert_eq!(rt; empty.move_into(list, true), Ok(()));
+    compare(rt, "entrain", empty.entrain(), Ok(false));
+    compare(rt, "migrate_into", empty.migrate_into(list), Ok(()));
+    compare(rt, "move_into", empty.move_into(list, true), Ok(()));
     accelerate(rt, list, 4);
     list.advance(0);
     list.renumber();
     accelerate(rt, list, 4);
-    assert_eq!(rt; markers_passed(list, 9), Ok(0));
+    compare(rt, "markers passed at 9", markers_passed(list, 9), Ok(0));
     list.advance(4);
-    assert_eq!(rt; markers_passed(list, 0), Ok(0));
+    compare(rt, "markers passed at 0", markers_passed(list, 0), Ok(0));
     make_each(
         rt,
         list,

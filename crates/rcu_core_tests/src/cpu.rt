@@ -83,7 +83,7 @@ fn make_all(rt: &impl Abort, mut data: CpuData, cpu: u32, steps: &[Step]) {
 fn full_nesting_depth(rt: HostRuntime) {
     let mut data = CpuData::new(0, true);
     for depth in 1..=65_535 {
-        assert_eq!(rt; data.enter(), Ok(depth));
+        compare(&rt, "enter", data.enter(), Ok(depth));
     }
     make_all(
         &rt,

@@ -23,7 +23,12 @@ fn has_levels<const LEAF: u32, const FAN: u32>(
         geometry.levels() as usize,
         geometry.nodes(),
     );
-    assert_eq!(rt; found, (cpus, wanted.len(), nodes));
+    compare(
+        rt,
+        "processors, levels and nodes",
+        found,
+        (cpus, wanted.len(), nodes),
+    );
     for (level, wanted) in (0..geometry.levels()).zip(wanted) {
         assert!(rt; level < geometry.levels());
         let said = (geometry.level_start(level), geometry.level_nodes(level));
@@ -87,7 +92,7 @@ fn has_parents<const LEAF: u32, const FAN: u32>(
     geometry: &Geometry<LEAF, FAN>,
     wanted: &[(Option<u32>, Option<u32>)],
 ) {
-    assert_eq!(rt; geometry.nodes() as usize, wanted.len());
+    compare(rt, "nodes", geometry.nodes() as usize, wanted.len());
     for (node, wanted) in (0..geometry.nodes()).zip(wanted) {
         assert!(rt; node < geometry.nodes());
         let said = (geometry.parent(node), geometry.bit_in_parent(node));
@@ -101,7 +106,7 @@ fn has_leaves<const LEAF: u32, const FAN: u32>(
     geometry: &Geometry<LEAF, FAN>,
     wanted: &[(u32, u32)],
 ) {
-    assert_eq!(rt; geometry.cpus() as usize, wanted.len());
+    compare(rt, "processors", geometry.cpus() as usize, wanted.len());
     for (cpu, wanted) in (0..geometry.cpus()).zip(wanted) {
         assert!(rt; cpu < geometry.cpus());
         compare(

@@ -37,7 +37,7 @@ fn awaits<A: Awaited>(rt: &impl Abort, hotplug: &Hotplug<A>, wanted: &[u32]) {
         compare(rt, cpu, awaits, wanted.contains(&cpu));
         compare(rt, cpu, !awaits || hotplug.online(cpu), true);
     }
-    assert_eq!(rt; awaited.count() as usize, wanted.len());
+    compare(rt, "awaited", awaited.count() as usize, wanted.len());
 }
 
 /// Begins a grace period of epoch 0, and compares which processors it awaits.
@@ -45,7 +45,7 @@ fn begin<A: Awaited>(rt: &impl Abort, hotplug: &mut Hotplug<A>, number: u64, wan
     assert_eq!(rt; number % 4, 1);
     let now = Tag::of_first_epoch(number);
     hotplug.begin(now);
-    assert_eq!(rt; hotplug.awaited().tag(), now);
+    compare(rt, "tag", hotplug.awaited().tag(), now);
     awaits(rt, hotplug, wanted);
 }
 
@@ -155,7 +155,7 @@ fn faults<A: Awaited>(rt: &impl Abort, hotplug: &mut Hotplug<A>) {
 
 /// Four grace periods of five processors.
 fn come_and_go<A: Awaited>(rt: &impl Abort, mut hotplug: Hotplug<A>) {
-    assert_eq!(rt; hotplug.awaited().tag(), Tag::of_first_epoch(0));
+    compare(rt, "tag", hotplug.awaited().tag(), Tag::of_first_epoch(0));
     awaits(rt, &hotplug, &[]);
     late_arrival(rt, &mut hotplug);
     departed_and_back(rt, &mut hotplug);
@@ -175,7 +175,7 @@ fn come_and_go_over_tree(rt: HostRuntime) {
 /// So many processors are made, and no more.
 fn has_size(rt: &impl Abort, alloc: Global, cpus: u32) {
     let mut hotplug = over_flat(rt, alloc, cpus);
-    assert_eq!(rt; hotplug.awaited().cpus(), cpus);
+    compare(rt, "cpus", hotplug.awaited().cpus(), cpus);
     refuses_arrival(rt, &mut hotplug, &[(cpus, Fault::BadCpu)]);
 }
 

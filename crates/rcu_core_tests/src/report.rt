@@ -56,7 +56,7 @@ fn contains(rt: &impl Abort, batch: &Batch, wanted: &[u32]) {
 fn apply<A: Awaited>(rt: &impl Abort, batch: &Batch, to: &mut A, wanted: u32) {
     assert_eq!(rt; to.cpus(), batch.cpus());
     let cleared = batch.apply(to);
-    assert_eq!(rt; cleared, wanted);
+    compare(rt, "apply", cleared, wanted);
 }
 
 /// Compares which processors are awaited.
@@ -68,7 +68,7 @@ fn awaits<A: Awaited>(rt: &impl Abort, awaited: &A, wanted: &[u32]) {
 
 /// Puts the second's processors into the first, and compares the result.
 fn join(rt: &impl Abort, first: &mut Batch, second: &Batch, wanted: Result<(), Fault>) {
-    assert_eq!(rt; first.join(second), wanted);
+    compare(rt, "join", first.join(second), wanted);
 }
 
 /// A batch of five processors with reports of these, all of this number.
@@ -142,7 +142,7 @@ fn joins_no(rt: &impl Abort, alloc: Global, first: &mut Batch, cpus: u32, tag: T
 
 /// A batch of number 1 joins neither one of another number or epoch nor one of more processors.
 fn joins_none(rt: &impl Abort, alloc: Global, first: &mut Batch) {
-    assert_eq!(rt; first.tag(), FIRST);
+    compare(rt, "tag", first.tag(), FIRST);
     joins_no(rt, alloc, first, 5, FIFTH);
     joins_no(rt, alloc, first, 5, IN_NEXT);
     joins_no(rt, alloc, first, 6, FIRST);
@@ -164,7 +164,7 @@ fn no_batch(rt: &impl Abort, alloc: Global, cpus: u32) {
 
 /// A batch of so many processors is made.
 fn has_size(rt: &impl Abort, alloc: Global, cpus: u32) {
-    assert_eq!(rt; batch(rt, alloc, cpus, FIRST).cpus(), cpus);
+    compare(rt, "cpus", batch(rt, alloc, cpus, FIRST).cpus(), cpus);
 }
 
 #[test]

@@ -225,7 +225,12 @@ fn every_two_places_of_five_epochs(rt: HostRuntime) {
 /// No counter of an epoch is made, since this is no last number.
 #[test]
 fn an_epoch_of_no_last_number(rt: HostRuntime) {
-    assert_eq!(rt; Seq::at_epoch(6, 1).err(), Some(Fault::BadLast));
+    compare(
+        &rt,
+        "at_epoch",
+        Seq::at_epoch(6, 1).err(),
+        Some(Fault::BadLast),
+    );
 }
 
 /// Why no counter is made with this last number, if none is made.
@@ -233,13 +238,20 @@ fn refusal(last: u64) -> Option<Fault> {
     Seq::new(last).err()
 }
 
+/// Last numbers, and why no counter is made with each.
+static LAST_NUMBERS: [(u64, Option<Fault>); 5] = [
+    (4, None),
+    (1 << 62, None),
+    (0, Some(Fault::BadLast)),
+    (6, Some(Fault::BadLast)),
+    ((1 << 62) + 4, Some(Fault::BadLast)),
+];
+
 #[test]
 fn last_numbers(rt: HostRuntime) {
-    assert_eq!(rt; refusal(4), None);
-    assert_eq!(rt; refusal(1 << 62), None);
-    assert_eq!(rt; refusal(0), Some(Fault::BadLast));
-    assert_eq!(rt; refusal(6), Some(Fault::BadLast));
-    assert_eq!(rt; refusal((1 << 62) + 4), Some(Fault::BadLast));
+    for (last, wanted) in &LAST_NUMBERS {
+        compare(&rt, *last, refusal(*last), *wanted);
+    }
 }
 
 /// Each fault with its number.
@@ -282,7 +294,7 @@ fn numbers(rt: HostRuntime) {
 
 /// Compares a text.
 fn is_text(rt: &impl Abort, text: &str, wanted: &str) {
-    assert_eq!(rt; text, wanted);
+    compare(rt, "text", text, wanted);
 }
 
 #[test]

@@ -10,12 +10,10 @@ mod threads;
 mod versions;
 mod waits;
 
+use crate::compare::compare;
 use rcu_cell::{Cell, CellRule, CellSeat, Full, Invariant, Keeper, Retired, Version};
 use rcu_live::{Collected, Live};
-use rcu_seq::Fault;
 use rcu_state::Turned;
-use std::alloc::Global;
-use std::io::Print;
 use std::process::Abort;
 use std::sync::Wait;
 
@@ -47,11 +45,11 @@ fn pass_a_period<R: Abort + Wait>(rt: &R, live: &Engine, seat: &mut CellSeat<Any
     ensures seat { IsOutside live.now seat.new }
 {
     assert!(rt; live.queue(rt, seat, 7).is_ok() || live.queue(rt, seat, 7).is_ok());
-    assert_eq!(rt; live.tend(rt, 0), Ok((0, 1)));
-    assert_eq!(rt; live.turn(rt), Ok(Turned::Begun(1, 1)));
-    assert_eq!(rt; seat.quiesce(live), Ok(1));
-    assert_eq!(rt; live.collect(rt, 0), Ok(Collected::Last));
-    assert_eq!(rt; live.turn(rt), Ok(Turned::Ended(4)));
+    compare(rt, "tend", live.tend(rt, 0), Ok((0, 1)));
+    compare(rt, "turn", live.turn(rt), Ok(Turned::Begun(1, 1)));
+    compare(rt, "quiesce", seat.quiesce(live), Ok(1));
+    compare(rt, "collect", live.collect(rt, 0), Ok(Collected::Last));
+    compare(rt, "turn", live.turn(rt), Ok(Turned::Ended(4)));
 }
 
 /// Has the keeper show these words, and compares what it answers.
@@ -61,7 +59,7 @@ fn shows<R: Abort>(
     words: [u64; 2],
     wanted: Result<Retired, Full>,
 ) {
-    assert_eq!(rt; (words, keeper.update(&words)), (words, wanted));
+    compare(rt, words, keeper.update(&words), wanted);
 }
 
 /// Reads in a section of its own, and compares the words.
@@ -76,7 +74,8 @@ fn reads<R: Abort>(
     requires seat { IsOutside live.now seat.old }
     ensures seat { IsOutside live.now seat.new }
 {
-    assert_eq!(rt; cell.read_section(live, seat), Ok(wanted));
+    let found = cell.read_section(live, seat);
+    compare(rt, "read_section", found, Ok(wanted));
 }
 
 /// Two slots show one version after the other: the first is free for a third once a grace period
@@ -95,11 +94,11 @@ fn use_a_slot_again<R: Abort + Wait>(
     shows(rt, keeper, [2, 2], Ok(Retired { slot: 1, by: 2 }));
     reads(rt, live, cell, seat, [2, 2]);
     shows(rt, keeper, [3, 3], Err(Full));
-    assert_eq!(rt; keeper.age(), 0);
+    compare(rt, "age", keeper.age(), 0);
     shows(rt, keeper, [3, 3], Err(Full));
     pass_a_period(rt, live, seat);
     shows(rt, keeper, [3, 3], Err(Full));
-    assert_eq!(rt; keeper.age(), 4);
+    compare(rt, "age", keeper.age(), 4);
     shows(rt, keeper, [3, 3], Ok(Retired { slot: 2, by: 1 }));
     reads(rt, live, cell, seat, [3, 3]);
 }

@@ -11,10 +11,10 @@ ghost use Rattle.rcu_graph.specs.declared.known.Known.TheVariants.{Idle};
 
 mod chain;
 mod keeper;
-mod parts;
 mod turnover;
 
-use crate::nodes::parts::next_online;
+use crate::compare::compare;
+use crate::seats::next_online;
 use rcu_graph::{Graph, GraphEngine, GraphSeat, GraphWatcher, Plan, Shape};
 use std::sync::Wait;
 use std::thread;
@@ -176,5 +176,6 @@ fn readers_beside_a_published_node(rt: HostRuntime) {
         chain,
         seat: next_online(&rt, live, &mut seats),
     };
-    assert_eq!(rt; run_beside(&rt, chain, keeper, a, b), (true, true));
+    let right = run_beside(&rt, chain, keeper, a, b);
+    compare(&rt, "readers", right, (true, true));
 }

@@ -43,14 +43,14 @@ pub(super) fn fill(rt: &impl Abort, lists: &mut Lists<u64>) {
             queue_again(rt, count as usize, lists, 0, back.value, count + 1);
         }
     }
-    assert_eq!(rt; lists.queued(), 1_000_000);
+    compare(rt, "queued", lists.queued(), 1_000_000);
 }
 
 /// The one callback fills the lists, and no place comes back once it ran.
 #[test]
 fn one_callback_fills_the_lists(rt: HostRuntime) {
     let mut lists = lists_with_most(&rt, rt.alloc(), 1);
-    assert_eq!(rt; lists.most(), 1);
+    compare(&rt, "most", lists.most(), 1);
     make_each(
         &rt,
         &mut lists,
@@ -68,7 +68,7 @@ fn one_callback_fills_the_lists(rt: HostRuntime) {
 #[test]
 fn three_callbacks_fill_the_lists(rt: HostRuntime) {
     let mut lists = lists_with_most(&rt, rt.alloc(), 3);
-    assert_eq!(rt; lists.most(), 3);
+    compare(&rt, "most", lists.most(), 3);
     make_each(
         &rt,
         &mut lists,
@@ -87,12 +87,12 @@ fn three_callbacks_fill_the_lists(rt: HostRuntime) {
 #[test]
 fn an_opening_that_does_not_say_takes_a_million(rt: HostRuntime) {
     let lists = super::lists(&rt, rt.alloc());
-    assert_eq!(rt; lists.most(), 1_000_000);
+    compare(&rt, "most", lists.most(), 1_000_000);
 }
 
 #[test]
 fn as_many_as_can_be_said(rt: HostRuntime) {
     let mut lists = lists_with_most(&rt, rt.alloc(), 1 << 62);
-    assert_eq!(rt; lists.most(), 1 << 62);
+    compare(&rt, "most", lists.most(), 1 << 62);
     make_each(&rt, &mut lists, &[Step::Queue(0, 5, 1)]);
 }

@@ -1,6 +1,7 @@
 //! What room the lists of two processors keep, and how one gives room back.
 
 use super::{Step, lists, make_each};
+use crate::made::compare;
 use rcu_barrier::Lists;
 use std::process::Abort;
 
@@ -39,9 +40,9 @@ fn each_list_keeps_its_room(rt: HostRuntime) {
             Step::Begin(Ok(())),
         ],
     );
-    assert_eq!(rt; room(&rt, &lists, 1), most);
+    compare(&rt, "room", room(&rt, &lists, 1), most);
     make_each(&rt, &mut lists, &[Step::Run(1, 2, &[7, 7])]);
-    assert_eq!(rt; room(&rt, &lists, 1), most);
+    compare(&rt, "room after a run", room(&rt, &lists, 1), most);
 }
 
 #[test]
@@ -53,13 +54,28 @@ fn one_list_gives_its_room_back(rt: HostRuntime) {
     }
     shrink(&rt, &mut lists, 1);
     let (before, second) = (room(&rt, &lists, 0), room(&rt, &lists, 1));
-    assert_eq!(rt; second, MANY);
+    compare(&rt, "room of the second", second, MANY);
     make_each(&rt, &mut lists, &[Step::Migrate(MANY)]);
     let first = room(&rt, &lists, 0);
     assert!(rt; first > before.max(MANY), "{first}, and {before} before");
-    assert_eq!(rt; room(&rt, &lists, 1), second);
+    compare(
+        &rt,
+        "room of the second after its callbacks left",
+        room(&rt, &lists, 1),
+        second,
+    );
     shrink(&rt, &mut lists, 1);
-    assert_eq!(rt; (room(&rt, &lists, 0), room(&rt, &lists, 1)), (first, 0));
+    compare(
+        &rt,
+        "rooms after the second shrank",
+        (room(&rt, &lists, 0), room(&rt, &lists, 1)),
+        (first, 0),
+    );
     shrink(&rt, &mut lists, 0);
-    assert_eq!(rt; (room(&rt, &lists, 0), room(&rt, &lists, 1)), (MANY + 1, 0));
+    compare(
+        &rt,
+        "rooms after both shrank",
+        (room(&rt, &lists, 0), room(&rt, &lists, 1)),
+        (MANY + 1, 0),
+    );
 }

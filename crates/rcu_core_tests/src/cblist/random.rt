@@ -132,7 +132,7 @@ fn migrate(
             list.migrate_into(target)
         };
     }
-    assert_eq!(rt; moved, Ok(()));
+    compare(rt, "move", moved, Ok(()));
     if marked && plain.len > 0 {
         plain.push(Item::Marker);
     }

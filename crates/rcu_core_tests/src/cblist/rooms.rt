@@ -1,6 +1,7 @@
 //! What room a list keeps, and how it gives room back.
 
 use super::{Step, call, make, queue};
+use crate::made::compare;
 use rcu_cblist::SegList;
 use std::alloc::Global;
 use std::process::Abort;
@@ -37,7 +38,12 @@ fn keeps_room(rt: &impl Abort, alloc: Global, list: &mut SegList<u64>, steps: &[
 fn shrink(rt: &impl Abort, list: &mut SegList<u64>, items: u64) {
     list.shrink();
     list.shrink();
-    assert_eq!(rt; (list.room(), list.count()), (items, items));
+    compare(
+        rt,
+        "room and count",
+        (list.room(), list.count()),
+        (items, items),
+    );
 }
 
 #[test]
@@ -59,7 +65,7 @@ fn a_list_keeps_its_room(rt: HostRuntime) {
             Step::Counts(MANY - 1, 1, None),
         ],
     );
-    assert_eq!(rt; list.room(), most);
+    compare(&rt, "room", list.room(), most);
 }
 
 #[test]
@@ -75,7 +81,7 @@ fn a_long_list_gives_its_room_back(rt: HostRuntime) {
     );
     assert!(rt; list.room() >= MANY);
     list.shrink();
-    assert_eq!(rt; list.room(), 0);
+    compare(&rt, "room", list.room(), 0);
     queue(&rt, 0, &mut list, call(1, 0, 7));
     assert!(rt; list.room() >= 1);
 }

@@ -20,7 +20,7 @@ fn processors_stay_in_order(rt: HostRuntime) {
     let none = CpuList::new(Vec::new(rt.alloc()));
     assert!(rt; none.as_slice().is_empty());
     let list = CpuList::new(three(&rt, rt.alloc()));
-    assert_eq!(rt; list.as_slice(), [3, 0, 4095].as_slice());
+    compare(&rt, "list", list.as_slice(), [3, 0, 4095].as_slice());
 }
 
 /// Callbacks of the values 1 and 5, in room made by a second call where the first is refused it.
@@ -46,7 +46,7 @@ fn put(rt: &impl Abort, calls: &mut Vec<Queued<u64>>, ord: u64, value: u64) {
 
 /// Compares the values of a list, in order.
 fn has_values(rt: &impl Abort, list: &ValueList, wanted: &[u64]) {
-    assert_eq!(rt; list.is_empty(), wanted.is_empty());
+    compare(rt, "is_empty", list.is_empty(), wanted.is_empty());
     assert_eq!(rt; list.len(), wanted.len());
     for place in 0..list.len() {
         compare(rt, place, list.value(place), wanted[place]);

@@ -98,7 +98,7 @@ fn told(rt: &impl Abort, alloc: Global, row: usize, reply: &Reply, wanted: &str)
 
 /// Compares replies with the texts that they print as.
 pub fn told_all(rt: &impl Abort, alloc: Global, replies: &[Reply], wanted: &[&str]) {
-    assert_eq!(rt; replies.len(), wanted.len());
+    compare(rt, "replies", replies.len(), wanted.len());
     for (row, (reply, wanted)) in replies.iter().zip(wanted).enumerate() {
         told(rt, alloc, row, reply, wanted);
     }

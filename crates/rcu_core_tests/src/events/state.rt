@@ -71,7 +71,7 @@ fn ask(rt: &impl Abort, state: &State) -> Asked {
 /// Compares the fault of a call whose growth was refused, and what it left with what was there.
 fn left(rt: &impl Abort, fault: Fault, state: &State, before: Asked) {
     refused(rt, fault);
-    assert_eq!(rt; ask(rt, state), before);
+    compare(rt, "what it left", ask(rt, state), before);
 }
 
 /// Queues a callback, by a second call where the first is refused a growth.
@@ -82,7 +82,7 @@ fn queue(rt: &impl Abort, state: &mut State, cpu: u32, value: u64, wanted: u64) 
         Ok(count) => compare(rt, (cpu, value), count, wanted),
         Err(back) => {
             left(rt, back.fault, state, before);
-            assert_eq!(rt; back.value, value);
+            compare(rt, "what it hands back", back.value, value);
             assert!(rt; cpu < state.cpus());
             let again = state.queue(cpu, back.value).map_err(|back| back.fault);
             compare(rt, (cpu, value), again, Ok(wanted));
@@ -113,7 +113,7 @@ fn migrate(rt: &impl Abort, state: &mut State, wanted: u64) {
         Err(fault) => {
             left(rt, fault, state, before);
             assert!(rt; 1 < state.cpus());
-            assert_eq!(rt; state.migrate(1), Ok(wanted));
+            compare(rt, "migrate, the second time", state.migrate(1), Ok(wanted));
         }
     }
 }
@@ -130,36 +130,36 @@ fn run(rt: &impl Abort, state: &mut State, wanted: usize) {
             state.run(0, 9).expect(rt, "the second call has memory")
         }
     };
-    assert_eq!(rt; calls.len(), wanted);
+    compare(rt, "run", calls.len(), wanted);
 }
 
 /// Tends processor 0's list, and compares how many callbacks are done and how many wait.
 fn tend(rt: &impl Abort, state: &mut State, wanted: (u64, u64)) {
     assert!(rt; 0 < state.cpus());
-    assert_eq!(rt; state.tend(0), wanted);
+    compare(rt, "tend", state.tend(0), wanted);
 }
 
 /// Makes a turn, and compares what it did.
 fn turns(rt: &impl Abort, state: &mut State, wanted: Turned) {
-    assert_eq!(rt; state.turn(), Ok(wanted));
+    compare(rt, "turn", state.turn(), Ok(wanted));
 }
 
 /// Compares how far the barrier is.
 fn barrier_is(rt: &impl Abort, state: &mut State, wanted: BarrierState) {
-    assert_eq!(rt; state.barrier_test(), Ok(wanted));
+    compare(rt, "barrier_test", state.barrier_test(), Ok(wanted));
 }
 
 /// Queues callbacks on both processors; one departs during a barrier, which waits for its list.
 fn departs(rt: &impl Abort, state: &mut State) {
-    assert_eq!(rt; state.arrive(1), Ok(()));
+    compare(rt, "arrive", state.arrive(1), Ok(()));
     queue(rt, state, 0, 5, 1);
     queue(rt, state, 1, 6, 2);
     queue(rt, state, 1, 7, 3);
-    assert_eq!(rt; state.barrier_begin(), Ok(()));
+    compare(rt, "barrier_begin", state.barrier_begin(), Ok(()));
     visit(rt, state, 0);
     migrate(rt, state, 2);
     barrier_is(rt, state, BarrierState::Waits(2));
-    assert_eq!(rt; state.depart(1), Ok(()));
+    compare(rt, "depart", state.depart(1), Ok(()));
 }
 
 /// A grace period, which the three callbacks wait for, begins, is reported and ends.
@@ -167,7 +167,7 @@ fn passes(rt: &impl Abort, state: &mut State) {
     tend(rt, state, (0, 3));
     turns(rt, state, Turned::Begun(1, 1));
     assert!(rt; 0 < state.cpus());
-    assert_eq!(rt; state.report_now(0), Answer::Last);
+    compare(rt, "report_now", state.report_now(0), Answer::Last);
     turns(rt, state, Turned::Ended(4));
     tend(rt, state, (3, 0));
 }
@@ -189,15 +189,20 @@ fn refused_calls_leave_all_as_it_was(rt: HostRuntime) {
 /// A renumbering is refused by this fault, and changes nothing.
 fn stays(rt: &impl Abort, state: &mut State, wanted: Fault) {
     let before = ask(rt, state);
-    assert_eq!(rt; state.renumber(), Err(wanted));
-    assert_eq!(rt; ask(rt, state), before);
+    compare(rt, "renumber", state.renumber(), Err(wanted));
+    compare(rt, "what it left", ask(rt, state), before);
 }
 
 /// The numbers start anew in this epoch, and a grace period is needed or not.
 fn starts_anew(rt: &impl Abort, state: &mut State, epoch: u64, needed: bool) {
-    assert_eq!(rt; state.renumber(), Ok(epoch));
+    compare(rt, "renumber", state.renumber(), Ok(epoch));
     let found = (state.tag(), state.value(), state.wants_begin());
-    assert_eq!(rt; found, (Tag { epoch, number: 0 }, 0, needed));
+    compare(
+        rt,
+        "tag, number, and whether one is needed",
+        found,
+        (Tag { epoch, number: 0 }, 0, needed),
+    );
 }
 
 /// A turn begins a grace period that is needed, and its end is all that was needed.
@@ -205,7 +210,7 @@ fn turn_ends_one(rt: &impl Abort, state: &mut State) {
     turns(rt, state, Turned::Begun(1, 1));
     stays(rt, state, Fault::Running);
     assert!(rt; 0 < state.cpus());
-    assert_eq!(rt; state.report_now(0), Answer::Last);
+    compare(rt, "report_now", state.report_now(0), Answer::Last);
     turns(rt, state, Turned::Ended(4));
     turns(rt, state, Turned::Nothing);
 }
@@ -218,7 +223,7 @@ fn needed_numbers_across_epochs(rt: HostRuntime) {
     state.start_poll();
     turn_ends_one(&rt, &mut state);
     state.start_poll();
-    assert_eq!(rt; state.turn(), Err(Fault::Exhausted));
+    compare(&rt, "turn", state.turn(), Err(Fault::Exhausted));
     starts_anew(&rt, &mut state, 1, true);
     turn_ends_one(&rt, &mut state);
     starts_anew(&rt, &mut state, 2, false);
@@ -256,8 +261,8 @@ fn last_numbers(rt: HostRuntime) {
 
 /// Compares the size of a state.
 fn has_size(rt: &impl Abort, state: &mut State, cpus: u32) {
-    assert_eq!(rt; state.cpus(), cpus);
-    assert_eq!(rt; state.arrive(cpus), Err(Fault::BadCpu));
+    compare(rt, "cpus", state.cpus(), cpus);
+    compare(rt, "arrive", state.arrive(cpus), Err(Fault::BadCpu));
 }
 
 /// A state of so many processors opens.

@@ -127,7 +127,12 @@ fn sets_of<R: Abort>(rt: &R, alloc: Global, flat: &Flat) -> (CpuSet, CpuSet) {
 
 /// Compares all that is said of each processor with what the flat set says, and then the masks.
 fn compare_sets<A: Awaited + Shown, R: Abort>(rt: &R, alloc: Global, shown: &A, flat: &Flat) {
-    assert_eq!(rt; (shown.cpus(), shown.tag()), (flat.cpus(), flat.tag()));
+    compare(
+        rt,
+        "processors and tag",
+        (shown.cpus(), shown.tag()),
+        (flat.cpus(), flat.tag()),
+    );
     assert_eq!(rt;
         (shown.count(), shown.is_empty()),
         (flat.count(), flat.is_empty())

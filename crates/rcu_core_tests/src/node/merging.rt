@@ -14,7 +14,7 @@ fn merges<A: Awaited, B: Awaited>(
     second: &B,
     wanted: Result<(), Fault>,
 ) {
-    assert_eq!(rt; merge(first, second), wanted);
+    compare(rt, "merge", merge(first, second), wanted);
 }
 
 /// Of five processors whether each was in the start set, and whether it is awaited after a merge.
@@ -50,14 +50,24 @@ fn hear_and_merge<A: Awaited, B: Awaited>(rt: &impl Abort, first: &mut A, second
     report(rt, first, &FIRST_HEARD);
     report(rt, second, &SECOND_HEARD);
     merges(rt, first, second, Ok(()));
-    assert_eq!(rt; (first.count(), first.tag()), (2, Tag::of_first_epoch(1)));
-    assert_eq!(rt; second.count(), 3);
+    compare(
+        rt,
+        "first before",
+        (first.count(), first.tag()),
+        (2, Tag::of_first_epoch(1)),
+    );
+    compare(rt, "second before", second.count(), 3);
     merges(rt, second, first, Ok(()));
-    assert_eq!(rt; (second.count(), second.tag()), (2, Tag::of_first_epoch(1)));
+    compare(
+        rt,
+        "second after",
+        (second.count(), second.tag()),
+        (2, Tag::of_first_epoch(1)),
+    );
     awaits(rt, first, LEFT.as_slice());
     awaits(rt, second, LEFT.as_slice());
     merges(rt, first, second, Ok(()));
-    assert_eq!(rt; first.count(), 2);
+    compare(rt, "first after", first.count(), 2);
 }
 
 /// Nothing changes where the tag, the start set or the number of processors differ.
@@ -113,7 +123,7 @@ fn merge_unlike_sets<A: Awaited, B: Awaited>(
     merges(rt, second, first, Err(Fault::NotAlike));
     awaits(rt, first, &FIRST_LEFT);
     awaits(rt, second, &SECOND_LEFT);
-    assert_eq!(rt; (first.count(), second.count()), (2, 1));
+    compare(rt, "counts", (first.count(), second.count()), (2, 1));
 }
 
 /// Of three processors whether each was in the first's start set, and whether it is awaited.

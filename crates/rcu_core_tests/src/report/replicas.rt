@@ -40,7 +40,7 @@ fn begin<A: Awaited>(
 ) {
     assert_eq!(rt; set.cpus(), replica.awaited().cpus());
     let result = replica.begin(set);
-    assert_eq!(rt; result, wanted);
+    compare(rt, "begin", result, wanted);
 }
 
 /// Makes reports, each of a processor and a number, and compares the answers.
@@ -66,12 +66,17 @@ fn depart<A: Awaited>(
 
 /// Ends, and compares the result.
 fn end<A: Awaited>(rt: &impl Abort, replica: &mut Replica<A>, wanted: Result<u64, Fault>) {
-    assert_eq!(rt; replica.end(), wanted);
+    compare(rt, "end", replica.end(), wanted);
 }
 
 /// Compares the number, and whether a grace period runs.
 fn is_at<A: Awaited>(rt: &impl Abort, replica: &Replica<A>, value: u64, running: bool) {
-    assert_eq!(rt; (replica.value(), replica.is_running()), (value, running));
+    compare(
+        rt,
+        "number, and whether one runs",
+        (replica.value(), replica.is_running()),
+        (value, running),
+    );
 }
 
 /// Takes in what the second has heard, and compares the result.
@@ -81,7 +86,7 @@ fn merge<A: Awaited, B: Awaited>(
     second: &Replica<B>,
     wanted: Result<(), Fault>,
 ) {
-    assert_eq!(rt; first.merge_from(second), wanted);
+    compare(rt, "merge_from", first.merge_from(second), wanted);
 }
 
 /// Compares which processors are awaited.
@@ -90,7 +95,7 @@ fn awaits<A: Awaited>(rt: &impl Abort, replica: &Replica<A>, wanted: &[u32]) {
     for cpu in 0..awaited.cpus() {
         compare(rt, cpu, awaited.awaits(cpu), wanted.contains(&cpu));
     }
-    assert_eq!(rt; awaited.count() as usize, wanted.len());
+    compare(rt, "awaited", awaited.count() as usize, wanted.len());
 }
 
 /// Two replicas of five processors that heard different ones, and take in each other.

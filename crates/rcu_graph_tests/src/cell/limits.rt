@@ -1,5 +1,7 @@
 //! The limits of a service, as a value in a cell.
-use rcu_cell::{Cell, Invariant, Retired, Value, Version};
+use crate::compare::compare;
+use rcu_cell::{Cell, CellRule, Invariant, Retired, Value, Version};
+use rcu_live::Live;
 
 /// How many requests a second are answered, and how many more at once: at least as many.
 #[derive(Clone, Copy, Debug, PartialEq, Eq)]
@@ -52,6 +54,11 @@ impl Value<2> for Limits {
     ghost small = { Prim.search rules };
 }
 
+/// The limits, in a cell.
+pub(crate) type Shared = Cell<Limits, 2>;
+
+pub(crate) type SharedEngine = Live<4, 4, u64, CellRule<Limits, 2>>;
+
 #[test]
 fn limits_are_replaced(rt: HostRuntime) {
     let first = Limits {
@@ -63,15 +70,18 @@ fn limits_are_replaced(rt: HostRuntime) {
         burst: 30,
     };
     let words = first.to_words();
-    assert_eq!(rt; words, [10, 20]);
-    let opened = Cell::<Limits, 2>::open::<4, 4, u64>(rt.alloc(), 1, 8, 2, &words);
+    compare(&rt, "to_words", words, [10, 20]);
+    let opened = Shared::open::<4, 4, u64>(rt.alloc(), 1, 8, 2, &words);
     let Ok(mut opened) = opened else {
         return;
     };
     let (live, cell, keeper) = (&opened.live, &opened.cell, &mut opened.keeper);
     let mut seat = opened.seats.pop().unwrap();
     let retired = Retired { slot: 1, by: 2 };
-    assert_eq!(rt; cell.value_section(live, &mut seat), Ok(first));
-    assert_eq!(rt; keeper.update_value(second), Ok(retired));
-    assert_eq!(rt; cell.value_section(live, &mut seat), Ok(second));
+    let found = cell.value_section(live, &mut seat);
+    compare(&rt, "value_section", found, Ok(first));
+    let found = keeper.update_value(second);
+    compare(&rt, "update_value", found, Ok(retired));
+    let found = cell.value_section(live, &mut seat);
+    compare(&rt, "value_section", found, Ok(second));
 }

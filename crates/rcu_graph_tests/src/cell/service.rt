@@ -5,20 +5,16 @@ ghost use Rattle.std.specs.Thread.{IsSync};
 ghost use Rattle.rcu_live.specs.CpuSeat.{IsSeatOf};
 ghost use Rattle.rcu_cell.specs.Cell.{IsOutside};
 
-use crate::cell::limits::Limits;
-use crate::cell::parts::{drive, next_online, next_seat};
-use rcu_cell::{Cell, CellRule, CellSeat, Keeper, Value};
-use rcu_live::Live;
+use crate::cell::limits::{Limits, Shared, SharedEngine};
+use crate::cell::parts::drive;
+use crate::compare::compare;
+use crate::seats::{next_online, next_seat};
+use rcu_cell::{CellSeat, Keeper, Value};
 use rcu_seq::Fault;
 use std::process::Abort;
 use std::sync::Wait;
 use std::thread;
 use std::thread::Threads;
-
-/// The limits.
-type Shared = Cell<Limits, 2>;
-
-type Engine = Live<4, 4, u64, CellRule<Limits, 2>>;
 
 /// How many requests a server answers.
 const REQUESTS: u32 = 100_000;
@@ -29,7 +25,7 @@ const CHANGES: u32 = 1_000;
 /// Who answers requests, with its processor's seat.
 #[derive(Drop)]
 struct Server<'a> {
-    live: &'a Engine,
+    live: &'a SharedEngine,
     cell: &'a Shared,
     seat: CellSeat<Limits, 2>,
     ghost engine: { live.now ≡ cell.now },
@@ -63,7 +59,7 @@ impl<'a> Server<'a> {
 /// Who replaces the limits, and drives the engine, with the seat of processor 0.
 #[derive(Drop)]
 struct Control<'a> {
-    live: &'a Engine,
+    live: &'a SharedEngine,
     keeper: Keeper<Limits, 2>,
     seat: CellSeat<Limits, 2>,
     ghost seat_of: { IsSeatOf live.now seat },
@@ -95,7 +91,7 @@ impl<'a> Control<'a> {
 /// cell and its engine may go: what waits in a slot needs no grace period for it.
 fn run_service<R: Abort + Threads + Wait + Sync>(
     rt: &R,
-    live: &Engine,
+    live: &SharedEngine,
     cell: &Shared,
     mut seats: Vec<CellSeat<Limits, 2>>,
     keeper: Keeper<Limits, 2>,
@@ -119,5 +115,5 @@ fn limits_are_replaced_while_requests_are_answered(rt: HostRuntime) {
     };
     let (seats, keeper) = (opened.seats, opened.keeper);
     let answered = run_service(&rt, &opened.live, &opened.cell, seats, keeper);
-    assert_eq!(rt; answered, REQUESTS);
+    compare(&rt, "answered", answered, REQUESTS);
 }

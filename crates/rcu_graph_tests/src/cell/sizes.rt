@@ -1,5 +1,6 @@
 //! The sizes of a cell.
 use crate::cell::Any;
+use crate::compare::compare;
 use rcu_cell::{Cell, NotOpened};
 use rcu_seq::Fault;
 use std::alloc::Global;
@@ -36,9 +37,6 @@ static SIZES: [(u32, u64, usize, Result<usize, NotOpened>); 9] = [
 fn sizes(rt: HostRuntime) {
     for (cpus, last, slots, wanted) in &SIZES {
         let found = opens(rt.alloc(), *cpus, *last, *slots);
-        assert_eq!(rt;
-            (*cpus, *last, *slots, found),
-            (*cpus, *last, *slots, *wanted)
-        );
+        compare(&rt, (*cpus, *last, *slots), found, *wanted);
     }
 }

@@ -5,7 +5,9 @@ ghost use Rattle.std.specs.Thread.{IsSync};
 ghost use Rattle.rcu_live.specs.CpuSeat.{IsSeatOf};
 ghost use Rattle.rcu_cell.specs.Cell.{IsOutside};
 
-use crate::cell::parts::{drive, next_online, next_seat};
+use crate::cell::parts::drive;
+use crate::compare::compare;
+use crate::seats::{next_online, next_seat};
 use rcu_cell::{Cell, CellRule, CellSeat, Invariant, Keeper, Version};
 use rcu_live::Live;
 use std::process::Abort;
@@ -179,5 +181,5 @@ fn readers_beside_a_keeper(rt: HostRuntime) {
     };
     let (seats, keeper) = (opened.seats, opened.keeper);
     let right = run_on(&rt, &opened.live, &opened.cell, seats, keeper);
-    assert_eq!(rt; right, (true, true, true));
+    compare(&rt, "readers", right, (true, true, true));
 }

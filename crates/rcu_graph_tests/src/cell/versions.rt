@@ -2,10 +2,11 @@
 ghost use Rattle.std.specs.Prelude.{◌≡◌, ◌≤◌};
 ghost use Rattle.rcu_cell.specs.Cell.{IsOutside};
 
-use crate::cell::limits::Limits;
+use crate::cell::limits::{Limits, Shared, SharedEngine};
 use crate::cell::{Any, Engine, Pairs, reads, shows};
-use rcu_cell::{Cell, CellRule, CellSeat, Full, Keeper, Retired, Value};
-use rcu_live::Live;
+use crate::compare::compare;
+use crate::seats::{enters, exits};
+use rcu_cell::{CellSeat, Full, Keeper, Retired, Value};
 use std::process::Abort;
 
 /// Words loaded before others are shown, and words loaded after them, in one section.
@@ -19,19 +20,15 @@ fn load_and_show<R: Abort>(
     requires engine { live.now ≡ cell.now }
     requires seat { IsOutside live.now seat.old }
 {
-    let Ok(1) = seat.enter(live) else {
-        panic!(rt; "no section was opened")
-    };
+    enters(rt, live, seat);
     let mut loaded = cell.loaded(seat);
     shows(rt, keeper, [3, 4], Ok(Retired { slot: 1, by: 2 }));
     shows(rt, keeper, [5, 6], Err(Full));
-    assert_eq!(rt; loaded.read(1), 2);
-    assert_eq!(rt; loaded.snapshot(), [1, 2]);
+    compare(rt, "read", loaded.read(1), 2);
+    compare(rt, "snapshot", loaded.snapshot(), [1, 2]);
     let mut later = cell.loaded(seat);
-    assert_eq!(rt; later.snapshot(), [3, 4]);
-    let Ok(0) = seat.exit(live) else {
-        unreachable!()
-    };
+    compare(rt, "snapshot", later.snapshot(), [3, 4]);
+    exits(rt, live, seat);
     reads(rt, live, cell, seat, [3, 4]);
 }
 
@@ -53,8 +50,8 @@ fn loaded_version_stays_as_it_was(rt: HostRuntime) {
 /// A value loaded before another is shown, and the value of a section after that.
 fn load_and_show_values<R: Abort>(
     rt: &R,
-    live: &Live<4, 4, u64, CellRule<Limits, 2>>,
-    cell: &Cell<Limits, 2>,
+    live: &SharedEngine,
+    cell: &Shared,
     seat: &mut CellSeat<Limits, 2>,
     keeper: &mut Keeper<Limits, 2>,
     first: Limits,
@@ -64,17 +61,14 @@ fn load_and_show_values<R: Abort>(
     requires seat { IsOutside live.now seat.old }
     requires second { second.rate ≤ second.burst }
 {
-    let Ok(1) = seat.enter(live) else {
-        panic!(rt; "no section was opened")
-    };
+    enters(rt, live, seat);
     let mut loaded = cell.loaded(seat);
     let retired = Retired { slot: 1, by: 2 };
-    assert_eq!(rt; keeper.update_value(second), Ok(retired));
-    assert_eq!(rt; loaded.value(), first);
-    let Ok(0) = seat.exit(live) else {
-        unreachable!()
-    };
-    assert_eq!(rt; cell.value_section(live, seat), Ok(second));
+    compare(rt, "update_value", keeper.update_value(second), Ok(retired));
+    compare(rt, "value", loaded.value(), first);
+    exits(rt, live, seat);
+    let found = cell.value_section(live, seat);
+    compare(rt, "value_section", found, Ok(second));
 }
 
 #[test]
@@ -87,7 +81,7 @@ fn loaded_value_stays_as_it_was(rt: HostRuntime) {
         rate: 30,
         burst: 30,
     };
-    let Ok(mut opened) = Cell::open(rt.alloc(), 1, 8, 2, &first.to_words()) else {
+    let Ok(mut opened) = Shared::open(rt.alloc(), 1, 8, 2, &first.to_words()) else {
         return;
     };
     let (live, cell, keeper) = (&opened.live, &opened.cell, &mut opened.keeper);

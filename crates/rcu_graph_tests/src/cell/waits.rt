@@ -4,10 +4,11 @@ ghost use Rattle.rcu_live.specs.CpuSeat.{IsSeatOf};
 ghost use Rattle.rcu_cell.specs.Cell.{IsOutside};
 ghost use Rattle.rcu_graph.specs.Graph.{IsWatcherOf};
 
-use crate::cell::limits::Limits;
+use crate::cell::limits::{Limits, Shared, SharedEngine};
 use crate::cell::{Any, Engine, Pairs};
-use rcu_cell::{Cell, CellRule, CellSeat, Keeper, Retired, Value};
-use rcu_live::Live;
+use crate::compare::compare;
+use crate::seats::{next_online, next_seat};
+use rcu_cell::{CellSeat, Keeper, Retired, Value};
 use rcu_seq::Fault;
 use std::process::Abort;
 use std::sync::Wait;
@@ -30,7 +31,7 @@ fn shows<R: Abort + Wait>(
     ensures depth { seat.new.depth ≡ seat.old.depth }
 {
     let found = keeper.update_or_wait(rt, live, seat, &words);
-    assert_eq!(rt; (words, found), (words, wanted));
+    compare(rt, words, found, wanted);
 }
 
 /// A second version is shown at once, a third one after a grace period, and no fourth one, since
@@ -44,9 +45,9 @@ fn update_up_to_the_last_number<R: Abort + Wait>(
     requires keeper { IsWatcherOf live.now keeper.old }
     requires seat { IsSeatOf live.now seat.old }
 {
-    assert_eq!(rt; seat.enter(live), Ok(1));
+    compare(rt, "enter", seat.enter(live), Ok(1));
     shows(rt, live, keeper, seat, [2, 2], Err(Fault::InSection));
-    assert_eq!(rt; seat.exit(live), Ok(0));
+    compare(rt, "exit", seat.exit(live), Ok(0));
     shows(
         rt,
         live,
@@ -76,12 +77,8 @@ fn updates_wait_up_to_the_last_number(rt: HostRuntime) {
     update_up_to_the_last_number(&rt, &opened.live, &mut opened.keeper, &mut seat);
 }
 
-/// The limits, in one of two slots: each change but the first waits for a grace period.
-type Shared = Cell<Limits, 2>;
-
-type SharedEngine = Live<4, 4, u64, CellRule<Limits, 2>>;
-
-/// How often the limits are replaced.
+/// How often the limits are replaced, in two slots: each change but the first waits for a grace
+/// period.
 const CHANGES: u32 = 200;
 
 /// How often the reader reads.
@@ -175,15 +172,14 @@ fn limits_are_replaced_in_two_slots(rt: HostRuntime) {
     };
     let (mut seats, keeper) = (opened.seats, opened.keeper);
     let (live, cell) = (&opened.live, &opened.cell);
-    let mut seat = seats.pop().unwrap();
-    assert_eq!(&rt; live.online(&rt, &mut seat), Ok(()));
     let reader = Reader {
         live,
         cell,
-        seat,
+        seat: next_online(&rt, live, &mut seats),
         newest: 0,
     };
-    let seat = seats.pop().unwrap();
+    let seat = next_seat(&rt, live, &mut seats);
     let control = Control { live, keeper, seat };
-    assert_eq!(&rt; run_beside(&rt, control, reader), (CHANGES, READS));
+    let found = run_beside(&rt, control, reader);
+    compare(&rt, "changes and reads", found, (CHANGES, READS));
 }

@@ -3,6 +3,7 @@
 ghost use Rattle.std.specs.Prelude.{◌≡◌, ◌<◌, All};
 ghost use Rattle.rcu_live.specs.CpuSeat.{IsSeatOf};
 
+use crate::compare::compare;
 use crate::nodes::chain::{ChainKeeper, PLAN};
 use crate::nodes::{Chain, Engine, Seat};
 use rcu_graph::Full;
@@ -34,7 +35,7 @@ impl<'a, R: Abort + Wait> Periods<'a, R> {
     /// Drives for who waits for this number, and compares what it answers.
     fn drives(&self, number: u64, wanted: Turned) {
         let turned = self.live.drive_for(self.rt, Cookie { epoch: 0, number });
-        assert_eq!(self.rt; turned, Ok(wanted));
+        compare(self.rt, number, turned, Ok(wanted));
     }
 
     /// A grace period of this number begins.
@@ -44,10 +45,24 @@ impl<'a, R: Abort + Wait> Periods<'a, R> {
 
     /// The grace period of this number ends.
     fn end(&mut self, number: u64) {
-        assert_eq!(self.rt; self.seat.quiesce(self.live), Ok(number));
+        compare(self.rt, "quiesce", self.seat.quiesce(self.live), Ok(number));
         let end = number.saturating_add(3);
         self.drives(end, Turned::Ended(end));
     }
+}
+
+const FREE: (bool, bool) = (true, false);
+
+const LIVE: (bool, bool) = (false, true);
+
+/// Left, or retired.
+const GONE: (bool, bool) = (false, false);
+
+/// Whether a node is free, and whether it is live.
+fn state(kept: &ChainKeeper, node: usize) -> (bool, bool)
+    requires { node < 4 }
+{
+    (kept.keeper.is_free(node), kept.keeper.is_live(node))
 }
 
 /// Adds a node with a key behind another one, and compares what the keeper knows of it. Returns the
@@ -60,22 +75,14 @@ fn add<R: Abort>(rt: &R, kept: &mut ChainKeeper, from: usize, key: u64) -> usize
         .fill_free(&[key, key / 2], None)
         .ok()
         .expect(rt, "a node is free");
-    assert_eq!(rt;
-        (kept.keeper.is_free(node), kept.keeper.is_live(node)),
-        (true, false)
-    );
-    assert_eq!(rt;
-        (kept.keeper.word(node, 0), kept.keeper.word(node, 1)),
-        (key, key / 2)
-    );
-    assert_eq!(rt; kept.keeper.link_of(node, 0), None);
+    let words = (kept.keeper.word(node, 0), kept.keeper.word(node, 1));
+    compare(rt, key, state(kept, node), FREE);
+    compare(rt, key, words, (key, key / 2));
+    compare(rt, key, kept.keeper.link_of(node, 0), None);
     assert!(rt; kept.publish(from, node));
     assert!(rt; !kept.publish(from, node));
-    assert_eq!(rt;
-        (kept.keeper.is_free(node), kept.keeper.is_live(node)),
-        (false, true)
-    );
-    assert_eq!(rt; kept.keeper.link_of(from, 0), Some(node));
+    compare(rt, key, state(kept, node), LIVE);
+    compare(rt, key, kept.keeper.link_of(from, 0), Some(node));
     node
 }
 
@@ -88,46 +95,55 @@ fn fill_up<R: Abort>(rt: &R, kept: &mut ChainKeeper) -> (usize, usize, usize)
     let first = add(rt, kept, 0, 10);
     let second = add(rt, kept, first, 20);
     let third = add(rt, kept, second, 30);
-    assert_eq!(rt; kept.keeper.free_node(), Err(Full));
+    compare(rt, "free_node", kept.keeper.free_node(), Err(Full));
     (first, second, third)
 }
 
-/// Whether nodes are free, and whether they are live.
+/// The same of three nodes.
 fn states(kept: &ChainKeeper, nodes: (usize, usize, usize)) -> [(bool, bool); 3]
     requires first { nodes.0 < 4 }
     requires second { nodes.1 < 4 }
     requires third { nodes.2 < 4 }
 {
     let (first, second, third) = nodes;
-    let keeper = &kept.keeper;
-    [
-        (keeper.is_free(first), keeper.is_live(first)),
-        (keeper.is_free(second), keeper.is_live(second)),
-        (keeper.is_free(third), keeper.is_live(third)),
-    ]
+    [state(kept, first), state(kept, second), state(kept, third)]
 }
 
-const FREE: (bool, bool) = (true, false);
+/// Looks at the number, and compares it, and what three nodes are by then.
+fn ages<R: Abort>(
+    rt: &R,
+    kept: &mut ChainKeeper,
+    nodes: (usize, usize, usize),
+    number: u64,
+    wanted: [(bool, bool); 3],
+)
+    requires first { nodes.0 < 4 }
+    requires second { nodes.1 < 4 }
+    requires third { nodes.2 < 4 }
+{
+    compare(rt, "age", kept.age(), number);
+    compare(rt, number, states(kept, nodes), wanted);
+}
 
-const LIVE: (bool, bool) = (false, true);
-/// Left, or retired.
-const GONE: (bool, bool) = (false, false);
+/// Looks at the number, and compares it. No node is free by then.
+fn frees_none<R: Abort>(rt: &R, kept: &mut ChainKeeper, number: u64) {
+    compare(rt, "age", kept.age(), number);
+    compare(rt, number, kept.keeper.free_node(), Err(Full));
+}
 
 /// A full chain is left before a grace period: that one frees its nodes.
 fn leave_before_a_period<R: Abort + Wait>(periods: &mut Periods<'_, R>, kept: &mut ChainKeeper) {
     let rt = periods.rt;
     let nodes = fill_up(rt, kept);
     assert!(rt; kept.unlink(0));
-    assert_eq!(rt; states(kept, nodes), [GONE; 3]);
-    assert_eq!(rt; (kept.age(), kept.keeper.free_node()), (0, Err(Full)));
+    compare(rt, "unlink", states(kept, nodes), [GONE; 3]);
+    frees_none(rt, kept, 0);
     periods.begin(1);
-    assert_eq!(rt; (kept.age(), kept.keeper.free_node()), (1, Err(Full)));
+    frees_none(rt, kept, 1);
     periods.end(1);
-    assert_eq!(rt;
-        (states(kept, nodes), kept.keeper.free_node()),
-        ([GONE; 3], Err(Full))
-    );
-    assert_eq!(rt; (kept.age(), states(kept, nodes)), (4, [FREE; 3]));
+    compare(rt, "drive_for", states(kept, nodes), [GONE; 3]);
+    compare(rt, "free_node", kept.keeper.free_node(), Err(Full));
+    ages(rt, kept, nodes, 4, [FREE; 3]);
 }
 
 /// A full chain is left during a grace period, and one node before it: that one is free by its
@@ -137,18 +153,18 @@ fn leave_during_a_period<R: Abort + Wait>(periods: &mut Periods<'_, R>, kept: &m
     let nodes = fill_up(rt, kept);
     assert!(rt; kept.link(nodes.0, Some(nodes.2)));
     assert!(rt; !kept.link(nodes.2, Some(nodes.0)));
-    assert_eq!(rt; (kept.age(), states(kept, nodes)), (4, [LIVE, GONE, LIVE]));
+    ages(rt, kept, nodes, 4, [LIVE, GONE, LIVE]);
     periods.begin(5);
     assert!(rt; kept.unlink(0));
     assert!(rt; !kept.unlink(nodes.0));
-    assert_eq!(rt; (kept.age(), states(kept, nodes)), (5, [GONE; 3]));
+    ages(rt, kept, nodes, 5, [GONE; 3]);
     periods.end(5);
-    assert_eq!(rt; (kept.age(), states(kept, nodes)), (8, [GONE, FREE, GONE]));
-    assert_eq!(rt; kept.keeper.free_node(), Ok(nodes.1));
+    ages(rt, kept, nodes, 8, [GONE, FREE, GONE]);
+    compare(rt, "free_node", kept.keeper.free_node(), Ok(nodes.1));
     periods.begin(9);
-    assert_eq!(rt; (kept.age(), states(kept, nodes)), (9, [GONE, FREE, GONE]));
+    ages(rt, kept, nodes, 9, [GONE, FREE, GONE]);
     periods.end(9);
-    assert_eq!(rt; (kept.age(), states(kept, nodes)), (12, [FREE; 3]));
+    ages(rt, kept, nodes, 12, [FREE; 3]);
     fill_up(rt, kept);
 }
 
@@ -194,6 +210,6 @@ fn steady_turnover_uses_the_same_two_nodes(rt: HostRuntime) {
     for turn in 0..100u64 {
         let first = replace(&mut periods, &mut kept, 8 * turn + 1);
         let second = replace(&mut periods, &mut kept, 8 * turn + 5);
-        assert_eq!(rt; (first, second), (1, 2));
+        compare(&rt, turn, (first, second), (1, 2));
     }
 }

@@ -8,9 +8,10 @@ ghost use Rattle.rcu_graph.specs.Graph.{IsWalking};
 ghost use Rattle.rcu_graph.specs.Planned.{of_plan, plan_of};
 ghost use Rattle.rcu_graph.specs.declared.known.Known.TheVariants.{Idle};
 
+use crate::compare::compare;
 use crate::nodes::chain::{ChainKeeper, PLAN};
-use crate::nodes::parts::{next_online, next_seat};
 use crate::nodes::{Chain, Engine, Seat};
+use crate::seats::{next_online, next_seat};
 use rcu_seq::Cookie;
 use std::sync::Wait;
 use std::thread;
@@ -193,5 +194,6 @@ fn readers_beside_a_turnover_of_nodes(rt: HostRuntime) {
         return;
     };
     let updater = Updater { live, kept, seat };
-    assert_eq!(rt; run_beside(&rt, updater, a, b), (true, (true, true)));
+    let right = run_beside(&rt, updater, a, b);
+    compare(&rt, "keeper and readers", right, (true, (true, true)));
 }

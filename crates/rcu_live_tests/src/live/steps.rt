@@ -1,12 +1,14 @@
 //! Scripts of calls of an object, each compared with the answer that is wanted.
+mod driving;
+mod sections;
+
 ghost use Rattle.std.specs.Prelude.{◌≡◌};
 
 use rcu_barrier::{BarrierState, Visit};
 use rcu_cblist::Queued;
-use rcu_live::{Collected, CpuSeat, Engine, Live, Met, Ran, Watcher};
+use rcu_live::{CpuSeat, Engine, Live, Met, Ran, Watcher};
 use rcu_node::Tree;
 use rcu_seq::{Cookie, Fault, Tag};
-use rcu_state::Turned;
 use std::cell::Cell;
 use std::fmt::Debug;
 use std::process::Abort;
@@ -42,14 +44,20 @@ impl<'a, R: Abort + Wait> Script<'a, R> {
     }
 
     /// Compares the answer to the next call.
-    fn compare<T: PartialEq + Debug + Drop>(&self, call: &str, found: T, wanted: T) {
+    pub(crate) fn compare<T: PartialEq + Debug + Drop>(&self, call: &str, found: T, wanted: T) {
         let row = self.rows.get().wrapping_add(1);
         self.rows.set(row);
         assert_eq!(self.rt; (row, call, found), (row, call, wanted));
     }
 
     /// Compares the answer to the next call of a processor.
-    fn compare_of<T: PartialEq + Debug + Drop>(&self, call: &str, cpu: u32, found: T, wanted: T) {
+    pub(crate) fn compare_of<T: PartialEq + Debug + Drop>(
+        &self,
+        call: &str,
+        cpu: u32,
+        found: T,
+        wanted: T,
+    ) {
         self.compare(call, (cpu, found), (cpu, wanted));
     }
 
@@ -61,58 +69,6 @@ impl<'a, R: Abort + Wait> Script<'a, R> {
     /// The engine, which this thread still holds, is the one of two processors.
     pub(crate) fn holds(&self, engine: &MutexGuard<'a, Engine<Tree<4, 4>, u64>>) {
         self.compare("holds", engine.cpus(), 2);
-    }
-
-    /// Compares the answer to an enter.
-    pub(crate) fn enter(&self, seat: &mut CpuSeat, wanted: Result<u32, Fault>)
-        requires { seat.old.table ≡ self.now.live.now.table }
-        ensures { seat.new.table ≡ seat.old.table }
-    {
-        let found = seat.enter(self.live);
-        self.compare_of("enter", seat.cpu(), found, wanted);
-    }
-
-    /// Compares the answer to an exit.
-    pub(crate) fn exit(&self, seat: &mut CpuSeat, wanted: Result<u32, Fault>)
-        requires { seat.old.table ≡ self.now.live.now.table }
-        ensures { seat.new.table ≡ seat.old.table }
-    {
-        let found = seat.exit(self.live);
-        self.compare_of("exit", seat.cpu(), found, wanted);
-    }
-
-    /// Compares the answer to a quiescent state.
-    pub(crate) fn quiesce(&self, seat: &mut CpuSeat, wanted: Result<u64, Fault>)
-        requires { seat.old.table ≡ self.now.live.now.table }
-        ensures { seat.new.table ≡ seat.old.table }
-    {
-        let found = seat.quiesce(self.live);
-        self.compare_of("quiesce", seat.cpu(), found, wanted);
-    }
-
-    /// Compares the answer to a processor that gets idle.
-    pub(crate) fn idle(&self, seat: &mut CpuSeat, wanted: Result<(), Fault>)
-        requires { seat.old.table ≡ self.now.live.now.table }
-        ensures { seat.new.table ≡ seat.old.table }
-    {
-        let found = seat.idle(self.live);
-        self.compare_of("idle", seat.cpu(), found, wanted);
-    }
-
-    /// Compares the answer to a wake.
-    pub(crate) fn wake(&self, seat: &mut CpuSeat, wanted: Result<u64, Fault>)
-        requires { seat.old.table ≡ self.now.live.now.table }
-        ensures { seat.new.table ≡ seat.old.table }
-    {
-        let found = seat.wake(self.live);
-        self.compare_of("wake", seat.cpu(), found, wanted);
-    }
-
-    /// Compares how a seat stands: how deep its sections nest, and whether its processor is online
-    /// and idle.
-    pub(crate) fn stands(&self, seat: &CpuSeat, depth: u32, is_online: bool, is_idle: bool) {
-        let found = (seat.depth(), seat.is_online(), seat.is_idle());
-        self.compare_of("stands", seat.cpu(), found, (depth, is_online, is_idle));
     }
 
     /// Compares a meeting: the number at which the seat's section opened, if one is open, and the
@@ -178,32 +134,6 @@ impl<'a, R: Abort + Wait> Script<'a, R> {
         let wanted = if is_refused { found } else { Ok(wanted) };
         self.compare_of("offline", seat.cpu(), found, wanted);
         is_refused
-    }
-
-    /// Compares what a turn did.
-    pub(crate) fn turn(&self, wanted: Result<Turned, Fault>) {
-        self.compare("turn", self.live.turn(self.rt), wanted);
-    }
-
-    /// Compares what a collection found.
-    pub(crate) fn collect(&self, cpu: u32, wanted: Result<Collected, Fault>) {
-        self.compare_of("collect", cpu, self.live.collect(self.rt, cpu), wanted);
-    }
-
-    /// A processor passes a quiescent state, and the engine hears of it.
-    pub(crate) fn pass(&self, seat: &mut CpuSeat, cpu: u32, number: u64, wanted: Collected)
-        requires { seat.old.table ≡ self.now.live.now.table }
-        ensures { seat.new.table ≡ seat.old.table }
-    {
-        self.quiesce(seat, Ok(number));
-        self.collect(cpu, Ok(wanted));
-    }
-
-    /// Compares whether processors 0 and 1 are awaited. No other one is: there are two.
-    pub(crate) fn awaits(&self, wanted: [bool; 2]) {
-        let others = [2, u32::MAX].map(|cpu| self.live.awaits(self.rt, cpu));
-        let found = [0, 1].map(|cpu| self.live.awaits(self.rt, cpu));
-        self.compare("awaits", (found, others), (wanted, [false, false]));
     }
 
     /// Compares how many callbacks of a processor are done, and how many wait.

@@ -2,7 +2,7 @@
 ghost use Rattle.std.specs.Prelude.{◌≡◌, ◌<◌, All};
 ghost use Rattle.std.specs.Thread.{IsSync};
 
-use crate::live::steps::{Four, of_epoch};
+use crate::live::steps::{Four, Script, of_epoch};
 use crate::live::threads::{Pair, last_seat, last_watcher, make_pair, opened};
 use rcu_live::{CpuSeat, Watcher};
 use rcu_seq::Fault;
@@ -13,46 +13,24 @@ use std::sync::atomic::{AtomicU64, Ordering};
 use std::thread;
 use std::thread::Threads;
 
-/// A step of driving for callbacks does this.
-fn drives<R: Abort + Wait>(rt: &R, live: &Four, row: u32, wanted: Result<Turned, Fault>) {
-    assert_eq!(rt; (row, live.drive(rt)), (row, wanted));
-}
-
-/// A step for who waits for the cookie of this number does this.
-fn drives_for<R: Abort + Wait>(
-    rt: &R,
-    live: &Four,
-    row: u32,
-    number: u64,
-    wanted: Result<Turned, Fault>,
-) {
-    let found = live.drive_for(rt, of_epoch(0, number));
-    assert_eq!(rt; (row, found), (row, wanted));
-}
-
 /// A callback asks for the first of two grace periods, and a cookie for the second one.
-fn drive_on_one_thread<R: Abort + Wait>(rt: &R, live: &Four, seat: &mut CpuSeat)
-    requires { seat.old.table ≡ live.now.table }
+fn drive_on_one_thread<R: Abort + Wait>(script: &Script<'_, R>, seat: &mut CpuSeat)
+    requires { seat.old.table ≡ script.now.live.now.table }
 {
-    drives(rt, live, 1, Ok(Turned::Nothing));
-    if live.queue(rt, seat, 7).is_err() {
-        assert!(rt;
-            live.queue(rt, seat, 7).is_ok(),
-            "the second call has memory"
-        );
-    }
-    drives(rt, live, 2, Ok(Turned::Nothing));
-    assert_eq!(rt; live.tend(rt, 0), Ok((0, 1)));
-    drives(rt, live, 3, Ok(Turned::Begun(1, 1)));
-    drives(rt, live, 4, Ok(Turned::Waiting(1)));
-    assert_eq!(rt; seat.quiesce(live), Ok(1));
-    drives(rt, live, 5, Ok(Turned::Ended(4)));
-    drives(rt, live, 6, Ok(Turned::Nothing));
-    drives_for(rt, live, 7, 4, Ok(Turned::Nothing));
-    assert_eq!(rt; seat.idle(live), Ok(()));
-    drives_for(rt, live, 8, 8, Ok(Turned::Ended(8)));
-    drives_for(rt, live, 9, 8, Ok(Turned::Nothing));
-    drives_for(rt, live, 10, 12, Err(Fault::Exhausted));
+    script.drive(Ok(Turned::Nothing));
+    script.queue(seat, 7, 1);
+    script.drive(Ok(Turned::Nothing));
+    script.tend(0, Ok((0, 1)));
+    script.drive(Ok(Turned::Begun(1, 1)));
+    script.drive(Ok(Turned::Waiting(1)));
+    script.quiesce(seat, Ok(1));
+    script.drive(Ok(Turned::Ended(4)));
+    script.drive(Ok(Turned::Nothing));
+    script.drive_for(4, Ok(Turned::Nothing));
+    script.idle(seat, Ok(()));
+    script.drive_for(8, Ok(Turned::Ended(8)));
+    script.drive_for(8, Ok(Turned::Nothing));
+    script.drive_for(12, Err(Fault::Exhausted));
 }
 
 #[test]
@@ -62,61 +40,35 @@ fn steps_of_driving(rt: HostRuntime) {
         mut first,
         ..
     } = make_pair(&rt, rt.alloc());
-    drive_on_one_thread(&rt, &live, &mut first);
-}
-
-/// A seat that synchronizes answers so.
-fn synchronizes<R: Abort + Wait>(
-    rt: &R,
-    live: &Four,
-    seat: &mut CpuSeat,
-    watcher: &mut Watcher,
-    wanted: Result<(), Fault>,
-)
-    requires seat { seat.old.table ≡ live.now.table }
-    requires watcher { watcher.old.table ≡ live.now.table }
-    ensures seat { seat.new.table ≡ seat.old.table }
-    ensures watcher { watcher.new.table ≡ watcher.old.table }
-{
-    assert_eq!(rt; live.synchronize(rt, seat, watcher), wanted);
+    drive_on_one_thread(&Script::new(&rt, &live), &mut first);
 }
 
 /// Two grace periods up to the last number, and none in a section or after it. A processor that is
 /// offline or idle waits as well.
 fn wait_on_one_thread<R: Abort + Wait>(
-    rt: &R,
-    live: &Four,
+    script: &Script<'_, R>,
     first: &mut CpuSeat,
     second: &mut CpuSeat,
     watcher: &mut Watcher,
 )
-    requires first { first.old.table ≡ live.now.table }
-    requires second { second.old.table ≡ live.now.table }
-    requires watcher { watcher.old.table ≡ live.now.table }
+    requires first { first.old.table ≡ script.now.live.now.table }
+    requires second { second.old.table ≡ script.now.live.now.table }
+    requires watcher { watcher.old.table ≡ script.now.live.now.table }
 {
-    assert_eq!(rt; first.enter(live), Ok(1));
-    synchronizes(rt, live, first, watcher, Err(Fault::InSection));
-    assert_eq!(rt;
-        live.wait_for(rt, first, watcher, of_epoch(0, 1)),
-        Err(Fault::InSection)
-    );
-    assert_eq!(rt;
-        live.wait_once(rt, first, of_epoch(0, 1)),
-        Err(Fault::InSection)
-    );
-    assert_eq!(rt; first.exit(live), Ok(0));
-    synchronizes(rt, live, first, watcher, Ok(()));
-    assert_eq!(rt; watcher.take(live), of_epoch(0, 8));
-    assert_eq!(rt; live.wait_once(rt, first, of_epoch(0, 8)), Ok(()));
-    assert_eq!(rt; first.idle(live), Ok(()));
-    assert_eq!(rt; live.wait_for(rt, second, watcher, of_epoch(0, 8)), Ok(()));
-    assert_eq!(rt; watcher.take(live), of_epoch(0, 12));
-    assert_eq!(rt; live.wait_for(rt, first, watcher, of_epoch(0, 8)), Ok(()));
-    synchronizes(rt, live, first, watcher, Err(Fault::Exhausted));
-    assert_eq!(rt;
-        live.wait_once(rt, second, of_epoch(0, 12)),
-        Err(Fault::Exhausted)
-    );
+    script.enter(first, Ok(1));
+    script.synchronize(first, watcher, Err(Fault::InSection));
+    script.wait_for(first, watcher, 1, Err(Fault::InSection));
+    script.wait_once(first, 1, Err(Fault::InSection));
+    script.exit(first, Ok(0));
+    script.synchronize(first, watcher, Ok(()));
+    script.take(watcher, of_epoch(0, 8));
+    script.wait_once(first, 8, Ok(()));
+    script.idle(first, Ok(()));
+    script.wait_for(second, watcher, 8, Ok(()));
+    script.take(watcher, of_epoch(0, 12));
+    script.wait_for(first, watcher, 8, Ok(()));
+    script.synchronize(first, watcher, Err(Fault::Exhausted));
+    script.wait_once(second, 12, Err(Fault::Exhausted));
 }
 
 #[test]
@@ -128,7 +80,8 @@ fn waits_up_to_the_last_number(rt: HostRuntime) {
         mut watcher,
         other: _,
     } = make_pair(&rt, rt.alloc());
-    wait_on_one_thread(&rt, &live, &mut first, &mut second, &mut watcher);
+    let script = Script::new(&rt, &live);
+    wait_on_one_thread(&script, &mut first, &mut second, &mut watcher);
 }
 
 /// What readers and an updater share: which of two values is shown, both, and how far a reader of

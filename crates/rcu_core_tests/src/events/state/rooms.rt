@@ -1,5 +1,6 @@
 //! What room the lists of a state keep, and how one gives room back.
 use super::{State, queue, run, state, tend, turns};
+use crate::made::compare;
 use rcu_core::Turned;
 use rcu_node::Answer;
 use std::process::Abort;
@@ -20,7 +21,7 @@ fn shrink(rt: &impl Abort, state: &mut State, items: u64) {
     assert!(rt; 0 < state.cpus());
     state.shrink(0);
     state.shrink(0);
-    assert_eq!(rt; room(rt, state), items);
+    compare(rt, "room", room(rt, state), items);
 }
 
 /// A grace period, which the callbacks wait for, begins, is reported and ends.
@@ -28,7 +29,7 @@ fn passes(rt: &impl Abort, state: &mut State) {
     tend(rt, state, (0, MANY));
     turns(rt, state, Turned::Begun(1, 1));
     assert!(rt; 0 < state.cpus());
-    assert_eq!(rt; state.report_now(0), Answer::Last);
+    compare(rt, "report_now", state.report_now(0), Answer::Last);
     turns(rt, state, Turned::Ended(4));
     tend(rt, state, (MANY, 0));
 }
@@ -36,7 +37,7 @@ fn passes(rt: &impl Abort, state: &mut State) {
 #[test]
 fn a_list_keeps_its_room_until_a_shrinking(rt: HostRuntime) {
     let mut state = state(&rt, rt.alloc(), 8);
-    assert_eq!(rt; state.lists().most(), 1_000_000);
+    compare(&rt, "most", state.lists().most(), 1_000_000);
     for count in 0..MANY {
         queue(&rt, &mut state, 0, 7, count + 1);
     }
@@ -44,9 +45,9 @@ fn a_list_keeps_its_room_until_a_shrinking(rt: HostRuntime) {
     let most = room(&rt, &state);
     assert!(rt; most >= MANY);
     passes(&rt, &mut state);
-    assert_eq!(rt; room(&rt, &state), most);
+    compare(&rt, "room", room(&rt, &state), most);
     run(&rt, &mut state, MANY as usize);
-    assert_eq!(rt; room(&rt, &state), most);
+    compare(&rt, "room after a run", room(&rt, &state), most);
     shrink(&rt, &mut state, 0);
-    assert_eq!(rt; room(&rt, &state), 0);
+    compare(&rt, "room after it shrank", room(&rt, &state), 0);
 }

@@ -1,9 +1,0 @@
-use Rattle.std.proofs.Common.{◌≡◌}
-use Rattle.rcu_defer_tests.proofs.deferral.read_often.Given as goal
-
--- the seat stays one of the engine
-abbrev pub invariant-loop : goal.invariant-loop
-invariant-loop g l = l.seat.table ≡ l.live.table
-
-abbrev pub invariant-loop-2 : goal.invariant-loop-2
-invariant-loop-2 g l = l.seat.table ≡ l.live.table

@@ -1,0 +1,15 @@
+use Rattle.std.proofs.Common.{◌≡◌}
+use Rattle.rcu_live.specs.CpuSeat.{after_word_step}
+use Rattle.rcu_graph.specs.Planned.{knowing}
+use Rattle.rcu_map.specs.Listed.{known_in, listing}
+use Rattle.rcu_graph_tests.proofs.map.script.lists.Given as goal
+
+-- the seat is lent still, and only what its section knows changes
+abbrev pub invariant-loop-route : goal.invariant-loop-route
+invariant-loop-route g l = record {
+  map : (listing l.entries).map ≡ (listing l.initial.entries).map;
+  name : (listing l.entries).name ≡ (listing l.initial.entries).name;
+  seat : (listing l.entries).seat
+      ≡ after_word_step (listing l.initial.entries).seat
+      (knowing (listing l.initial.entries).seat.view.client (known_in (listing l.entries)));
+}

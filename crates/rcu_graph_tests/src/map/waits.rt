@@ -1,0 +1,155 @@
+//! Entries that wait for a free node: by a script on one thread, and by several threads.
+mod threads;
+
+ghost use Rattle.std.specs.Prelude.{◌<◌};
+ghost use Rattle.rcu_graph.specs.Graph.{IsSeatOf, IsWatcherOf};
+
+use crate::compare::compare;
+use crate::map::route::Route;
+use crate::map::{Engine, Routes, Seat};
+use rcu_map::Put::{Insert, Replace, Upsert};
+use rcu_map::{MapKeeper, NotPut, Put};
+use rcu_seq::Fault;
+use std::alloc::Global;
+use std::process::Abort;
+use std::sync::Wait;
+
+/// A call, with the network and the port that it is given, and which port it returns.
+#[derive(Clone, Copy)]
+enum Call {
+    Put(Put, u32, u32, Result<Option<u32>, NotPut>),
+    Remove(u32, Option<u32>),
+    Enter,
+    Exit,
+}
+
+/// A keeper of a map, with the seat of its one processor.
+#[derive(Drop)]
+struct Scene<'a> {
+    live: &'a Engine,
+    keeper: MapKeeper<Route, 2>,
+    seat: Seat,
+    ghost keeper_of: { IsWatcherOf live.now keeper },
+    ghost seat_of: { IsSeatOf live.now seat },
+}
+
+impl<'a> Scene<'a> {
+    fn put<R: Wait>(&mut self, rt: &R, how: Put, route: Route) -> Result<Option<Route>, NotPut>
+        requires { 0 < route.network }
+    {
+        self.keeper
+            .put_or_wait(rt, self.live, &mut self.seat, how, route)
+    }
+
+    /// Makes a row's call, and compares what it returns.
+    fn call<R: Abort + Wait>(&mut self, rt: &R, row: usize, call: Call) {
+        match call {
+            Call::Put(how, network, port, wanted) => {
+                if let Some(route) = Route::to(network, port) {
+                    let found = self.put(rt, how, route);
+                    let found = found.map(|old| old.map(|route| route.port));
+                    compare(rt, row, found, wanted);
+                }
+            }
+            Call::Remove(network, wanted) => {
+                let found = self.keeper.remove(u64::from(network));
+                compare(rt, row, found.map(|route| route.port), wanted);
+            }
+            Call::Enter => compare(rt, row, self.seat.enter(self.live), Ok(1)),
+            Call::Exit => compare(rt, row, self.seat.exit(self.live), Ok(0)),
+        }
+    }
+}
+
+/// Makes the calls in their order, up to this last number, on a map of two routes at most, in one
+/// bucket. Compares the routes to the networks 1 to 4 in the end: a port of 0 is none.
+fn makes<R: Abort + Wait>(rt: &R, alloc: Global, last: u64, calls: &[Call], ports: [u32; 4]) {
+    let Ok(mut opened) = Routes::open(alloc, 1, last, 1, 3, 0) else {
+        return;
+    };
+    let mut scene = Scene {
+        keeper: opened.keeper,
+        seat: opened.seats.pop().unwrap(),
+        live: &opened.live,
+    };
+    for (row, call) in calls.iter().enumerate() {
+        scene.call(rt, row, *call);
+    }
+    for (network, port) in (1..=4u64).zip(ports) {
+        let found = scene.keeper.get(network).map(|route| route.port);
+        compare(rt, network, found.unwrap_or(0), port);
+    }
+}
+
+/// Each node is live, or some were left: each way to put a route in, where it needs a node and
+/// where it does not.
+static FULL: [Call; 21] = [
+    Call::Put(Replace, 1, 1, Ok(None)),
+    Call::Put(Insert, 1, 1, Ok(None)),
+    Call::Put(Upsert, 2, 2, Ok(None)),
+    Call::Put(Insert, 3, 3, Err(NotPut::Full)),
+    Call::Put(Insert, 2, 4, Ok(Some(2))),
+    Call::Put(Replace, 2, 4, Err(NotPut::Full)),
+    Call::Put(Upsert, 2, 4, Err(NotPut::Full)),
+    Call::Put(Replace, 3, 4, Ok(None)),
+    Call::Remove(1, Some(1)),
+    Call::Put(Insert, 2, 5, Ok(Some(2))),
+    Call::Put(Replace, 1, 5, Ok(None)),
+    Call::Put(Insert, 3, 6, Ok(None)),
+    Call::Put(Insert, 4, 7, Err(NotPut::Full)),
+    Call::Remove(2, Some(2)),
+    Call::Put(Replace, 3, 8, Ok(Some(6))),
+    Call::Put(Upsert, 3, 9, Ok(Some(8))),
+    Call::Put(Upsert, 1, 10, Ok(None)),
+    Call::Put(Replace, 3, 11, Err(NotPut::Full)),
+    Call::Put(Upsert, 4, 11, Err(NotPut::Full)),
+    Call::Remove(1, Some(10)),
+    Call::Put(Insert, 4, 12, Ok(None)),
+];
+
+#[test]
+fn entries_wait_where_a_node_was_left(rt: HostRuntime) {
+    makes(&rt, rt.alloc(), 4_000, &FULL, [0, 0, 9, 12]);
+}
+
+/// In a section no call is made, whether a node is free or not.
+static IN_A_SECTION: [Call; 12] = [
+    Call::Enter,
+    Call::Put(Insert, 1, 1, Err(NotPut::Fault(Fault::InSection))),
+    Call::Exit,
+    Call::Put(Insert, 1, 2, Ok(None)),
+    Call::Put(Insert, 2, 3, Ok(None)),
+    Call::Enter,
+    Call::Put(Upsert, 3, 4, Err(NotPut::Fault(Fault::InSection))),
+    Call::Put(Insert, 1, 4, Err(NotPut::Fault(Fault::InSection))),
+    Call::Put(Replace, 1, 4, Err(NotPut::Fault(Fault::InSection))),
+    Call::Exit,
+    Call::Remove(1, Some(2)),
+    Call::Put(Insert, 3, 5, Ok(None)),
+];
+
+#[test]
+fn no_entry_waits_in_a_section(rt: HostRuntime) {
+    makes(&rt, rt.alloc(), 4_000, &IN_A_SECTION, [0, 3, 5, 0]);
+}
+
+/// A grace period passes, and then no other one: what needs a node is refused from then on.
+static LAST_NUMBER: [Call; 12] = [
+    Call::Put(Insert, 1, 1, Ok(None)),
+    Call::Put(Insert, 2, 2, Ok(None)),
+    Call::Remove(1, Some(1)),
+    Call::Put(Insert, 3, 3, Ok(None)),
+    Call::Remove(2, Some(2)),
+    Call::Put(Insert, 4, 4, Err(NotPut::Fault(Fault::Exhausted))),
+    Call::Put(Replace, 3, 4, Err(NotPut::Fault(Fault::Exhausted))),
+    Call::Put(Upsert, 3, 4, Err(NotPut::Fault(Fault::Exhausted))),
+    Call::Put(Insert, 3, 4, Ok(Some(3))),
+    Call::Put(Replace, 4, 4, Ok(None)),
+    Call::Put(Insert, 4, 4, Err(NotPut::Fault(Fault::Exhausted))),
+    Call::Remove(4, None),
+];
+
+#[test]
+fn entries_wait_up_to_the_last_number(rt: HostRuntime) {
+    makes(&rt, rt.alloc(), 4, &LAST_NUMBER, [0, 0, 3, 0]);
+}

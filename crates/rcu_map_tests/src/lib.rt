@@ -1,5 +1,0 @@
-//! Tests of maps.
-#![tactic(auto)]
-
-#[cfg(test)]
-mod map;
