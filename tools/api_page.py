@@ -22,7 +22,7 @@ LIST = re.compile(r"(?ms)(^<!-- >>> ((?:rcu_\w+ ?)+): [^\n]*\n).*?(^<!-- <<<)")
 def unlisted():
     """The modules of each crate that the page leaves out."""
     rows = [re.findall(r"`(\w+)`", it) for it in
-            read(PAGE).split(UNLISTED)[1].splitlines() if it.startswith("- ")]
+            re.findall(r"(?m)^- .*(?:\n  .*)*", read(PAGE).split(UNLISTED)[1])]
     return {row[0]: row[1:] for row in rows}
 
 

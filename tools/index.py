@@ -1,8 +1,8 @@
-"""The index of names in docs/README.md, for tools/write_calls: each call, type, law and fault, with
-its page.
+"""The index of names in docs/README.md, for tools/write_calls: each call of C, type, law and fault,
+with its page.
 
-Names of C are those of include/*.h; calls and types of Rattle those of docs/API.md; laws those of
-crates/*/src, as docs/PROMISES.md has them; faults those of docs/RULES.md.
+Names of C are those of include/*.h; types of Rattle those of docs/API.md, which has their calls;
+laws those of crates/*/src, as docs/PROMISES.md has them; faults those of docs/RULES.md.
 """
 import os
 import re
@@ -35,8 +35,7 @@ def names_of_c():
 
 def names_of_rattle(api):
     for place, part in parts(api_page.PAGE, api):
-        for found, calls in api_page.lists(part):
-            yield from ((api_page.name_of(it), place) for it in calls)
+        for found, _ in api_page.lists(part):
             code = "".join(sources(rf"crates/(?:{found[2].strip().replace(' ', '|')})/src/.*\.rt"))
             for name in re.findall(r"(?m)^pub (?:struct|enum|trait) (\w+)", code):
                 if re.search(rf"\b{name}\b", part):
@@ -57,7 +56,7 @@ def written(api):
     text, places = f"{read(links.INDEX).partition(MARK)[0]}{MARK}\n", {}
     faults = re.findall(r"(?m)^- \*\*(\d+)\*\*, (\w+):", read("docs/RULES.md"))
     groups = {"Calls of C": names_of_c(), "Laws": laws(),
-              "Calls and types of Rattle": names_of_rattle(api)}
+              "Types of Rattle": names_of_rattle(api)}
     rows = [(title, sorted(set(its), key=lambda it: (it[0].lower(), it)))
             for title, its in groups.items()]
     rows.append(("Faults", [(" ".join(it), "RULES.md#faults") for it in faults]))

@@ -6,7 +6,7 @@ use lib.ListN.{get_elem?}
 use Rattle.atomic_table.specs.Table.{State}
 use Rattle.rcu_seq.specs.Numbers.{Number}
 use Rattle.rcu_seq.specs.Seq.{number_of}
-use Rattle.rcu_live.specs.Client.{Slots, Views}
+use Rattle.rcu_live.specs.Client.{Views}
 use Rattle.rcu_live.specs.Engine.{Locked}
 use Rattle.rcu_live.specs.Rule.{IsKept}
 use Rattle.rcu_live.specs.View.{IsOfEngine}
@@ -37,7 +37,7 @@ pub record IsSameObject (e f : Locked Planned ℕ) : Type 0 where
 
 -- what holds of the words of a map of this plan, and of what all seats know of it: the rule of the
 -- client of an engine of C's
-abbrev pub IsMapKept : Plan → List ℕ → Slots (Unit {0}) → Views Planned → Type 0
+abbrev pub IsMapKept : Plan → List ℕ → Views Planned → Type 0
 IsMapKept = IsKeptBy (λ plan. IsWhole IsKeyed plan.words)
     (λ plan _ from to. GoesUp plan.roots plan.seed from to) (λ plan. root_words plan.words)
 

@@ -25,6 +25,8 @@ pub(crate) struct SharedParts {
 }
 
 impl Model for SharedParts {
+    ghost use Rattle.std.specs.Prelude.{◌≡◌};
+    ghost use Rattle.rcu_live.specs.Words.{base_of};
     ghost use Rattle.rcu_c.specs.Seats.{Shared};
 
     ghost Value = { Shared };
@@ -34,6 +36,8 @@ impl Model for SharedParts {
       wishes = s.wishes.words;
       identity = s.identity;
     } };
+
+    ghost invariant = { λ s. record { base : s.map.base ≡ base_of s.map.cpus } };
 }
 
 /// A processor's seat of an engine with a map.
@@ -58,7 +62,6 @@ pub struct SeatParts {
 impl Model for SeatParts {
     ghost use Rattle.std.specs.Prelude.{◌≡◌, ◌<◌, ◌≤◌, IsSome};
     ghost use Rattle.rcu_graph.specs.Nodes.{IsReader};
-    ghost use Rattle.rcu_live.specs.Words.{base_of};
     ghost use Rattle.rcu_c.specs.Seats.{Seat};
 
     ghost Value = { Seat };
@@ -79,7 +82,7 @@ impl Model for SeatParts {
       inside : s.cpu.cpu < s.map.cpus;
       values : s.values.marks.seen ≤ s.watcher.view.seen;
       links : s.links.marks.seen ≤ s.watcher.view.seen;
-      base : s.cpu.view.base ≡ base_of s.map.cpus;
+      base : s.cpu.view.base ≡ s.map.base;
       planned : s.cpu.view.client.plan ≡ s.map.plan;
       reads : IsReader s.cpu.view.client.known;
       nested : 0 < s.cpu.depth → IsSome s.cpu.view.section;

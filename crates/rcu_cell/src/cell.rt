@@ -1,22 +1,25 @@
 //! A cell: what a section reads of it, without a lock, a wait or a store.
 ghost use Rattle.std.specs.Prelude.{◌≡◌, ◌<◌, slice_index};
 ghost use Rattle.rcu_live.specs.CpuSeat.{after_word_step};
+ghost use Rattle.rcu_live.specs.InPart.{seat_part};
 ghost use Rattle.rcu_graph.specs.Graph.{IsWalking};
 ghost use Rattle.rcu_graph.specs.Opening.{row_of};
 ghost use Rattle.rcu_cell.specs.Cell.{IsLoaded, ReadsSlot, version_in};
 
-use crate::shape::{CellSeat, OneLink, Version};
+use crate::shape::{CellRule, CellSeat, OneLink, Version};
 use rcu_graph::{Graph, Row};
+use rcu_live::{Alone, Within};
 use std::marker::Model;
 
 /// A value of `W` words among the shared words of a running engine. Each version that is published
 /// meets `F`, and has a node of a graph, its slot. The root's link leads to the one that is shown.
+/// The cell is the client of the engine, or one of several, at the place `P`.
 #[derive(Drop)]
-pub struct Cell<F: Version<W>, const W: usize> {
-    pub(crate) graph: Graph<OneLink<F, W>>,
+pub struct Cell<F: Version<W>, const W: usize, P: Within<CellRule<F, W>> = Alone> {
+    pub(crate) graph: Graph<OneLink<F, W>, P>,
 }
 
-impl<F: Version<W>, const W: usize> Model for Cell<F, W> {
+impl<F: Version<W>, const W: usize, P: Within<CellRule<F, W>>> Model for Cell<F, W, P> {
     ghost use Rattle.std.specs.Prelude.{◌≡◌, length};
     ghost use Rattle.rcu_live.specs.Board.{Object};
     ghost use Rattle.rcu_graph.specs.declared.plan.Plan.{Plan};
@@ -34,9 +37,9 @@ impl<F: Version<W>, const W: usize> Model for Cell<F, W> {
     } };
 }
 
-impl<F: Version<W>, const W: usize> Cell<F, W> {
+impl<F: Version<W>, const W: usize, P: Within<CellRule<F, W>>> Cell<F, W, P> {
     /// A cell over a graph of one root, and of one link a node.
-    pub(crate) fn over(graph: Graph<OneLink<F, W>>) -> Cell<F, W>
+    pub(crate) fn over(graph: Graph<OneLink<F, W>, P>) -> Cell<F, W, P>
         requires root { graph.plan.roots ≡ 1 }
         requires one { graph.plan.links ≡ 1 }
         requires words { graph.plan.words ≡ W }
@@ -57,12 +60,13 @@ impl<F: Version<W>, const W: usize> Cell<F, W> {
 
     /// Loads which slot is shown, and returns it: the open section reads its version from now on,
     /// as it was published, until it closes or loads again (Linux's `rcu_dereference`).
-    pub fn load(&self, seat: &mut CellSeat<F, W>) -> usize
-        requires { IsWalking self.now seat.old }
-        ensures state { seat.new ≡ after_word_step seat.old seat.new.view.client }
-        ensures loaded { IsLoaded F.holds F.first W seat.old.view.client.known result
-            seat.new.view.client.known }
-        ensures reads { ReadsSlot self.now seat.new result }
+    pub fn load(&self, seat: &mut CellSeat<F, W, P>) -> usize
+        requires { IsWalking self.now (seat_part P.lens seat.old) }
+        ensures state { seat.new ≡ after_word_step seat.old
+            (P.lens.set seat.old.view.client (P.lens.get seat.new.view.client)) }
+        ensures loaded { IsLoaded F.holds F.first W (P.lens.get seat.old.view.client).known result
+            (P.lens.get seat.new.view.client).known }
+        ensures reads { ReadsSlot self.now (seat_part P.lens seat.new) result }
     {
         // A borrow of a field shows the prover what the type keeps: that there is one root.
         let graph = &self.graph;
@@ -71,11 +75,12 @@ impl<F: Version<W>, const W: usize> Cell<F, W> {
     }
 
     /// Loads a word of the version that the section reads: the one that it had when it was loaded.
-    pub fn read(&self, seat: &mut CellSeat<F, W>, slot: usize, word: usize) -> u64
-        requires slot { ReadsSlot self.now seat.old slot }
+    pub fn read(&self, seat: &mut CellSeat<F, W, P>, slot: usize, word: usize) -> u64
+        requires slot { ReadsSlot self.now (seat_part P.lens seat.old) slot }
         requires word { word < W }
         ensures unchanged { seat.new ≡ seat.old }
-        ensures word { result ≡ slice_index (version_in F.first seat.old.view.client.known) word }
+        ensures word { result ≡ slice_index
+            (version_in F.first (P.lens.get seat.old.view.client).known) word }
     {
         // A borrow of a field shows the prover what the type keeps: that there is one root.
         let graph = &self.graph;

@@ -1,5 +1,6 @@
 //! The keeper of a cell: it publishes versions, and looks which slots are free.
 ghost use Rattle.std.specs.Prelude.{◌≡◌, ◌<◌, ◌≤◌, ◌^◌, IfOk, OnErr};
+ghost use Rattle.rcu_live.specs.InPart.{watcher_part};
 ghost use Rattle.rcu_graph.specs.Graph.{IsOfSameGraph};
 ghost use Rattle.rcu_graph.specs.Keeper.{IsKeeperOf, after_look};
 ghost use Rattle.rcu_graph.specs.Nodes.{nodes_in};
@@ -9,8 +10,9 @@ ghost use Rattle.rcu_cell.specs.Keeper.{Updated};
 ghost use Rattle.rcu_cell.specs.Versions.{AreVersions, shown_in};
 
 use crate::cell::Cell;
-use crate::shape::{CellWatcher, OneLink, Version};
+use crate::shape::{CellRule, CellWatcher, OneLink, Version};
 use rcu_graph::{Full, Value};
+use rcu_live::{Alone, Within};
 use std::alloc::{AllocError, Global};
 use std::marker::Model;
 
@@ -25,11 +27,11 @@ pub struct Retired {
 
 /// The keeper of a cell, for one thread. A cell has one.
 #[derive(Drop)]
-pub struct Keeper<F: Version<W>, const W: usize> {
-    pub(crate) nodes: rcu_graph::Keeper<OneLink<F, W>>,
+pub struct Keeper<F: Version<W>, const W: usize, P: Within<CellRule<F, W>> = Alone> {
+    pub(crate) nodes: rcu_graph::Keeper<OneLink<F, W>, P>,
 }
 
-impl<F: Version<W>, const W: usize> Model for Keeper<F, W> {
+impl<F: Version<W>, const W: usize, P: Within<CellRule<F, W>>> Model for Keeper<F, W, P> {
     ghost use Rattle.rcu_live.specs.Watcher.{Watching};
     ghost use Rattle.rcu_graph.specs.Nodes.{nodes_in};
     ghost use Rattle.rcu_graph.specs.declared.known.Planned.{Planned};
@@ -43,19 +45,19 @@ impl<F: Version<W>, const W: usize> Model for Keeper<F, W> {
         (nodes_in k.nodes.view.client.known) };
 }
 
-impl<F: Version<W>, const W: usize> Keeper<F, W> {
+impl<F: Version<W>, const W: usize, P: Within<CellRule<F, W>>> Keeper<F, W, P> {
     /// The keeper of a cell whose nodes are as at first. It takes all the memory that it will ever
     /// have.
-    pub(crate) fn new(
+    pub fn new(
         alloc: Global,
-        cell: &Cell<F, W>,
-        seat: CellWatcher<F, W>,
+        cell: &Cell<F, W, P>,
+        seat: CellWatcher<F, W, P>,
     ) -> Result<Self, AllocError>
-        requires keeper { IsKeeperOf cell.now seat }
+        requires keeper { IsKeeperOf cell.now (watcher_part P.lens seat) }
         requires nodes { IsClaimed (λ _. F.first) cell.now.plan.roots cell.now.plan.links
-            cell.now.plan.words cell.now.plan.nodes seat.view.client.known }
+            cell.now.plan.words cell.now.plan.nodes (P.lens.get seat.view.client).known }
         requires several { 2 < cell.now.plan.nodes }
-        ensures { IfOk result (λ keeper. keeper ≡ seat) }
+        ensures { IfOk result (λ keeper. keeper ≡ watcher_part P.lens seat) }
     {
         // A borrow of a field shows the prover what the type keeps: that there is one root.
         let graph = &cell.graph;
@@ -106,7 +108,7 @@ impl<F: Version<W>, const W: usize> Keeper<F, W> {
     }
 }
 
-impl<F: Value<W> + Version<W>, const W: usize> Keeper<F, W> {
+impl<F: Value<W> + Version<W>, const W: usize, P: Within<CellRule<F, W>>> Keeper<F, W, P> {
     /// Publishes a value, as [`update`](Self::update) does its words.
     pub fn update_value(&mut self, value: F) -> Result<Retired, Full>
         requires sound { F.valid value }

@@ -3,6 +3,7 @@
 #![tactic(auto)]
 
 pub mod cell;
+mod joining;
 pub mod keeper;
 mod keeper_waits;
 pub mod opening;

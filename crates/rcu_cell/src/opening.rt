@@ -21,7 +21,7 @@ use rcu_seq::Fault;
 use std::alloc::{AllocError, Global};
 
 /// The plan of a cell of so many slots, of two at least. It may be one of no graph.
-fn plan_of(width: usize, slots: usize) -> Option<Plan>
+pub(crate) fn plan_of(width: usize, slots: usize) -> Option<Plan>
     ensures { MatchOption result (¬ HasSizes width slots)
         (λ plan. (1 < slots) × (plan ≡ plan_of_cell width slots)) }
 {
@@ -95,7 +95,7 @@ impl<F: Version<W>, const W: usize> Cell<F, W> {
         ensures fault { HasSizes W slots →
             tested_opening result ≡ opening_refusal LEAF FAN cpus last }
         ensures dealt { IfOk result (λ opened. AreDealt cpus last (2 ^ 62)
-            (first_place + (1 + W) * (1 + slots)) 0 (of_plan opened.cell.plan Idle) opened.cell
+            (first_place + (1 + W) * (1 + slots)) (of_plan opened.cell.plan Idle) opened.cell
             opened.seats.items opened.watchers.items) }
         ensures plan { IfOk result (λ opened. opened.cell.plan ≡ plan_of_cell W slots) }
         ensures live { IfOk result (λ opened. opened.live ≡ opened.cell) }

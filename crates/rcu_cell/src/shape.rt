@@ -1,6 +1,7 @@
 //! What the versions of a cell meet, and the seats of its engine.
 use rcu_graph::rule::GraphRule;
 use rcu_graph::{GraphSeat, GraphWatcher, Invariant, Plan, Shape};
+use rcu_live::Alone;
 use std::marker::PhantomData;
 
 /// A user's fact on the versions of a cell of `W` words, with words that meet it. They are shown
@@ -38,8 +39,9 @@ impl<F: Version<W>, const W: usize> Shape for OneLink<F, W> {
 /// The rule of a cell, as a client of its engine.
 pub type CellRule<F, const W: usize> = GraphRule<OneLink<F, W>>;
 
-/// A processor's seat of a cell's engine.
-pub type CellSeat<F, const W: usize> = GraphSeat<OneLink<F, W>>;
+/// A processor's seat of a cell's engine: the cell is its only client, or one of several, at this
+/// place.
+pub type CellSeat<F, const W: usize, P = Alone> = GraphSeat<OneLink<F, W>, P>;
 
 /// A watcher's seat of a cell's engine.
-pub type CellWatcher<F, const W: usize> = GraphWatcher<OneLink<F, W>>;
+pub type CellWatcher<F, const W: usize, P = Alone> = GraphWatcher<OneLink<F, W>, P>;

@@ -10,7 +10,7 @@ use Rattle.std.proofs.lemmas.Bool.{cases_lt}
 use Rattle.std.proofs.lemmas.Bool.Decides.{nat_tests}
 use Rattle.rcu_seq.specs.Numbers.{Number, snapshot}
 use Rattle.rcu_seq.specs.Tags.{cookie_at, is_done_first, of_first_epoch}
-use Rattle.rcu_live.specs.Client.{Slots, Views}
+use Rattle.rcu_live.specs.Client.{Views}
 use Rattle.rcu_live.specs.Rule.{IsKept}
 use Rattle.rcu_live.specs.declared.view.Role.TheVariants.{Cpu}
 use Rattle.rcu_live.specs.declared.view.View.{View}
@@ -43,15 +43,15 @@ module _ {X : Type 0} where
   deferred_more (Tend n ∷ later) earlier = deferred_more later earlier
   deferred_more (Take most ∷ later) earlier = deferred_more later earlier
 
-module _ {S C X : Type 0} where
+module _ {C X : Type 0} where
   -- the moment of a call
-  record Found (P Q : Moment S C X → Type 0) (call : Call X) : Type 0 where
-    moment : Moment S C X
+  record Found (P Q : Moment C X → Type 0) (call : Call X) : Type 0 where
+    moment : Moment C X
     first : P moment
     second : Q moment
     is : moment.call ≡ call
 
-  found : (P Q : Moment S C X → Type 0) (moments : List (Moment S C X)) (c d : List (Call X))
+  found : (P Q : Moment C X → Type 0) (moments : List (Moment C X)) (c d : List (Call X))
       (x : Call X)
       → All P moments
       → All Q moments
@@ -74,11 +74,12 @@ reached_not : (taken now : Number)
     → is_done_first (cookie_at (of_first_epoch taken)) now ≡ false → snapshot taken ≤ now → ⊥
 reached_not taken now waits reached = grind (arith, nat_tests)
 
-module _ {S C : Type 0} where
+module _ {C : Type 0} where
   -- the law of sections and cookies
-  abbrev pub FinishesBeforeDone : (List ℕ → Slots S → Views C → Type 0) → Type 0
+  abbrev pub FinishesBeforeDone : (List ℕ → Views C → Type 0) → Type 0
   FinishesBeforeDone holds =
-      (cpus : ℕ) (before after : State S (View C)) (i j : ℕ) (first later : View C) (at : ℕ)
+      (cpus : ℕ) (before after : State (Unit {0}) (View C)) (i j : ℕ) (first later : View C)
+      (at : ℕ)
       → IsKept holds cpus before
       → IsKept holds cpus after
       → get_elem? before.views i ≡ some first
@@ -91,9 +92,9 @@ module _ {S C : Type 0} where
       (slice_index after.words 0)
       ≡ false
 
-module _ {S C X : Type 0} where
+module _ {C X : Type 0} where
   -- a section is open where a deferral is marked, and where that is done
-  both_open : (holds : List ℕ → Slots S → Views C → Type 0)
+  both_open : (holds : List ℕ → Views C → Type 0)
       → FinishesBeforeDone holds
       → (cpus seat : ℕ) (at marked now : Number)
       → Found {X = X} (IsMoment holds cpus) (HasOpen seat at) (Tend marked)
@@ -111,9 +112,9 @@ module _ {S C X : Type 0} where
       (omega arith)
 
   -- a deferral of these moments has waited
-  early : (holds : List ℕ → Slots S → Views C → Type 0)
+  early : (holds : List ℕ → Views C → Type 0)
       → FinishesBeforeDone holds
-      → (cpus seat : ℕ) (at : Number) (later earlier : List (Moment S C X))
+      → (cpus seat : ℕ) (at : Number) (later earlier : List (Moment C X))
       → All (IsMoment holds cpus) later
       → All (HasOpen seat at) later
       → HasWaited (calls_of (later ++ earlier)) (length (deferred_in (calls_of earlier)))
@@ -121,7 +122,7 @@ module _ {S C X : Type 0} where
   early holds law cpus seat at later earlier kept held h =
       let newer = h.later ++ Tend h.now ∷ h.between in
       let joined : calls_of later ++ calls_of earlier ≡ newer ++ Tend h.at ∷ h.earlier =
-      sym (map-append (λ (m : Moment S C X). m.call) later earlier)
+      sym (map-append (λ (m : Moment C X). m.call) later earlier)
       ∙ (h.is ∙ sym (append_assoc h.later (Tend h.now ∷ h.between) (Tend h.at ∷ h.earlier))) in
       elim (split_at (calls_of later) (calls_of earlier) newer h.earlier (Tend h.at) joined) [
         | inl inside ↦
@@ -140,9 +141,9 @@ module _ {S C X : Type 0} where
       ]
 
   -- so no more is done than was deferred before
-  pub none_done : (holds : List ℕ → Slots S → Views C → Type 0)
+  pub none_done : (holds : List ℕ → Views C → Type 0)
       → FinishesBeforeDone holds
-      → (cpus seat : ℕ) (at : Number) (later earlier : List (Moment S C X))
+      → (cpus seat : ℕ) (at : Number) (later earlier : List (Moment C X))
       → All (IsMoment holds cpus) later
       → All (HasOpen seat at) later
       → (marks_after (calls_of (later ++ earlier))).done ≤ length (deferred_in (calls_of earlier))

@@ -75,7 +75,7 @@ pub fn no_value_is_lost<T: Drop>()
 /// that was open at a deferral has ended where that is done, and where it is taken out.
 pub fn sections_end_before_deferrals_are_done<T, P: Client>()
     ensures { (plan : P.Plan) (cpus seat : ℕ) (at : Number)
-        (later earlier : List (Moment P.Slot P.Known T)) →
+        (later earlier : List (Moment P.Known T)) →
         All (IsMoment (P.holds plan) cpus) later → All (HasOpen seat at) later →
         (marks_after (calls_of (later ++ earlier))).done
         ≤ length (deferred_in (calls_of earlier)) }

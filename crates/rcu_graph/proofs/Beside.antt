@@ -72,7 +72,7 @@ module _ (fits : Plan → List ℕ → Type 0) (joins : Plan → ℕ → List �
       → IsChained ours root (nodes_in m.keeper)
   chained_at ours root keeper m chain k =
       chains (fits plan) (joins plan) (first plan) plan.roots plan.links plan.words plan.nodes ours
-      root m.words m.homes (map unplanned m.seats) keeper (latest_in m.keeper) None None
+      root m.words (map unplanned m.seats) keeper (latest_in m.keeper) None None
       (nodes_in m.keeper) (stored_in m.keeper) k.rule.kept (keeper_shown keeper m k) chain.ascends
       chain.stays chain.inside chain.link chain.own
 
@@ -94,7 +94,7 @@ module _ (fits : Plan → List ℕ → Type 0) (joins : Plan → ℕ → List �
       × IsTrueOf (nodes_in before.keeper) hop
   hop_made keeper seat opened before after k l o p node link words low on told same =
       let made = hop_true_then (fits plan) (joins plan) (first plan) plan.roots plan.links
-      plan.words plan.nodes before.words after.words before.homes after.homes
+      plan.words plan.nodes before.words after.words
       (map unplanned before.seats) (map unplanned after.seats) keeper seat node link
       (latest_in before.keeper) None None (Some o.cpu) (Some opened) None None (Some p.cpu)
       (Some opened) (nodes_in before.keeper) (stored_in before.keeper) before.section after.section

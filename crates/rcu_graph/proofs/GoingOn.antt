@@ -5,7 +5,7 @@ use Rattle.std.specs.Prelude.{IsSome, max, slice_index, slice_set}
 use mathlib.Core.Option.{some, some-injective}
 use lib.ListN.{get_elem?}
 use Rattle.atomic_table.proofs.Lists.{set_else, set_here}
-use Rattle.rcu_live.specs.Client.{ClientView, Slots, Views}
+use Rattle.rcu_live.specs.Client.{ClientView, Views}
 use Rattle.rcu_live.proofs.ClientRows.{inside}
 use Rattle.rcu_graph.specs.Beside.{CanGoOn, GoesOn, IsKeeperMove, Moment, cell_of, followed, led}
 use Rattle.rcu_graph.specs.Beside.{left, looked, published, rested, stayed, wrote, wrote_link}
@@ -46,7 +46,7 @@ module _ (fits : Plan → List ℕ → Type 0) (joins : Plan → ℕ → List �
   abbrev Goes : Moment → Type 0
   Goes after = GoesOn fits joins first plan keeper seat opened before after
 
-  abbrev kept : List ℕ → Slots (Unit {0}) → Views Planned → Type 0
+  abbrev kept : List ℕ → Views Planned → Type 0
   kept = IsKeptBy fits joins first plan
 
   -- the section makes a hop
@@ -70,7 +70,7 @@ module _ (fits : Plan → List ℕ → Type 0) (joins : Plan → ℕ → List �
       (follows_at (fits plan) (joins plan) (first plan) plan.roots plan.links plan.words plan.nodes
       (Some cpu) (Some opened) before.section node link place is_open can.is_open.reads (words, on)
       low refl)
-      number before.words before.homes before.seats seat can.kept.rule can.current can.lone
+      number before.words before.seats seat can.kept.rule can.current can.lone
       can.is_open.shown in
       let now : Planned = r.0 in
       let told = r.2 in
@@ -78,7 +78,6 @@ module _ (fits : Plan → List ℕ → Type 0) (joins : Plan → ℕ → List �
       let x : ClientView Planned = (Some cpu, Some opened, now) in
       let after : Moment = record {
         words = slice_set before.words place (slice_index before.words place);
-        homes = before.homes;
         seats = slice_set before.seats seat x;
         keeper = before.keeper;
         section = now.known;
@@ -118,12 +117,11 @@ module _ (fits : Plan → List ℕ → Type 0) (joins : Plan → ℕ → List �
 
   -- the keeper knows something else, and the words are these
   module _ (words : List ℕ) (now : Planned)
-      (rule : kept words before.homes (set before.seats keeper (None, None, now)))
+      (rule : kept words (set before.seats keeper (None, None, now)))
       (planned : now.plan ≡ plan) (keeps : IsKeeping now.known) where
     abbrev then : Moment
     then = record {
       words = words;
-      homes = before.homes;
       seats = set before.seats keeper (None, None, now);
       keeper = now.known;
       section = before.section;
@@ -166,7 +164,7 @@ module _ (fits : Plan → List ℕ → Type 0) (joins : Plan → ℕ → List �
       (λ _. value) (λ _. IsWritten plan.links plan.words place before.keeper value)
       (writes_at (fits plan) (joins plan) (first plan) plan.roots plan.links plan.words plan.nodes
       None None before.keeper node word place value can.kept.keeps low free short refl)
-      number before.words before.homes before.seats keeper can.kept.rule can.current can.lone
+      number before.words before.seats keeper can.kept.rule can.current can.lone
       can.kept.shown in
       let told = r.2 in
       let is = told.1 node word short refl in (
@@ -188,7 +186,7 @@ module _ (fits : Plan → List ℕ → Type 0) (joins : Plan → ℕ → List �
       (λ _. value) (λ _. IsLinkWritten plan.links plan.words place before.keeper value)
       (writes_link_at (fits plan) (joins plan) (first plan) plan.roots plan.links plan.words
       plan.nodes None None before.keeper node link place value can.kept.keeps low free short refl)
-      number before.words before.homes before.seats keeper can.kept.rule can.current can.lone
+      number before.words before.seats keeper can.kept.rule can.current can.lone
       can.kept.shown in
       let told = r.2 in
       let is = told.1 node link short refl in (
@@ -213,7 +211,7 @@ module _ (fits : Plan → List ℕ → Type 0) (joins : Plan → ℕ → List �
       (links_at (fits plan) (joins plan) (first plan) plan.roots plan.links plan.words
       plan.nodes None None before.keeper node link place value can.kept.keeps low short live target
       refl)
-      number before.words before.homes before.seats keeper can.kept.rule can.current can.lone
+      number before.words before.seats keeper can.kept.rule can.current can.lone
       can.kept.shown in
       let told = r.2 in
       let is = told.1 node link short refl in (
@@ -241,7 +239,7 @@ module _ (fits : Plan → List ℕ → Type 0) (joins : Plan → ℕ → List �
       (publishes_at (fits plan) (joins plan) (first plan) plan.roots plan.links plan.words
       plan.nodes None None before.keeper from link to place (suc to) can.kept.keeps low inner short
       live ready joined refl refl)
-      number before.words before.homes before.seats keeper can.kept.rule can.current can.lone
+      number before.words before.seats keeper can.kept.rule can.current can.lone
       can.kept.shown in
       let told = r.2 in
       let is = told.1 from link to short refl refl in (
@@ -265,7 +263,7 @@ module _ (fits : Plan → List ℕ → Type 0) (joins : Plan → ℕ → List �
       (leaves_at (fits plan) (joins plan) (first plan) plan.roots plan.links plan.words
       plan.nodes None None before.keeper node place can.kept.keeps low short past live unlinked
       refl)
-      number before.words before.homes before.seats keeper can.kept.rule can.current can.lone
+      number before.words before.seats keeper can.kept.rule can.current can.lone
       can.kept.shown in
       let told = r.2 in
       let is = told.1 node 0 short refl in (
@@ -283,7 +281,7 @@ module _ (fits : Plan → List ℕ → Type 0) (joins : Plan → ℕ → List �
       (IsAged before.keeper)
       (ages_at (fits plan) (joins plan) (first plan) plan.roots plan.links plan.words plan.nodes
       None None before.keeper can.kept.keeps)
-      number before.words before.homes before.seats keeper can.kept.rule can.current can.lone
+      number before.words before.seats keeper can.kept.rule can.current can.lone
       can.kept.shown in
       let told = r.2 in
       let is = told.1 in (

@@ -8,7 +8,7 @@ use mathlib.Core.Option.{some, some-injective}
 use native.Mathlib.Decide.{dec_lt}
 use lib.ListN.{get_elem?}
 use Rattle.atomic_table.proofs.Lists.{set_else, set_here}
-use Rattle.rcu_live.specs.Client.{ClientView, Slots, Views}
+use Rattle.rcu_live.specs.Client.{ClientView, Views}
 use Rattle.rcu_live.proofs.ClientRows.{at_inside, inside}
 use Rattle.rcu_graph.specs.Absence.{IsChained, IsTrueOf}
 use Rattle.rcu_graph.specs.Nodes.{IsHeld, IsOn, IsReader, IsUsed, MayRead, Outlives, hops_in}
@@ -31,36 +31,36 @@ not_reader known n s b e reads = subst IsReader e reads
 
 module _ (fits : List ℕ → Type 0) (joins : ℕ → List ℕ → List ℕ → Type 0) (first : ℕ → List ℕ)
     (roots links width count : ℕ) where
-  holds_it : (ws : List ℕ) (homes : Slots (Unit {0})) (xs : Views Known)
-      (h : IsKept fits joins first roots links width count ws homes xs) (id i : ℕ)
+  holds_it : (ws : List ℕ) (xs : Views Known)
+      (h : IsKept fits joins first roots links width count ws xs) (id i : ℕ)
       (cpu section : Option ℕ) (known : Known) (words : List ℕ)
       → get_elem? xs id ≡ some (cpu, section, known)
       → IsReader known
       → IsHeld known i words
       → Reading h.nodes section i words
-  holds_it ws homes xs h id i cpu section known words at reads held =
+  holds_it ws xs h id i cpu section known words at reads held =
       knows_held fits joins first roots links width count h.nodes h.latest h.keeper id section known
       reads (h.seats id cpu section known at) i words held
 
-  word_held : (ws : List ℕ) (homes : Slots (Unit {0})) (xs : Views Known)
-      (h : IsKept fits joins first roots links width count ws homes xs) (id i k : ℕ)
+  word_held : (ws : List ℕ) (xs : Views Known)
+      (h : IsKept fits joins first roots links width count ws xs) (id i k : ℕ)
       (cpu section : Option ℕ) (known : Known) (words : List ℕ)
       → get_elem? xs id ≡ some (cpu, section, known)
       → IsReader known
       → IsHeld known i words
       → k < width
       → slice_index ws (place_of (links + width) i (links + k)) ≡ slice_index words k
-  word_held ws homes xs h id i k cpu section known words at reads held low =
-      let r = holds_it ws homes xs h id i cpu section known words at reads held in
+  word_held ws xs h id i k cpu section known words at reads held low =
+      let r = holds_it ws xs h id i cpu section known words at reads held in
       let many : length r.on.links ≡ links = h.kept.linked i r.on r.here in
       h.kept.written i r.on r.here (links + k) (omega (arith, low))
       ∙ (ap (λ (m : ℕ). slice_index (row_of r.on) (m + k)) (sym many)
       ∙ (get_or-append-add r.on.links r.on.words k 0 ∙ ap (λ (l : List ℕ). slice_index l k) r.same))
 
-  pub words_kept : (before after : List ℕ) (old new : Slots (Unit {0})) (xs ys : Views Known)
+  pub words_kept : (before after : List ℕ) (xs ys : Views Known)
       (id i k : ℕ) (cpu section here later : Option ℕ) (was now : Known) (words : List ℕ)
-      → IsKept fits joins first roots links width count before old xs
-      → IsKept fits joins first roots links width count after new ys
+      → IsKept fits joins first roots links width count before xs
+      → IsKept fits joins first roots links width count after ys
       → get_elem? xs id ≡ some (cpu, section, was)
       → get_elem? ys id ≡ some (here, later, now)
       → IsReader was
@@ -70,63 +70,63 @@ module _ (fits : List ℕ → Type 0) (joins : ℕ → List ℕ → List ℕ →
       → k < width
       → slice_index after (place_of (links + width) i (links + k))
       ≡ slice_index before (place_of (links + width) i (links + k))
-  words_kept before after old new xs ys id i k cpu section here later was now words h h' at at'
+  words_kept before after xs ys id i k cpu section here later was now words h h' at at'
       reads reads' held held' low =
-      word_held after new ys h' id i k here later now words at' reads' held' low
-      ∙ sym (word_held before old xs h id i k cpu section was words at reads held low)
+      word_held after ys h' id i k here later now words at' reads' held' low
+      ∙ sym (word_held before xs h id i k cpu section was words at reads held low)
 
-  pub not_held : (table : List ℕ) (homes : Slots (Unit {0})) (xs : Views Known)
+  pub not_held : (table : List ℕ) (xs : Views Known)
       (keeper id i latest : ℕ) (who own cpu section : Option ℕ) (nodes : List Node)
       (stored : List (List Node)) (known : Known)
       (words : List ℕ) (v : Node)
-      → IsKept fits joins first roots links width count table homes xs
+      → IsKept fits joins first roots links width count table xs
       → get_elem? xs keeper ≡ some (who, own, Keeper latest nodes stored)
       → get_elem? xs id ≡ some (cpu, section, known)
       → IsReader known
       → IsHeld known i words
       → get_elem? nodes i ≡ some v
       → v.state ≢ Free
-  not_held table homes xs keeper id i latest who own cpu section nodes stored known words v h kept
+  not_held table xs keeper id i latest who own cpu section nodes stored known words v h kept
       at
       reads held is free =
-      let r = holds_it table homes xs h id i cpu section known words at reads held in
+      let r = holds_it table xs h id i cpu section known words at reads held in
       let k = h.seats keeper who own (Keeper latest nodes stored) kept in
       let same : v ≡ r.on =
       some-injective _ _ (sym is ∙ (ap (λ (s : List Node). get_elem? s i) k.1 ∙ r.here)) in
       subst (λ (st : NodeState). MayRead r.opened st) (sym (ap (λ (x : Node). x.state) same) ∙ free)
       r.may
 
-  pub as_known : (table : List ℕ) (homes : Slots (Unit {0})) (xs : Views Known)
+  pub as_known : (table : List ℕ) (xs : Views Known)
       (keeper id i latest : ℕ) (who own cpu section : Option ℕ) (nodes : List Node)
       (stored : List (List Node)) (known : Known)
       (words : List ℕ) (v : Node)
-      → IsKept fits joins first roots links width count table homes xs
+      → IsKept fits joins first roots links width count table xs
       → get_elem? xs keeper ≡ some (who, own, Keeper latest nodes stored)
       → get_elem? xs id ≡ some (cpu, section, known)
       → IsReader known
       → IsHeld known i words
       → get_elem? nodes i ≡ some v
       → v.words ≡ words
-  as_known table homes xs keeper id i latest who own cpu section nodes stored known words v h kept
+  as_known table xs keeper id i latest who own cpu section nodes stored known words v h kept
       at
       reads held is =
-      let r = holds_it table homes xs h id i cpu section known words at reads held in
+      let r = holds_it table xs h id i cpu section known words at reads held in
       let k = h.seats keeper who own (Keeper latest nodes stored) kept in
       let same : v ≡ r.on =
       some-injective _ _ (sym is ∙ (ap (λ (s : List Node). get_elem? s i) k.1 ∙ r.here)) in
       ap (λ (x : Node). x.words) same ∙ r.same
 
-  pub live_leads : (table : List ℕ) (homes : Slots (Unit {0})) (xs : Views Known)
+  pub live_leads : (table : List ℕ) (xs : Views Known)
       (keeper i l j latest : ℕ) (who own : Option ℕ) (nodes : List Node)
       (stored : List (List Node)) (v : Node)
-      → IsKept fits joins first roots links width count table homes xs
+      → IsKept fits joins first roots links width count table xs
       → get_elem? xs keeper ≡ some (who, own, Keeper latest nodes stored)
       → get_elem? nodes i ≡ some v
       → v.state ≡ Live
       → l < links
       → slice_index table (place_of (links + width) i l) ≡ suc j
       → (to : Node) × (get_elem? nodes j ≡ some to) × (to.state ≡ Live) × joins l v.words to.words
-  live_leads table homes xs keeper i l j latest who own nodes stored v h kept at live low link =
+  live_leads table xs keeper i l j latest who own nodes stored v h kept at live low link =
       let k = h.seats keeper who own (Keeper latest nodes stored) kept in
       let here : get_elem? h.nodes i ≡ some v =
       ap (λ (s : List Node). get_elem? s i) (sym k.1) ∙ at in
@@ -144,17 +144,17 @@ module _ (fits : List ℕ → Type 0) (joins : ℕ → List ℕ → List ℕ →
       )
 
   -- a node on which a section is, is one of the nodes
-  on_node : (ws : List ℕ) (homes : Slots (Unit {0})) (xs : Views Known)
-      (h : IsKept fits joins first roots links width count ws homes xs) (id i : ℕ)
+  on_node : (ws : List ℕ) (xs : Views Known)
+      (h : IsKept fits joins first roots links width count ws xs) (id i : ℕ)
       (cpu section : Option ℕ) (known : Known) (words : List ℕ)
       → get_elem? xs id ≡ some (cpu, section, known)
       → IsReader known
       → IsOn first roots known i words
       → (v : Node) × (get_elem? h.nodes i ≡ some v)
-  on_node ws homes xs h id i cpu section known words at reads (inl root) =
+  on_node ws xs h id i cpu section known words at reads (inl root) =
       let r = h.kept.rooted i root.0 in (r.0, r.1)
-  on_node ws homes xs h id i cpu section known words at reads (inr held) =
-      let r = holds_it ws homes xs h id i cpu section known words at reads held in (r.on, r.here)
+  on_node ws xs h id i cpu section known words at reads (inr held) =
+      let r = holds_it ws xs h id i cpu section known words at reads held in (r.on, r.here)
 
   is_there : (nodes : List Node) (i : ℕ) (v : Node) → get_elem? nodes i ≡ some v
       → node_at nodes i ≡ v
@@ -162,12 +162,12 @@ module _ (fits : List ℕ → Type 0) (joins : ℕ → List ℕ → List ℕ →
       some-injective _ _ (sym (at_inside nodes i no_node (inside nodes i v e)) ∙ e)
 
   -- a hop was true of the nodes at its load, which the keeper knows right after it still
-  pub hop_true_then : (table later_table : List ℕ) (homes later_homes : Slots (Unit {0}))
+  pub hop_true_then : (table later_table : List ℕ)
       (xs ys : Views Known) (keeper id i l latest : ℕ) (who own cpu section : Option ℕ)
       (later_who later_own later_cpu later_section : Option ℕ) (nodes : List Node)
       (stored : List (List Node)) (was now : Known) (words : List ℕ)
-      → IsKept fits joins first roots links width count table homes xs
-      → IsKept fits joins first roots links width count later_table later_homes ys
+      → IsKept fits joins first roots links width count table xs
+      → IsKept fits joins first roots links width count later_table ys
       → get_elem? xs keeper ≡ some (who, own, Keeper latest nodes stored)
       → get_elem? ys keeper ≡ some (later_who, later_own, Keeper latest nodes stored)
       → get_elem? xs id ≡ some (cpu, section, was)
@@ -182,7 +182,7 @@ module _ (fits : List ℕ → Type 0) (joins : ℕ → List ℕ → List ℕ →
       × (hop.from ≡ i)
       × (hop.link ≡ l)
       × IsTrueOf nodes hop
-  hop_true_then table later_table homes later_homes xs ys keeper id i l latest who own cpu section
+  hop_true_then table later_table xs ys keeper id i l latest who own cpu section
       later_who later_own later_cpu later_section nodes stored was now words h h' kept still at then
       reads on low told =
       let x : ℕ = slice_index table (place_of (links + width) i l) in
@@ -190,7 +190,7 @@ module _ (fits : List ℕ → Type 0) (joins : ℕ → List ℕ → List ℕ →
       told i l words low refl on in
       let hop : Hop = record { from = i; link = l; to = x; words = f.words } in
       let k = h.seats keeper who own (Keeper latest nodes stored) kept in
-      let there = on_node table homes xs h id i cpu section was words at reads on in
+      let there = on_node table xs h id i cpu section was words at reads on in
       let many : length there.0.links ≡ links = h.kept.linked i there.0 there.1 in
       let found : x ≡ slice_index there.0.links l =
       h.kept.written i there.0 there.1 l (omega (arith, low))
@@ -222,17 +222,17 @@ module _ (fits : List ℕ → Type 0) (joins : ℕ → List ℕ → List ℕ →
             e,
             refl,
           ) in
-          let r : Reading h'.nodes later_section j f.words = holds_it later_table later_homes ys h'
+          let r : Reading h'.nodes later_section j f.words = holds_it later_table ys h'
           id j later_cpu later_section now f.words then (subst IsReader (sym f.is) tt) held in
           sym (ap (λ (v : Node). v.words)
           (ap (λ (s : List Node). node_at s j) known.1 ∙ is_there h'.nodes j r.on r.here)
           ∙ r.same)
 
-  pub hop_true : (table : List ℕ) (homes : Slots (Unit {0})) (xs : Views Known)
+  pub hop_true : (table : List ℕ) (xs : Views Known)
       (keeper id i l latest : ℕ) (who own cpu section : Option ℕ) (nodes : List Node)
       (stored : List (List Node)) (was now : Known) (words : List ℕ)
-      → IsKept fits joins first roots links width count table homes xs
-      → IsKept fits joins first roots links width count table homes (set xs id (cpu, section, now))
+      → IsKept fits joins first roots links width count table xs
+      → IsKept fits joins first roots links width count table (set xs id (cpu, section, now))
       → get_elem? xs keeper ≡ some (who, own, Keeper latest nodes stored)
       → get_elem? xs id ≡ some (cpu, section, was)
       → IsReader was
@@ -245,22 +245,22 @@ module _ (fits : List ℕ → Type 0) (joins : ℕ → List ℕ → List ℕ →
       × (hop.from ≡ i)
       × (hop.link ≡ l)
       × IsTrueOf nodes hop
-  hop_true table homes xs keeper id i l latest who own cpu section nodes stored was now words h h'
+  hop_true table xs keeper id i l latest who own cpu section nodes stored was now words h h'
       kept at reads on low told =
       let apart : keeper ≢ id = λ same. not_reader was latest nodes stored
       (ap (λ (y : ClientView Known). y.2)
       (some-injective _ _ (sym at ∙ (ap (λ (n : ℕ). get_elem? xs n) (sym same) ∙ kept))))
       reads in
-      hop_true_then table table homes homes xs (set xs id (cpu, section, now)) keeper id i l latest
+      hop_true_then table table xs (set xs id (cpu, section, now)) keeper id i l latest
       who own cpu section who own cpu section nodes stored was now words h h' kept
       (set_else xs id keeper (cpu, section, now) apart ∙ kept) at
       (set_here xs id (cpu, section, now) (inside xs id (cpu, section, was) at)) reads on low told
 
   -- at each moment the nodes are chained, where the keys go up and a link stays in its chain
-  pub chains : (ours : List ℕ → Bool) (root : ℕ) (table : List ℕ) (homes : Slots (Unit {0}))
+  pub chains : (ours : List ℕ → Bool) (root : ℕ) (table : List ℕ)
       (xs : Views Known) (keeper latest : ℕ) (who own : Option ℕ) (nodes : List Node)
       (stored : List (List Node))
-      → IsKept fits joins first roots links width count table homes xs
+      → IsKept fits joins first roots links width count table xs
       → get_elem? xs keeper ≡ some (who, own, Keeper latest nodes stored)
       → Ascends joins 0
       → ((from to : List ℕ) → joins 0 from to → IsTrue (ours from) → IsTrue (ours to))
@@ -268,7 +268,7 @@ module _ (fits : List ℕ → Type 0) (joins : ℕ → List ℕ → List ℕ →
       → 0 < links
       → IsTrue (ours (first root))
       → IsChained ours root nodes
-  chains ours root table homes xs keeper latest who own nodes stored h kept up stays low some_link
+  chains ours root table xs keeper latest who own nodes stored h kept up stays low some_link
       mine =
       let k = h.seats keeper who own (Keeper latest nodes stored) kept in
       let r = h.kept.rooted root low in
@@ -304,7 +304,7 @@ module _ (fits : List ℕ → Type 0) (joins : ℕ → List ℕ → List ℕ →
           ∙ (get_or_append_left (node_at nodes i).links (node_at nodes i).words 0 0
           (omega (arith, some_link, many))
           ∙ link) in
-          let t = live_leads table homes xs keeper i 0 j latest who own nodes stored
+          let t = live_leads table xs keeper i 0 j latest who own nodes stored
           (node_at nodes i) h
           kept (there i live) live some_link word in
           let to : node_at nodes j ≡ t.0 = is_there nodes j t.0 t.1 in (

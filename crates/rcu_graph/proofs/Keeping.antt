@@ -3,7 +3,6 @@ use Rattle.std.proofs.Common.{◌≡◌, ℕ, List, [], length, refl, sym, ap, �
 use Rattle.std.proofs.lemmas.List.FromFn.{length-map-range_with_len}
 use Rattle.rcu_live.specs.Board.{Object}
 use Rattle.rcu_live.specs.Watcher.{Watching, after_word_step, watcher_at_first}
-use Rattle.rcu_live.specs.Words.{base_of}
 use Rattle.rcu_graph.specs.Graph.{IsWatcherOf}
 use Rattle.rcu_graph.specs.Keeper.{IsKeeperOf}
 use Rattle.rcu_graph.specs.Nodes.{first_node, first_nodes}
@@ -42,25 +41,25 @@ keeps_on graph old new latest nodes stored same stays is few k =
     })
 
 -- the watcher that has claimed the nodes as they are at first
-pub keeps_first : (plan : Plan) (cpus : ℕ) (first : ℕ → List ℕ) (graph : Object Plan)
+pub keeps_first : (plan : Plan) (base : ℕ) (first : ℕ → List ℕ) (graph : Object Plan)
     (own seat : Watching Planned)
-    → graph.cpus ≡ cpus
+    → graph.base ≡ base
     → graph.plan ≡ plan
-    → own ≡ watcher_at_first graph.table (base_of cpus) (record { plan = plan; known = Owner })
+    → own ≡ watcher_at_first graph.table base (record { plan = plan; known = Owner })
     → seat ≡ after_word_step own
     (knowing own.view.client
     (Keeper 0
     (first_nodes graph.plan.links graph.plan.words first graph.plan.roots graph.plan.nodes)
     []))
     → IsKeeperOf graph seat
-keeps_first plan cpus first graph own seat many same first_seat is =
+keeps_first plan base first graph own seat begins same first_seat is =
     let p : Plan = graph.plan in
     let nodes : List Node = first_nodes p.links p.words first p.roots p.nodes in
     subst (IsKeeperOf graph)
     (sym (is ∙ ap (λ (w : Watching Planned).
     after_word_step w (knowing w.view.client (Keeper 0 nodes []))) first_seat))
     (record {
-      watches = record { engine = (refl, ap base_of (sym many)); planned = sym same };
+      watches = record { engine = (refl, sym begins); planned = sym same };
       role = refl;
       keeps = tt;
       few = length-map-range_with_len (first_node p.links p.words first p.roots) 0 p.nodes;

@@ -3,8 +3,10 @@ pub mod Changes
 pub mod Moves
 pub mod Planned
 pub mod At
+pub mod Allowed
 pub mod HeldNodes
 pub mod Keeping
+pub mod Joins
 pub mod Walking
 pub mod Starts
 pub mod Searching

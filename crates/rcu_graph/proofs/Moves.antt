@@ -12,7 +12,7 @@ use mathlib.Core.Logic.{dite}
 use native.Mathlib.Decide.{ℕ_discrete}
 use lib.ListN.{get_elem?}
 use Rattle.atomic_table.proofs.Lists.{at_map, set_here, set_else}
-use Rattle.rcu_live.specs.Client.{Slots, Views, AllowsNumber, AllowsWord}
+use Rattle.rcu_live.specs.Client.{Views, AllowsNumber, AllowsWord}
 use Rattle.rcu_live.proofs.ClientRows.{at_inside, inside, reseat, row_told, word_told}
 use Rattle.rcu_graph.specs.Nodes.{IsHeld, IsOn, IsReader, IsTarget, IsUnlinked, MayRead, after_hop}
 use Rattle.rcu_graph.specs.Nodes.{aged, aged_node, first_nodes, first_place, hops_in, in_state}
@@ -84,18 +84,18 @@ module _ (fits : List ℕ → Type 0) (joins : ℕ → List ℕ → List ℕ →
       )
 
   -- nothing is known anew
-  stays : (ws : List ℕ) (homes : Slots (Unit {0})) (xs : Views Known)
-      (h : IsKept fits joins first roots links width count ws homes xs) (id : ℕ)
+  stays : (ws : List ℕ) (xs : Views Known)
+      (h : IsKept fits joins first roots links width count ws xs) (id : ℕ)
       (cpu section : Option ℕ) (known : Known)
       → get_elem? xs id ≡ some (cpu, section, known)
-      → IsKept fits joins first roots links width count ws homes (set xs id (cpu, section, known))
-  stays ws homes xs h id cpu section known at = one_changes fits joins first roots links width count
-      ws homes xs h id (cpu, section, known) (h.seats id cpu section known at)
+      → IsKept fits joins first roots links width count ws (set xs id (cpu, section, known))
+  stays ws xs h id cpu section known at = one_changes fits joins first roots links width count
+      ws xs h id (cpu, section, known) (h.seats id cpu section known at)
 
   -- a link of a node on which a section is: the section makes a hop, and may be on the node to
   -- which it leads
-  comes : (ws : List ℕ) (homes : Slots (Unit {0})) (xs : Views Known)
-      (h : IsKept fits joins first roots links width count ws homes xs) (id : ℕ) (cpu : Option ℕ)
+  comes : (ws : List ℕ) (xs : Views Known)
+      (h : IsKept fits joins first roots links width count ws xs) (id : ℕ) (cpu : Option ℕ)
       (at : ℕ) (was : Known) (i l : ℕ) (v : Node) (words : List ℕ)
       → get_elem? xs id ≡ some (cpu, Some at, was)
       → IsReader was
@@ -104,10 +104,10 @@ module _ (fits : List ℕ → Type 0) (joins : ℕ → List ℕ → List ℕ →
       → MayRead at v.state
       → l < links
       → (after : Known)
-      × IsKept fits joins first roots links width count ws homes (set xs id (cpu, Some at, after))
+      × IsKept fits joins first roots links width count ws (set xs id (cpu, Some at, after))
       × Followed fits (joins l words) width count was i l
       (slice_index ws (place_of (links + width) i l)) after
-  comes ws homes xs h id cpu at was i l v words there reads here same may low =
+  comes ws xs h id cpu at was i l v words there reads here same may low =
       let x : ℕ = slice_index ws (place_of (links + width) i l) in
       let many : length v.links ≡ links = h.kept.linked i v here in
       let found : x ≡ slice_index v.links l =
@@ -121,13 +121,13 @@ module _ (fits : List ℕ → Type 0) (joins : ℕ → List ℕ → List ℕ →
       leads : (x : ℕ)
           → slice_index v.links l ≡ x
           → (after : Known)
-          × IsKept fits joins first roots links width count ws homes
+          × IsKept fits joins first roots links width count ws
           (set xs id (cpu, Some at, after))
           × Followed fits (joins l words) width count was i l x after
       leads zero is =
           let after : Known = after_hop was i l zero [] in (
             after,
-            one_changes fits joins first roots links width count ws homes xs h id
+            one_changes fits joins first roots links width count ws xs h id
                 (cpu, Some at, after)
                 (one_more h.nodes (Some at) (record { from = i; link = l; to = zero; words = [] })
                 (hops_in was) (λ j e. absurd (omega (arith, e)))
@@ -155,7 +155,7 @@ module _ (fits : List ℕ → Type 0) (joins : ℕ → List ℕ → List ℕ →
           (knows_held h.nodes h.latest h.keeper id (Some at) was reads k) in
           let bound : j < length h.nodes = inside h.nodes j d.to d.here in (
             after,
-            one_changes fits joins first roots links width count ws homes xs h id
+            one_changes fits joins first roots links width count ws xs h id
                 (cpu, Some at, after) all,
             record {
               words = d.to.words;
@@ -181,13 +181,13 @@ module _ (fits : List ℕ → Type 0) (joins : ℕ → List ℕ → List ℕ →
       → AllowsWord (IsKept fits joins first roots links width count) cpu (Some at) was
       (place_of (links + width) i l) (λ n. n)
       (IsFollowed fits joins first roots links width count (place_of (links + width) i l) was)
-  follows cpu at was i l words reads on low n ws homes xs id h are lone there =
+  follows cpu at was i l words reads on low n ws xs id h are lone there =
       let p : ℕ = place_of (links + width) i l in
       let o = is_on ws h.nodes h.latest h.keeper id at i was words h.kept reads
       (h.seats id cpu (Some at) was there) on in
-      let t = comes ws homes xs h id cpu at was i l o.0 words there reads o.1 o.2 o.3 low in (
+      let t = comes ws xs h id cpu at was i l o.0 words there reads o.1 o.2 o.3 low in (
         t.0,
-        subst (λ (cells : List ℕ). IsKept fits joins first roots links width count cells homes
+        subst (λ (cells : List ℕ). IsKept fits joins first roots links width count cells
             (set xs id (cpu, Some at, t.0)))
             (sym (set-get_or ws p 0)) t.1,
         λ i' l' words' low' e on'.
@@ -212,13 +212,13 @@ module _ (fits : List ℕ → Type 0) (joins : ℕ → List ℕ → List ℕ →
       → AllowsWord (IsKept fits joins first roots links width count) cpu (Some at) was
       (place_of (links + width) i (links + k)) (λ n. n)
       (IsRead first roots links width (place_of (links + width) i (links + k)) was)
-  reads_word cpu at was i k words reads on low n ws homes xs id h are lone there =
+  reads_word cpu at was i k words reads on low n ws xs id h are lone there =
       let p : ℕ = place_of (links + width) i (links + k) in
       let knows = h.seats id cpu (Some at) was there in (
         was,
-        subst (λ (cells : List ℕ). IsKept fits joins first roots links width count cells homes
+        subst (λ (cells : List ℕ). IsKept fits joins first roots links width count cells
             (set xs id (cpu, Some at, was)))
-            (sym (set-get_or ws p 0)) (stays ws homes xs h id cpu (Some at) was there),
+            (sym (set-get_or ws p 0)) (stays ws xs h id cpu (Some at) was there),
         (
           refl,
           λ i' k' words' low' e on'.
@@ -240,8 +240,8 @@ module _ (fits : List ℕ → Type 0) (joins : ℕ → List ℕ → List ℕ →
       )
 
   -- the keeper's step: the nodes become these, and who is on one goes on
-  rekeep : (ws new : List ℕ) (homes : Slots (Unit {0})) (xs : Views Known)
-      (h : IsKept fits joins first roots links width count ws homes xs) (id : ℕ)
+  rekeep : (ws new : List ℕ) (xs : Views Known)
+      (h : IsKept fits joins first roots links width count ws xs) (id : ℕ)
       (cpu section : Option ℕ) (known : Known)
       → get_elem? xs id ≡ some (cpu, section, known)
       → h.keeper ≡ id
@@ -250,9 +250,9 @@ module _ (fits : List ℕ → Type 0) (joins : ℕ → List ℕ → List ℕ →
       → ((j at i : ℕ) (who : Option ℕ) (d : Known) (u : Node)
       → get_elem? xs j ≡ some (who, Some at, d) → get_elem? h.nodes i ≡ some u → MayRead at u.state
       → (w : Node) × (get_elem? s i ≡ some w) × (w.words ≡ u.words) × MayRead at w.state)
-      → IsKept fits joins first roots links width count new homes
+      → IsKept fits joins first roots links width count new
       (set xs id (cpu, section, Keeper t s stored))
-  rekeep ws new homes xs h id cpu section known at is_keeper t s stored kept goes = record {
+  rekeep ws new xs h id cpu section known at is_keeper t s stored kept goes = record {
     nodes = s;
     latest = t;
     keeper = id;
@@ -283,8 +283,8 @@ module _ (fits : List ℕ → Type 0) (joins : ℕ → List ℕ → List ℕ →
       other j who o (Keeper c l b) apart e k = absurd (apart (sym k.2 ∙ is_keeper))
 
   -- the same where one node changes
-  renews : (ws new : List ℕ) (homes : Slots (Unit {0})) (xs : Views Known)
-      (h : IsKept fits joins first roots links width count ws homes xs) (id : ℕ)
+  renews : (ws new : List ℕ) (xs : Views Known)
+      (h : IsKept fits joins first roots links width count ws xs) (id : ℕ)
       (cpu section : Option ℕ) (t : ℕ) (s : List Node) (b stored : List (List Node)) (i : ℕ)
       (v w : Node)
       → get_elem? xs id ≡ some (cpu, section, Keeper t s b)
@@ -292,14 +292,14 @@ module _ (fits : List ℕ → Type 0) (joins : ℕ → List ℕ → List ℕ →
       → (AreKept fits joins first roots links width count ws s t → AreKept fits joins first roots
       links width count new (set s i w) t)
       → ((at : ℕ) → MayRead at v.state → (w.words ≡ v.words) × MayRead at w.state)
-      → IsKept fits joins first roots links width count new homes
+      → IsKept fits joins first roots links width count new
       (set xs id (cpu, section, Keeper t (set s i w) stored))
-  renews ws new homes xs h id cpu section t s b stored i v w there at keeps stay =
+  renews ws new xs h id cpu section t s b stored i v w there at keeps stay =
       let k = h.seats id cpu section (Keeper t s b) there in
       let was : AreKept fits joins first roots links width count ws s t =
       subst (λ (y : List Node × ℕ). AreKept fits joins first roots links width count ws y.0 y.1)
       (λ z. (sym k.1 z, sym k.0 z)) h.kept in
-      rekeep ws new homes xs h id cpu section (Keeper t s b) there k.2 t (set s i w) stored
+      rekeep ws new xs h id cpu section (Keeper t s b) there k.2 t (set s i w) stored
       (keeps was)
       (λ j a q who d u e here may. dite (ℕ_discrete q i)
       (λ (is : q ≡ i).
@@ -328,11 +328,11 @@ module _ (fits : List ℕ → Type 0) (joins : ℕ → List ℕ → List ℕ →
       → AllowsWord (IsKept fits joins first roots links width count) cpu section (Keeper t s b)
       (place_of (links + width) i (links + k)) (λ _. x)
       (λ _ now. IsWritten links width (place_of (links + width) i (links + k)) (Keeper t s b) x now)
-  writes cpu section t i k x s b bound free low n ws homes xs id h are lone there =
+  writes cpu section t i k x s b bound free low n ws xs id h are lone there =
       let v : Node = node_at s i in
       let at : get_elem? s i ≡ some v = at_inside s i no_node bound in (
         Keeper t (set s i (worded k x v)) b,
-        renews ws (set ws (place_of (links + width) i (links + k)) x) homes xs h id cpu section t s
+        renews ws (set ws (place_of (links + width) i (links + k)) x) xs h id cpu section t s
             b b i v (worded k x v) there at
             (λ was.
             word_stored fits joins first roots links width count ws s t i k x v was at low free)
@@ -359,11 +359,11 @@ module _ (fits : List ℕ → Type 0) (joins : ℕ → List ℕ → List ℕ →
       (λ _ now. (i' l' : ℕ) → l' < links
       → place_of (links + width) i l ≡ place_of (links + width) i' l'
       → now ≡ Keeper t (renewed s i' (linked_to l' x)) (stored (renewed s i' (linked_to l' x))))
-  links_to cpu section t i l x s b stored bound low allowed n ws homes xs id h are lone there =
+  links_to cpu section t i l x s b stored bound low allowed n ws xs id h are lone there =
       let v : Node = node_at s i in
       let at : get_elem? s i ≡ some v = at_inside s i no_node bound in (
         Keeper t (set s i (linked_to l x v)) (stored (set s i (linked_to l x v))),
-        renews ws (set ws (place_of (links + width) i l) x) homes xs h id cpu section t s b
+        renews ws (set ws (place_of (links + width) i l) x) xs h id cpu section t s b
             (stored (set s i (linked_to l x v))) i v (linked_to l x v) there at
             (λ was.
             link_stored fits joins first roots links width count ws s t i l x v was at low allowed)
@@ -390,7 +390,7 @@ module _ (fits : List ℕ → Type 0) (joins : ℕ → List ℕ → List ℕ →
       → AllowsWord (IsKept fits joins first roots links width count) cpu section (Keeper t s b)
       (place_of (links + width) i l) (λ _. suc j)
       (λ _ now. IsPublished links width (place_of (links + width) i l) (Keeper t s b) (suc j) now)
-  publishes cpu section t i l j s b bound low_j low live free fit targets joined n ws homes xs id h
+  publishes cpu section t i l j s b bound low_j low live free fit targets joined n ws xs id h
       are lone there =
       let u : Node = node_at s j in
       let at_j : get_elem? s j ≡ some u = at_inside s j no_node low_j in
@@ -404,8 +404,8 @@ module _ (fits : List ℕ → Type 0) (joins : ℕ → List ℕ → List ℕ →
       let w : Node = linked_to l (suc j) v in
       let xs₁ : Views Known = set xs id (cpu, section, Keeper t s₁ b) in
       let p : ℕ = place_of (links + width) i l in
-      let mid : IsKept fits joins first roots links width count ws homes xs₁ =
-      renews ws ws homes xs h id cpu section t s b b j u (in_state Live u) there at_j
+      let mid : IsKept fits joins first roots links width count ws xs₁ =
+      renews ws ws xs h id cpu section t s b b j u (in_state Live u) there at_j
       (λ was.
       promoted fits joins first roots links width count ws s t j u was at_j free fit targets)
       (λ a may. absurd (subst (MayRead a) free may)) in
@@ -419,16 +419,16 @@ module _ (fits : List ℕ → Type 0) (joins : ℕ → List ℕ → List ℕ →
         refl,
         subst (λ (x : Node). joins l x.words u.words) (sym same) joined,
       ) in
-      let after : IsKept fits joins first roots links width count (set ws p (suc j)) homes
+      let after : IsKept fits joins first roots links width count (set ws p (suc j))
       (set xs₁ id (cpu, section, Keeper t (set s₁ i w) (set s₁ i w ∷ b))) =
-      renews ws (set ws p (suc j)) homes xs₁ mid id cpu section t s₁ b (set s₁ i w ∷ b) i v w
+      renews ws (set ws p (suc j)) xs₁ mid id cpu section t s₁ b (set s₁ i w ∷ b) i v w
       there₁ at
       (λ was. link_stored fits joins first roots links width count ws s₁ t i l (suc j) v was at low
       (inr (ap (λ (x : Node). x.state) same ∙ live, target)))
       (λ a may. (refl, may)) in (
         Keeper t (set s₁ i w) (set s₁ i w ∷ b),
         subst (λ (l : Views Known).
-            IsKept fits joins first roots links width count (set ws p (suc j)) homes l)
+            IsKept fits joins first roots links width count (set ws p (suc j)) l)
             (set-set xs id (cpu, section, Keeper t s₁ b)
             (cpu, section, Keeper t (set s₁ i w) (set s₁ i w ∷ b))) after,
         λ i' l' j' low' e f.
@@ -452,15 +452,15 @@ module _ (fits : List ℕ → Type 0) (joins : ℕ → List ℕ → List ℕ →
       → AllowsWord (IsKept fits joins first roots links width count) cpu section (Keeper t s b)
       (place_of (links + width) i k) (λ n. n)
       (IsLeft links width (place_of (links + width) i k) (Keeper t s b))
-  leaves cpu section t i k s b bound low past live unlinked n ws homes xs id h are lone there =
+  leaves cpu section t i k s b bound low past live unlinked n ws xs id h are lone there =
       let v : Node = node_at s i in
       let p : ℕ = place_of (links + width) i k in
       let at : get_elem? s i ≡ some v = at_inside s i no_node bound in (
         Keeper t (set s i (in_state Left v)) b,
-        subst (λ (cells : List ℕ). IsKept fits joins first roots links width count cells homes
+        subst (λ (cells : List ℕ). IsKept fits joins first roots links width count cells
             (set xs id (cpu, section, Keeper t (set s i (in_state Left v)) b)))
             (sym (set-get_or ws p 0))
-            (renews ws ws homes xs h id cpu section t s b b i v (in_state Left v) there at
+            (renews ws ws xs h id cpu section t s b b i v (in_state Left v) there at
             (λ was.
             node_left fits joins first roots links width count ws s t i v was at live past unlinked)
             (λ a may. (refl, tt))),
@@ -472,14 +472,14 @@ module _ (fits : List ℕ → Type 0) (joins : ℕ → List ℕ → List ℕ →
   pub ages : (cpu section : Option ℕ) (t : ℕ) (s : List Node) (b : List (List Node))
       → AllowsNumber (IsKept fits joins first roots links width count) cpu section (Keeper t s b)
       (IsAged (Keeper t s b))
-  ages cpu section t s b n ws homes xs id h are lone there =
+  ages cpu section t s b n ws xs id h are lone there =
       let k = h.seats id cpu section (Keeper t s b) there in
       let m : ℕ = max n t in
       let was : AreKept fits joins first roots links width count ws s t =
       subst (λ (y : List Node × ℕ). AreKept fits joins first roots links width count ws y.0 y.1)
       (λ z. (sym k.1 z, sym k.0 z)) h.kept in (
         Keeper m (aged n m s) b,
-        rekeep ws ws homes xs h id cpu section (Keeper t s b) there k.2 m (aged n m s)
+        rekeep ws ws xs h id cpu section (Keeper t s b) there k.2 m (aged n m s)
             b
             (nodes_aged fits joins first roots links width count ws s t n m was (le-max_right n t))
             (λ j a q who d u e here may. (
@@ -495,14 +495,14 @@ module _ (fits : List ℕ → Type 0) (joins : ℕ → List ℕ → List ℕ →
   pub claims : (cpu section : Option ℕ) (p : ℕ)
       → AllowsWord (IsKept fits joins first roots links width count) cpu section Owner p (λ n. n)
       (λ _ now. IsClaimed first roots links width count now)
-  claims cpu section p n ws homes xs id h are lone there =
+  claims cpu section p n ws xs id h are lone there =
       let k = h.seats id cpu section Owner there in
       let w : Known = Keeper 0 (first_nodes links width first roots count) [] in (
         w,
         subst (λ (l : List ℕ).
-            IsKept fits joins first roots links width count l homes (set xs id (cpu, section, w)))
+            IsKept fits joins first roots links width count l (set xs id (cpu, section, w)))
             (sym (set-get_or ws p 0))
-            (one_changes fits joins first roots links width count ws homes xs h id (cpu, section, w)
+            (one_changes fits joins first roots links width count ws xs h id (cpu, section, w)
             (sym k.1, sym k.0, k.2)),
         refl,
       )

@@ -8,7 +8,7 @@ use lib.ListN.{get_elem?}
 use Rattle.atomic_table.proofs.Lists.{at_map}
 use Rattle.rcu_seq.specs.Numbers.{Number}
 use Rattle.rcu_live.specs.Board.{Object}
-use Rattle.rcu_live.specs.Client.{AllowsNumber, AllowsWord, AreLone, AreOpen, ClientView, Slots}
+use Rattle.rcu_live.specs.Client.{AllowsNumber, AllowsWord, AreLone, AreOpen, ClientView}
 use Rattle.rcu_live.specs.Client.{Views}
 use Rattle.rcu_live.proofs.ClientLemmas.{at_map_back}
 use Rattle.rcu_graph.specs.Nodes.{IsOn, place_of}
@@ -47,31 +47,31 @@ pub told_first : (x : ClientView Planned) (id : ℕ) (y : ClientView Planned)
 told_first x zero y e = ap (λ (z : ClientView Planned). z.2.plan) (sym (some-injective _ _ e))
 told_first x (suc id) y e = absurd (some-ne-none y (sym e))
 
-module _ (holds : List ℕ → Slots (Unit {0}) → Views Known → Type 0) (plan : Plan)
+module _ (holds : List ℕ → Views Known → Type 0) (plan : Plan)
     (cpu section : Option ℕ) (was : Planned) where
   -- a seat knows something else of the nodes, by which the rule holds of these words
-  knows_else : (words new : List ℕ) (homes : Slots (Unit {0})) (xs : Views Planned) (id : ℕ)
+  knows_else : (words new : List ℕ) (xs : Views Planned) (id : ℕ)
       (known : Known)
-      → IsPlanned holds plan words homes xs
+      → IsPlanned holds plan words xs
       → get_elem? xs id ≡ some (cpu, section, was)
-      → holds new homes (slice_set (map unplanned xs) id (cpu, section, known))
-      → IsPlanned holds plan new homes (slice_set xs id (cpu, section, knowing was known))
-  knows_else words new homes xs id known h at kept =
+      → holds new (slice_set (map unplanned xs) id (cpu, section, known))
+      → IsPlanned holds plan new (slice_set xs id (cpu, section, knowing was known))
+  knows_else words new xs id known h at kept =
       let after : ClientView Planned = (cpu, section, knowing was known) in
       record {
         told = told_after holds plan xs id after h.told (h.told id (cpu, section, was) at);
-        kept = subst (holds new homes) (sym (map-set unplanned xs id after)) kept;
+        kept = subst (holds new) (sym (map-set unplanned xs id after)) kept;
       }
 
   pub allows_word : (place : ℕ) (change : ℕ → ℕ) (tells : ℕ → Known → Type 0)
       → AllowsWord holds cpu section was.known place change tells
       → AllowsWord (IsPlanned holds plan) cpu section was place change
       (λ x now. (now.plan ≡ was.plan) × tells x now.known)
-  allows_word place change tells allowed number words homes xs id h are lone at =
-      let r = allowed number words homes (map unplanned xs) id h.kept (still_open number xs are)
+  allows_word place change tells allowed number words xs id h are lone at =
+      let r = allowed number words (map unplanned xs) id h.kept (still_open number xs are)
       (still_lone xs lone) (at_map unplanned xs id (cpu, section, was) at) in (
         knowing was r.0,
-        knows_else words (slice_set words place (change (slice_index words place))) homes xs id r.0
+        knows_else words (slice_set words place (change (slice_index words place))) xs id r.0
             h at r.1,
         (refl, r.2),
       )
@@ -80,10 +80,10 @@ module _ (holds : List ℕ → Slots (Unit {0}) → Views Known → Type 0) (pla
       → AllowsNumber holds cpu section was.known tells
       → AllowsNumber (IsPlanned holds plan) cpu section was
       (λ n now. (now.plan ≡ was.plan) × tells n now.known)
-  allows_number tells allowed number words homes xs id h are lone at =
-      let r = allowed number words homes (map unplanned xs) id h.kept (still_open number xs are)
+  allows_number tells allowed number words xs id h are lone at =
+      let r = allowed number words (map unplanned xs) id h.kept (still_open number xs are)
       (still_lone xs lone) (at_map unplanned xs id (cpu, section, was) at) in
-      (knowing was r.0, knows_else words words homes xs id r.0 h at r.1, (refl, r.2))
+      (knowing was r.0, knows_else words words xs id r.0 h at r.1, (refl, r.2))
 
 -- a graph is as large as its engine was told
 pub same_plan : (graph live : Object Plan) (plan : Plan)
@@ -101,7 +101,7 @@ module _ (fits : Plan → List ℕ → Type 0) (joins : Plan → ℕ → List �
     (first : Plan → ℕ → List ℕ) (cpu section : Option ℕ) (was : Planned) (plan : Plan)
     (is : was.plan ≡ plan) where
   -- the rule of the nodes, in a graph as large as the seat knows
-  abbrev kept : List ℕ → Slots (Unit {0}) → Views Known → Type 0
+  abbrev kept : List ℕ → Views Known → Type 0
   kept = IsKept (fits was.plan) (joins was.plan) (first was.plan) was.plan.roots was.plan.links
       was.plan.words was.plan.nodes
 

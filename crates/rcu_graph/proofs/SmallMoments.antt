@@ -164,7 +164,7 @@ keeper_knows zero = (refl, refl, refl)
 keeper_knows (suc t) = (refl, refl, refl)
 
 kept_by : (t : ℕ) (hops : List Hop) → Holds t hops
-    → IsKeptBy small_fits small_joins small_first small_plan (small_words t) []
+    → IsKeptBy small_fits small_joins small_first small_plan (small_words t)
     (small_moment t hops).seats
 kept_by t hops holds = record {
   told = seated _ _ (λ id z. z.2.plan ≡ small_plan) refl refl;

@@ -14,7 +14,7 @@ use mathlib.Core.Logic.{dite}
 use native.Mathlib.Decide.{dec_le, ℕ_discrete}
 use lib.ListN.{get_elem?}
 use Rattle.atomic_table.proofs.Lists.{at_map}
-use Rattle.rcu_live.specs.Client.{Slots, ClientView}
+use Rattle.rcu_live.specs.Client.{ClientView}
 use Rattle.rcu_live.proofs.ClientLemmas.{at_map_back}
 use Rattle.rcu_live.proofs.ClientRows.{at_inside, inside, row_told, word_told}
 use Rattle.rcu_graph.specs.Nodes.{IsBy, IsUsed, first_node, first_place, first_nodes, free_node}
@@ -117,14 +117,14 @@ module _ (fits : List ℕ → Type 0) (joins : ℕ → List ℕ → List ℕ →
       (some-injective _ _ e) (refl, refl, refl)
   alone (suc id) x e = absurd (some-ne-none x (sym e))
 
-  pub starts : (behind : List ℕ) (homes : Slots (Unit {0}))
+  pub starts : (behind : List ℕ)
       → roots ≤ count
       → length behind ≡ first_place + (links + width) * count
       → ((i : ℕ) → i < roots → length (first i) ≡ width)
       → ((i : ℕ) → i < roots → fits (first i))
       → AreFirst first roots links width behind
-      → IsKept fits joins first roots links width count behind homes ((None, None, Owner) ∷ [])
-  starts behind homes many long size whole h = record {
+      → IsKept fits joins first roots links width count behind ((None, None, Owner) ∷ [])
+  starts behind many long size whole h = record {
     nodes = first_nodes links width first roots count;
     latest = 0;
     keeper = 0;

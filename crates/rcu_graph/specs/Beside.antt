@@ -5,7 +5,7 @@ use Rattle.std.specs.Prelude.{slice_index}
 use mathlib.Core.Option.{some}
 use lib.ListN.{get_elem?}
 use Rattle.rcu_seq.specs.Numbers.{Number}
-use Rattle.rcu_live.specs.Client.{AreLone, AreOpen, Slots, Views}
+use Rattle.rcu_live.specs.Client.{AreLone, AreOpen, Views}
 use Rattle.rcu_graph.specs.Absence.{IsOnIfOurs}
 use Rattle.rcu_graph.specs.Nodes.{IsKeeping, IsOn, IsReader, nodes_in, place_of, state_at}
 use Rattle.rcu_graph.specs.Planned.{IsKeptBy, of_plan, tells_age, tells_follow, tells_leave}
@@ -17,11 +17,10 @@ use Rattle.rcu_graph.specs.declared.known.Planned.{Planned}
 use Rattle.rcu_graph.specs.declared.node_state.NodeState.TheVariants.{Free, Live}
 use Rattle.rcu_graph.specs.declared.plan.Plan.{Plan}
 
--- what the rule speaks of at a moment: the words, the slots, and what is shown of the seats. And
--- what two of these know: the keeper, and the section
+-- what the rule speaks of at a moment: the words, and what is shown of the seats. And what two of
+-- these know: the keeper, and the section
 pub record Moment : Type 0 where
   pub words : List ℕ
-  pub homes : Slots (Unit {0})
   pub seats : Views Planned
   pub keeper : Known
   pub section : Known
@@ -102,7 +101,7 @@ module _ (fits : Plan → List ℕ → Type 0) (joins : Plan → ℕ → List �
     (first : Plan → ℕ → List ℕ) (plan : Plan) where
   -- at a moment the rule holds, and this seat keeps the nodes
   pub record IsKeptAt (keeper : ℕ) (moment : Moment) : Type 0 where
-    pub rule : IsKeptBy fits joins first plan moment.words moment.homes moment.seats
+    pub rule : IsKeptBy fits joins first plan moment.words moment.seats
     pub shown : get_elem? moment.seats keeper ≡ some (None, None, of_plan plan moment.keeper)
     pub keeps : IsKeeping moment.keeper
 

@@ -51,9 +51,13 @@ pub record AreFirst (first : ℕ → List ℕ) (roots links width : ℕ) (words 
   pub rest : (i k : ℕ) → roots ≤ i → k < width
       → slice_index words (place_of (links + width) i (links + k)) ≡ 0
 
--- who keeps the nodes of a graph of this plan, of an engine of so many processors, as they are at
--- first
+-- what it knows who keeps the nodes of a graph of this plan, as they are at first
+abbrev pub claimed_first : (ℕ → List ℕ) → Plan → Planned
+claimed_first first plan =
+    of_plan plan (Keeper 0 (first_nodes plan.links plan.words first plan.roots plan.nodes) [])
+
+-- who keeps them in an engine of so many processors
 abbrev pub keeper_at_first : (ℕ → List ℕ) → TableId → ℕ → Plan → Watching Planned
 keeper_at_first first table cpus plan =
     after_word_step (watcher_at_first table (base_of cpus) (of_plan plan Owner))
-    (of_plan plan (Keeper 0 (first_nodes plan.links plan.words first plan.roots plan.nodes) []))
+    (claimed_first first plan)

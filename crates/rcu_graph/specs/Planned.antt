@@ -6,7 +6,7 @@ use Rattle.std.proofs.lemmas.List.{map-append, map-set}
 use mathlib.Core.Option.{some}
 use lib.ListN.{get_elem?}
 use Rattle.atomic_table.proofs.Lists.{at_map}
-use Rattle.rcu_live.specs.Client.{ClientView, IsStable, Slots, Views}
+use Rattle.rcu_live.specs.Client.{ClientView, IsStable, Views}
 use Rattle.rcu_live.proofs.ClientRows.{reseat}
 use Rattle.rcu_live.proofs.Deals.{at_end}
 use Rattle.rcu_graph.specs.Rule.{IsKept}
@@ -39,15 +39,15 @@ abbrev pub unplanned : ClientView Planned → ClientView Known
 unplanned x = (x.0, x.1, x.2.known)
 
 -- each seat knows this plan, and the rule holds of what they know beside it
-pub record IsPlanned (holds : List ℕ → Slots (Unit {0}) → Views Known → Type 0) (plan : Plan)
-    (words : List ℕ) (homes : Slots (Unit {0})) (xs : Views Planned) : Type 0 where
+pub record IsPlanned (holds : List ℕ → Views Known → Type 0) (plan : Plan)
+    (words : List ℕ) (xs : Views Planned) : Type 0 where
   pub told : (id : ℕ) (x : ClientView Planned) → get_elem? xs id ≡ some x → x.2.plan ≡ plan
-  pub kept : holds words homes (map unplanned xs)
+  pub kept : holds words (map unplanned xs)
 
 -- the rule of a graph of this plan
 abbrev pub IsKeptBy : (Plan → List ℕ → Type 0)
     → (Plan → ℕ → List ℕ → List ℕ → Type 0) → (Plan → ℕ → List ℕ) → Plan → List ℕ
-    → Slots (Unit {0}) → Views Planned → Type 0
+    → Views Planned → Type 0
 IsKeptBy fits joins first plan = IsPlanned
     (IsKept (fits plan) (joins plan) (first plan) plan.roots plan.links plan.words plan.nodes) plan
 
@@ -92,7 +92,7 @@ tells_leave = tells_word (λ plan. IsLeft plan.links plan.words)
 abbrev pub tells_age : Planned → ℕ → Planned → Type 0
 tells_age = tells_number IsAged
 
-module _ (holds : List ℕ → Slots (Unit {0}) → Views Known → Type 0) (plan : Plan) where
+module _ (holds : List ℕ → Views Known → Type 0) (plan : Plan) where
   -- one seat changes, by which the plan stays
   pub told_after : (xs : Views Planned) (id : ℕ) (x : ClientView Planned)
       → ((j : ℕ) (y : ClientView Planned) → get_elem? xs j ≡ some y → y.2.plan ≡ plan)
@@ -119,38 +119,38 @@ module _ (holds : List ℕ → Slots (Unit {0}) → Views Known → Type 0) (pla
       → IsStable (IsPlanned holds plan) (λ c. knowing c (idle c.known))
       (λ c. knowing c (closed c.known))
   planned_is_stable idle closed stable = record {
-    opens = λ words homes xs id number cpu c h at. record {
+    opens = λ words xs id number cpu c h at. record {
       told = told_after xs id (cpu, Some number, c) h.told (h.told id (cpu, None, c) at);
-      kept = subst (holds words homes) (sym (map-set unplanned xs id (cpu, Some number, c)))
-          (stable.opens words homes (map unplanned xs) id number cpu c.known h.kept
+      kept = subst (holds words) (sym (map-set unplanned xs id (cpu, Some number, c)))
+          (stable.opens words (map unplanned xs) id number cpu c.known h.kept
           (at_map unplanned xs id (cpu, None, c) at));
     };
-    closes = λ words homes xs id cpu section c h at.
+    closes = λ words xs id cpu section c h at.
         let after : ClientView Planned = (cpu, None, knowing c (closed c.known)) in
         record {
           told = told_after xs id after h.told (h.told id (cpu, section, c) at);
-          kept = subst (holds words homes) (sym (map-set unplanned xs id after))
-              (stable.closes words homes (map unplanned xs) id cpu section c.known h.kept
+          kept = subst (holds words) (sym (map-set unplanned xs id after))
+              (stable.closes words (map unplanned xs) id cpu section c.known h.kept
               (at_map unplanned xs id (cpu, section, c) at));
         };
-    deals = λ words homes xs id who section c cpu h at.
+    deals = λ words xs id who section c cpu h at.
         let new : ClientView Planned = (cpu, None, knowing c (idle c.known)) in
         record {
           told = told_at_end xs new h.told (h.told id (who, section, c) at);
-          kept = subst (holds words homes) (sym (map-append unplanned xs (new ∷ [])))
-              (stable.deals words homes (map unplanned xs) id who section c.known cpu h.kept
+          kept = subst (holds words) (sym (map-append unplanned xs (new ∷ [])))
+              (stable.deals words (map unplanned xs) id who section c.known cpu h.kept
               (at_map unplanned xs id (who, section, c) at));
         };
-    hands = λ words homes xs id c h at.
+    hands = λ words xs id c h at.
         let left : ClientView Planned = (None, None, knowing c (idle c.known)) in
         let new : ClientView Planned = (None, None, c) in
         let same = h.told id (None, None, c) at in
         record {
           told = told_at_end (slice_set xs id left) new (told_after xs id left h.told same) same;
-          kept = subst (holds words homes)
+          kept = subst (holds words)
               (sym (map-append unplanned (slice_set xs id left) (new ∷ [])
               ∙ ap (λ (l : Views Known). l ++ unplanned new ∷ []) (map-set unplanned xs id left)))
-              (stable.hands words homes (map unplanned xs) id c.known h.kept
+              (stable.hands words (map unplanned xs) id c.known h.kept
               (at_map unplanned xs id (None, None, c) at));
         };
   }

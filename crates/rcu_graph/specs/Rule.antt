@@ -4,7 +4,7 @@ use Rattle.std.specs.Prelude.{◌≡◌, ℕ, suc, ◌+◌, ◌*◌, ◌<◌, Li
 use mathlib.Core.Option.{some}
 use lib.ListN.{get_elem?}
 use Rattle.rcu_seq.specs.Numbers.{Number}
-use Rattle.rcu_live.specs.Client.{Slots, Views}
+use Rattle.rcu_live.specs.Client.{Views}
 use Rattle.rcu_graph.specs.Nodes.{IsBy, IsHeld, IsUsed, MayRead, Outlives, first_nodes, first_place}
 use Rattle.rcu_graph.specs.Nodes.{place_of, row_of}
 use Rattle.rcu_graph.specs.declared.known.Known.{Known}
@@ -64,7 +64,7 @@ pub record AreKept (fits : List ℕ → Type 0) (joins : ℕ → List ℕ → Li
       → IsLed joins links nodes v
 
 pub record IsKept (fits : List ℕ → Type 0) (joins : ℕ → List ℕ → List ℕ → Type 0)
-    (first : ℕ → List ℕ) (roots links width count : ℕ) (words : List ℕ) (homes : Slots (Unit {0}))
+    (first : ℕ → List ℕ) (roots links width count : ℕ) (words : List ℕ)
     (xs : Views Known) : Type 0 where
   pub nodes : List Node
   pub latest : Number

@@ -55,7 +55,6 @@ small_keeper (suc t) = Keeper 0 (small_nodes 1) (small_nodes 1 ∷ [])
 abbrev pub small_moment : ℕ → List Hop → Moment
 small_moment t hops = record {
   words = small_words t;
-  homes = [];
   seats = (None, None, of_plan small_plan (small_keeper t))
       ∷ (Some 0, Some 0, of_plan small_plan (Reader hops))
       ∷ [];

@@ -6,7 +6,7 @@ use Rattle.std.proofs.Common.{refl, sym, ◌∙◌, subst, ⊎_elim}
 use mathlib.Core.Option.{some}
 use lib.ListN.{get_elem?}
 use Rattle.rcu_seq.specs.Numbers.{Number}
-use Rattle.rcu_live.specs.Client.{Slots, IsStable, Views, ClientView}
+use Rattle.rcu_live.specs.Client.{IsStable, Views, ClientView}
 use Rattle.rcu_live.proofs.ClientRows.{reseat}
 use Rattle.rcu_live.proofs.Deals.{at_end}
 use Rattle.rcu_graph.specs.Rule.{IsKept, Knows, Reading}
@@ -44,7 +44,7 @@ module _ (first : ℕ → List ℕ) (roots links width count : ℕ) (nodes : Lis
   knows_closed keeper id section (Reader hops) k = tt
   knows_closed keeper id section (Keeper s known stored) k = k
 
-  -- who keeps the slots after they are handed over
+  -- who keeps the nodes after they are handed over
   abbrev pub keeper_after : ℕ → ℕ → Known → ℕ
   keeper_after keeper new Idle = keeper
   keeper_after keeper new Owner = new
@@ -86,12 +86,12 @@ module _ (first : ℕ → List ℕ) (roots links width count : ℕ) (nodes : Lis
 module _ (fits : List ℕ → Type 0) (joins : ℕ → List ℕ → List ℕ → Type 0) (first : ℕ → List ℕ)
     (roots links width count : ℕ) where
   -- the rule is kept where the seats know what is so
-  pub reseated : (words : List ℕ) (homes : Slots (Unit {0})) (xs ys : Views Known)
-      (h : IsKept fits joins first roots links width count words homes xs) (keeper : ℕ)
+  pub reseated : (words : List ℕ) (xs ys : Views Known)
+      (h : IsKept fits joins first roots links width count words xs) (keeper : ℕ)
       → ((j : ℕ) (y : ClientView Known) → get_elem? ys j ≡ some y → SeatKnows first roots links
       width count h.nodes h.latest keeper j y)
-      → IsKept fits joins first roots links width count words homes ys
-  reseated words homes xs ys h keeper seats = record {
+      → IsKept fits joins first roots links width count words ys
+  reseated words xs ys h keeper seats = record {
     nodes = h.nodes;
     latest = h.latest;
     keeper = keeper;
@@ -100,21 +100,21 @@ module _ (fits : List ℕ → Type 0) (joins : ℕ → List ℕ → List ℕ →
   }
 
   -- one seat changes
-  pub one_changes : (words : List ℕ) (homes : Slots (Unit {0})) (xs : Views Known)
-      (h : IsKept fits joins first roots links width count words homes xs) (id : ℕ)
+  pub one_changes : (words : List ℕ) (xs : Views Known)
+      (h : IsKept fits joins first roots links width count words xs) (id : ℕ)
       (x : ClientView Known)
       → SeatKnows first roots links width count h.nodes h.latest h.keeper id x
-      → IsKept fits joins first roots links width count words homes (slice_set xs id x)
-  one_changes words homes xs h id x mine = reseated words homes xs (slice_set xs id x) h h.keeper
+      → IsKept fits joins first roots links width count words (slice_set xs id x)
+  one_changes words xs h id x mine = reseated words xs (slice_set xs id x) h h.keeper
       (reseat (SeatKnows first roots links width count h.nodes h.latest h.keeper) xs id x mine
       (λ j y apart at. h.seats j y.0 y.1 y.2 at))
 
-  handed : (words : List ℕ) (homes : Slots (Unit {0})) (xs : Views Known) (id : ℕ) (known : Known)
-      (h : IsKept fits joins first roots links width count words homes xs)
+  handed : (words : List ℕ) (xs : Views Known) (id : ℕ) (known : Known)
+      (h : IsKept fits joins first roots links width count words xs)
       → get_elem? xs id ≡ some (None, None, known)
-      → IsKept fits joins first roots links width count words homes
+      → IsKept fits joins first roots links width count words
       (slice_set xs id (None, None, Idle) ++ (None, None, known) ∷ [])
-  handed words homes xs id known h at =
+  handed words xs id known h at =
       let left : Views Known = slice_set xs id (None, None, Idle) in
       let new : ℕ = length left in
       let mine = h.seats id None None known at in
@@ -126,7 +126,7 @@ module _ (fits : List ℕ → Type 0) (joins : ℕ → List ℕ → List ℕ →
       (None, None, Idle) tt
       (λ j y apart e. knows_still first roots links width count h.nodes h.latest h.keeper id new j
       known y.1 y.2 mine apart (h.seats j y.0 y.1 y.2 e)) in
-      reseated words homes xs (left ++ (None, None, known) ∷ []) h keeper
+      reseated words xs (left ++ (None, None, known) ∷ []) h keeper
       (λ j y e. ⊎_elim (λ (old : get_elem? left j ≡ some y). front j y old)
       (λ (last : (j ≡ new) × ((None, None, known) ≡ y)).
       subst (λ (z : ℕ × ClientView Known).
@@ -137,21 +137,21 @@ module _ (fits : List ℕ → Type 0) (joins : ℕ → List ℕ → List ℕ →
 
   pub is_stable : IsStable (IsKept fits joins first roots links width count) (λ _. Idle) closed
   is_stable = record {
-    opens = λ words homes xs id number cpu known h at.
-        one_changes words homes xs h id (cpu, Some number, known)
+    opens = λ words xs id number cpu known h at.
+        one_changes words xs h id (cpu, Some number, known)
         (knows_opened first roots links width count h.nodes h.latest h.keeper id number known
         (h.seats id cpu None known at));
-    closes = λ words homes xs id cpu section known h at.
-        one_changes words homes xs h id (cpu, None, closed known)
+    closes = λ words xs id cpu section known h at.
+        one_changes words xs h id (cpu, None, closed known)
         (knows_closed first roots links width count h.nodes h.latest h.keeper id section known
         (h.seats id cpu section known at));
-    deals = λ words homes xs id who section known cpu h at.
-        reseated words homes xs (xs ++ (cpu, None, Idle) ∷ []) h h.keeper
+    deals = λ words xs id who section known cpu h at.
+        reseated words xs (xs ++ (cpu, None, Idle) ∷ []) h h.keeper
         (λ j y e. ⊎_elim (λ (old : get_elem? xs j ≡ some y). h.seats j y.0 y.1 y.2 old)
         (λ (last : (j ≡ length xs) × ((cpu, None, Idle) ≡ y)).
         subst (λ (z : ClientView Known).
         SeatKnows first roots links width count h.nodes h.latest h.keeper j z)
         last.1 tt)
         (at_end xs (cpu, None, Idle) y j e));
-    hands = λ words homes xs id known h at. handed words homes xs id known h at;
+    hands = λ words xs id known h at. handed words xs id known h at;
   }

@@ -3,9 +3,10 @@ ghost use Rattle.std.specs.Prelude.{MatchResult};
 ghost use Rattle.rcu_graph.specs.Puts.{CanPut, HasPut, IsFull};
 
 use crate::keeper::{Full, Keeper};
-use crate::rule::Shape;
+use crate::rule::{GraphRule, Shape};
+use rcu_live::Within;
 
-impl<F: Shape> Keeper<F> {
+impl<F: Shape, P: Within<GraphRule<F>>> Keeper<F, P> {
     /// Writes these words to a free node, which leads to the next one, leads the previous one to it
     /// by one store, and returns it. What no live node leads to any more is left. `Full` tells that
     /// no node is free. It is for nodes with one link each.

@@ -2,6 +2,7 @@
 //! leaves, without a walk of the graph.
 ghost use Rattle.std.specs.Prelude.{◌≡◌, ◌≤◌, ◌<◌, ◌+◌, ◌∷◌, ◌^◌, ℕ, [], All, IfOk, List, length};
 ghost use Rattle.std.specs.Prelude.{replicate, slice_index, suc};
+ghost use Rattle.rcu_live.specs.InPart.{watcher_part};
 ghost use Rattle.rcu_graph.specs.Counts.{counted_up, times_in};
 ghost use Rattle.rcu_graph.specs.Graph.{IsWatcherOf, word_to};
 ghost use Rattle.rcu_graph.specs.Keeper.{IsKeeperOf, after_step};
@@ -15,31 +16,34 @@ ghost use Rattle.rcu_graph.specs.declared.known.Node.{Node};
 
 use crate::graph::Graph;
 use crate::known_nodes::{KnownNodes, node_of, word_of};
-use crate::rule::{GraphWatcher, Shape};
+use crate::rule::{GraphRule, GraphWatcher, Shape};
+use rcu_live::Within;
 use std::alloc::{AllocError, Global};
 
 /// Nodes, and how many links of live nodes lead to each.
 #[derive(Drop)]
-pub(crate) struct CountedNodes<F: Shape> {
-    pub(crate) nodes: KnownNodes<F>,
+pub(crate) struct CountedNodes<F: Shape, P: Within<GraphRule<F>>> {
+    pub(crate) nodes: KnownNodes<F, P>,
     pub(crate) counts: Vec<usize>,
     /// The nodes that a change leaves, in order: room for all.
     pub(crate) leaving: Vec<usize>,
 }
 
-impl<F: Shape> CountedNodes<F> {
+impl<F: Shape, P: Within<GraphRule<F>>> CountedNodes<F, P> {
     /// The nodes of a seat, which are as at first.
     pub(crate) fn new(
         alloc: Global,
-        graph: &Graph<F>,
-        seat: GraphWatcher<F>,
+        graph: &Graph<F, P>,
+        seat: GraphWatcher<F, P>,
     ) -> Result<Self, AllocError>
-        requires keeper { IsKeeperOf graph.now seat }
+        requires keeper { IsKeeperOf graph.now (watcher_part P.lens seat) }
         requires nodes { IsClaimed (F.first graph.now.plan) graph.now.plan.roots
-            graph.now.plan.links graph.now.plan.words graph.now.plan.nodes seat.view.client.known }
+            graph.now.plan.links graph.now.plan.words graph.now.plan.nodes
+            (P.lens.get seat.view.client).known }
         requires first { AreWhole (F.fits graph.now.plan) (F.first graph.now.plan)
             graph.now.plan }
-        ensures nodes { IfOk result (λ counted. counted.nodes ≡ seat) }
+        ensures nodes { IfOk result (λ counted.
+            counted.nodes ≡ watcher_part P.lens seat) }
         ensures counts { IfOk result (λ counted. counted.counts.items ≡ replicate
             graph.now.plan.nodes 0) }
         ensures leaving { IfOk result (λ counted. length counted.leaving.items ≡
@@ -72,7 +76,7 @@ impl<F: Shape> CountedNodes<F> {
 
     /// Lets go of a link that led there: where no live node leads to a node any more, it is left.
     /// Returns how many are left.
-    fn let_go(&mut self, graph: &Graph<F>, word: u64, left: usize) -> usize
+    fn let_go(&mut self, graph: &Graph<F, P>, word: u64, left: usize) -> usize
         requires graph { IsWatcherOf graph.now self.old.nodes }
         requires trimming { (stored : List Node) × (from : ℕ) × (words : List ℕ)
             × IsTrimming graph.now.plan.nodes graph.now.plan.roots graph.now.plan.links stored
@@ -110,7 +114,7 @@ impl<F: Shape> CountedNodes<F> {
     }
 
     /// Lets go of the links of a node that was left.
-    fn let_go_of(&mut self, graph: &Graph<F>, node: usize, left: usize) -> usize
+    fn let_go_of(&mut self, graph: &Graph<F, P>, node: usize, left: usize) -> usize
         requires graph { IsWatcherOf graph.now self.old.nodes }
         requires node { node < graph.now.plan.nodes }
         requires trimming { (stored : List Node) × (from : ℕ)
@@ -138,7 +142,7 @@ impl<F: Shape> CountedNodes<F> {
     }
 
     /// Lets go of a link that led there, and leaves what no live node leads to any more.
-    fn trim(&mut self, graph: &Graph<F>, word: u64)
+    fn trim(&mut self, graph: &Graph<F, P>, word: u64)
         requires graph { IsWatcherOf graph.now self.old.nodes }
         requires trimming { IsTrimming graph.now.plan.nodes graph.now.plan.roots
             graph.now.plan.links (nodes_in self.old.nodes.view.client.known)
@@ -162,7 +166,7 @@ impl<F: Shape> CountedNodes<F> {
     }
 
     /// Leads a link of a live node elsewhere.
-    pub(crate) fn link(&mut self, graph: &Graph<F>, from: usize, link: usize, to: Option<usize>)
+    pub(crate) fn link(&mut self, graph: &Graph<F, P>, from: usize, link: usize, to: Option<usize>)
         requires { MayRelink (F.fits graph.now.plan) (F.joins graph.now.plan) graph.now
             self.old.nodes
             self.old.counts.items self.old.leaving.items from link (word_to to) }
@@ -180,7 +184,7 @@ impl<F: Shape> CountedNodes<F> {
     }
 
     /// Counts the links of a node that becomes live.
-    fn count_links_of(&mut self, graph: &Graph<F>, node: usize)
+    fn count_links_of(&mut self, graph: &Graph<F, P>, node: usize)
         requires graph { IsWatcherOf graph.now self.old.nodes }
         requires node { node < graph.now.plan.nodes }
         requires many { length self.old.counts.items ≡ graph.now.plan.nodes }
@@ -204,7 +208,7 @@ impl<F: Shape> CountedNodes<F> {
     }
 
     /// Links a live node to a free one.
-    pub(crate) fn publish(&mut self, graph: &Graph<F>, from: usize, link: usize, to: usize)
+    pub(crate) fn publish(&mut self, graph: &Graph<F, P>, from: usize, link: usize, to: usize)
         requires { MayPublish (F.fits graph.now.plan) (F.joins graph.now.plan) graph.now
             self.old.nodes
             self.old.counts.items self.old.leaving.items from link to }

@@ -3,44 +3,48 @@ ghost use Rattle.std.specs.Prelude.{◌≡◌, ◌≤◌, ◌+◌, ◌*◌, ◌^
 ghost use Rattle.std.specs.Prelude.{slice_index};
 ghost use Rattle.std.specs.Arc.{arc_value};
 ghost use Rattle.rcu_live.specs.CpuSeat.{after_word_step};
+ghost use Rattle.rcu_live.specs.InPart.{engine_part, seat_part};
 ghost use Rattle.rcu_graph.specs.Graph.{IsAt, IsWalking, word_to};
 ghost use Rattle.rcu_graph.specs.Nodes.{IsOn, first_place, place_of};
 ghost use Rattle.rcu_graph.specs.Opening.{row_of};
 ghost use Rattle.rcu_graph.specs.Steps.{Followed};
 
-use crate::allowed::{follow_is_allowed, read_is_allowed};
 use crate::places::place_of;
 use crate::plan::{Plan, Row};
 use crate::rule::{Follow, GraphRule, GraphSeat, Read, Shape};
-use rcu_live::Board;
+use rcu_live::{Alone, Board, Within};
 use std::alloc::{AllocError, Global};
 use std::marker::Model;
 use std::sync::Arc;
 
 /// Nodes among the shared words of a running engine, so many as its plan says. Those in use meet
-/// `F`.
+/// `F`. The graph is the client of the engine, or one of several, at the place `P`.
 #[derive(Drop)]
-pub struct Graph<F: Shape> {
-    pub(crate) board: Arc<Board<GraphRule<F>>, Global>,
+pub struct Graph<F: Shape, P: Within<GraphRule<F>> = Alone> {
+    pub(crate) board: Arc<Board<P::Whole>, Global>,
     pub(crate) plan: Plan,
+    /// Where its words begin among those of all clients.
+    pub(crate) base: usize,
 }
 
-impl<F: Shape> Model for Graph<F> {
+impl<F: Shape, P: Within<GraphRule<F>>> Model for Graph<F, P> {
     ghost use Rattle.std.specs.Prelude.{◌≡◌, ◌≤◌, ◌+◌, ◌*◌, ◌^◌, ◌<◌};
     ghost use Rattle.std.specs.Arc.{arc_value};
     ghost use Rattle.rcu_live.specs.Board.{Object};
-    ghost use Rattle.rcu_live.specs.Words.{base_of};
+    ghost use Rattle.rcu_live.specs.InPart.{engine_part};
     ghost use Rattle.rcu_graph.specs.Nodes.{first_place};
     ghost use Rattle.rcu_graph.specs.declared.plan.Plan.{Plan};
 
     ghost Value = { Object Plan };
 
-    ghost view = { λ graph. arc_value graph.board };
+    ghost view = { λ graph. engine_part P.own_plan P.begins (arc_value graph.board) };
 
     ghost invariant = { λ graph. record {
-      planned : (arc_value graph.board).plan ≡ graph.plan;
-      room : (arc_value graph.board).table.words ≡ base_of (arc_value graph.board).cpus
-          + (first_place + (graph.plan.links + graph.plan.words) * graph.plan.nodes);
+      planned : P.own_plan (arc_value graph.board).plan ≡ graph.plan;
+      base : graph.base ≡ P.begins 0 (arc_value graph.board).plan;
+      room : P.begins (arc_value graph.board).base (arc_value graph.board).plan
+          + (first_place + (graph.plan.links + graph.plan.words) * graph.plan.nodes)
+          ≤ (arc_value graph.board).table.words;
       small : first_place + (graph.plan.links + graph.plan.words) * graph.plan.nodes < 2 ^ 64;
       row : graph.plan.links + graph.plan.words < 2 ^ 64;
       words : 0 < graph.plan.words;
@@ -48,20 +52,21 @@ impl<F: Shape> Model for Graph<F> {
     } };
 }
 
-impl<F: Shape> Graph<F> {
+impl<F: Shape, P: Within<GraphRule<F>>> Graph<F, P> {
     /// A second handle to the same nodes.
-    pub fn try_clone(&self) -> Result<Graph<F>, AllocError>
+    pub fn try_clone(&self) -> Result<Graph<F, P>, AllocError>
         ensures { IfOk result (λ graph. graph ≡ self.now) }
     {
         Ok(Graph {
             board: Arc::try_clone(&self.board)?,
             plan: self.plan,
+            base: self.base,
         })
     }
 
     /// The words of its engine, which all seats read.
-    pub fn board(&self) -> &Arc<Board<GraphRule<F>>, Global>
-        ensures { arc_value result.now ≡ self.now }
+    pub fn board(&self) -> &Arc<Board<P::Whole>, Global>
+        ensures { engine_part P.own_plan P.begins (arc_value result.now) ≡ self.now }
     {
         &self.board
     }
@@ -109,29 +114,27 @@ impl<F: Shape> Graph<F> {
     /// between two loads of which one waits for the other.
     pub fn follow(
         &self,
-        seat: &mut GraphSeat<F>,
+        seat: &mut GraphSeat<F, P>,
         row: Row,
         from: usize,
         link: usize,
     ) -> Option<usize>
         requires row { row ≡ row_of self.now.plan }
-        requires at { IsAt (F.first self.now.plan) self.now seat.old from }
+        requires at { IsAt (F.first self.now.plan) self.now (seat_part P.lens seat.old) from }
         requires link { link < self.now.plan.links }
-        ensures same { seat.new ≡ after_word_step seat.old seat.new.view.client }
-        ensures walking { IsWalking self.now seat.new }
-        ensures came { (words : List ℕ) →
-            IsOn (F.first self.now.plan) self.now.plan.roots seat.old.view.client.known from words →
+        ensures same { seat.new ≡ after_word_step seat.old
+            (P.lens.set seat.old.view.client (P.lens.get seat.new.view.client)) }
+        ensures walking { IsWalking self.now (seat_part P.lens seat.new) }
+        ensures came { (words : List ℕ) → IsOn (F.first self.now.plan) self.now.plan.roots
+            (P.lens.get seat.old.view.client).known from words →
             Followed (F.fits self.now.plan) (F.joins self.now.plan link words) self.now.plan.words
-            self.now.plan.nodes seat.old.view.client.known from link (word_to result)
-            seat.new.view.client.known }
+            self.now.plan.nodes (P.lens.get seat.old.view.client).known from link (word_to result)
+            (P.lens.get seat.new.view.client).known }
         ensures on { IfSome result (λ node.
-            IsAt (F.first self.now.plan) self.now seat.new node) }
+            IsAt (F.first self.now.plan) self.now (seat_part P.lens seat.new) node) }
     {
-        // A borrow of a field shows the prover what the type keeps: that the words fit in memory.
-        let board = &*self.board;
         let place = self.place(row, from, link);
-        follow_is_allowed(seat, from, link, place);
-        let word = seat.load_word::<_, Follow<F>>(board, place);
+        let word = self.load::<Follow<F>>(seat, place);
         if word == 0 {
             return None;
         }
@@ -140,19 +143,17 @@ impl<F: Shape> Graph<F> {
 
     /// Loads a word of the node that the section is on: the one that it had when the section came
     /// to it. The row is as of [`follow`](Self::follow).
-    pub fn read(&self, seat: &mut GraphSeat<F>, row: Row, node: usize, word: usize) -> u64
+    pub fn read(&self, seat: &mut GraphSeat<F, P>, row: Row, node: usize, word: usize) -> u64
         requires row { row ≡ row_of self.now.plan }
-        requires at { IsAt (F.first self.now.plan) self.now seat.old node }
+        requires at { IsAt (F.first self.now.plan) self.now (seat_part P.lens seat.old) node }
         requires word { word < self.now.plan.words }
         ensures same { seat.new ≡ seat.old }
-        ensures told { (words : List ℕ) →
-            IsOn (F.first self.now.plan) self.now.plan.roots seat.old.view.client.known node words →
-            result ≡ slice_index words word }
+        ensures told { (words : List ℕ) → IsOn (F.first self.now.plan) self.now.plan.roots
+            (P.lens.get seat.old.view.client).known node words → result ≡ slice_index words word }
     {
         // A borrow of a field shows the prover what the type keeps: that the words fit in memory.
-        let board = &*self.board;
+        let _ = &self.board;
         let place = self.place(row, node, row.links + word);
-        read_is_allowed(seat, node, word, place);
-        seat.load_word::<_, Read<F>>(board, place)
+        self.load::<Read<F>>(seat, place)
     }
 }

@@ -2,6 +2,7 @@
 //! itself what no live node leads to, and knows which nodes are free.
 ghost use Rattle.std.specs.Prelude.{◌≡◌, ◌≤◌, ◌<◌, ◌^◌, All, IfOk, IfSome, None, OnErr, length};
 ghost use Rattle.std.specs.Prelude.{slice_index};
+ghost use Rattle.rcu_live.specs.InPart.{watcher_part};
 ghost use Rattle.rcu_graph.specs.Graph.{IsWatcherOf, word_to};
 ghost use Rattle.rcu_graph.specs.Keeper.{IsKeeperOf, IsReady, after_look, after_store};
 ghost use Rattle.rcu_graph.specs.Nodes.{IsTarget, is_free, is_live, node_at};
@@ -16,7 +17,8 @@ use crate::counted_nodes::CountedNodes;
 use crate::graph::Graph;
 use crate::known_nodes::node_of;
 use crate::plan::Plan;
-use crate::rule::{GraphWatcher, Shape};
+use crate::rule::{GraphRule, GraphWatcher, Shape};
+use rcu_live::{Alone, Within};
 use std::alloc::{AllocError, Global};
 use std::marker::Model;
 
@@ -30,12 +32,12 @@ pub struct Full;
 /// is left by itself (as by the counts of `Rc`), and what only that led to, and so on. Nodes that
 /// lead to one another in a ring stay live: unlink one of them first.
 #[derive(Drop)]
-pub struct Keeper<F: Shape> {
-    graph: Graph<F>,
-    counted: CountedNodes<F>,
+pub struct Keeper<F: Shape, P: Within<GraphRule<F>> = Alone> {
+    graph: Graph<F, P>,
+    counted: CountedNodes<F, P>,
 }
 
-impl<F: Shape> Model for Keeper<F> {
+impl<F: Shape, P: Within<GraphRule<F>>> Model for Keeper<F, P> {
     ghost use Rattle.rcu_live.specs.Watcher.{Watching};
     ghost use Rattle.rcu_graph.specs.Graph.{IsWatcherOf};
     ghost use Rattle.rcu_graph.specs.Nodes.{nodes_in};
@@ -54,16 +56,21 @@ impl<F: Shape> Model for Keeper<F> {
     } };
 }
 
-impl<F: Shape> Keeper<F> {
+impl<F: Shape, P: Within<GraphRule<F>>> Keeper<F, P> {
     /// The keeper of a graph whose nodes are as at first. It takes all the memory that it will ever
     /// have.
-    pub fn new(alloc: Global, graph: &Graph<F>, seat: GraphWatcher<F>) -> Result<Self, AllocError>
-        requires keeper { IsKeeperOf graph.now seat }
+    pub fn new(
+        alloc: Global,
+        graph: &Graph<F, P>,
+        seat: GraphWatcher<F, P>,
+    ) -> Result<Self, AllocError>
+        requires keeper { IsKeeperOf graph.now (watcher_part P.lens seat) }
         requires nodes { IsClaimed (F.first graph.now.plan) graph.now.plan.roots
-            graph.now.plan.links graph.now.plan.words graph.now.plan.nodes seat.view.client.known }
+            graph.now.plan.links graph.now.plan.words graph.now.plan.nodes
+            (P.lens.get seat.view.client).known }
         requires first { AreWhole (F.fits graph.now.plan) (F.first graph.now.plan)
             graph.now.plan }
-        ensures { IfOk result (λ keeper. keeper ≡ seat) }
+        ensures { IfOk result (λ keeper. keeper ≡ watcher_part P.lens seat) }
     {
         graph.plan();
         let counted = CountedNodes::new(alloc, graph, seat)?;

@@ -1,6 +1,7 @@
 //! The seat that keeps the nodes, and beside it what it knows of them at run time.
 ghost use Rattle.std.specs.Prelude.{◌≡◌, ◌≤◌, ◌<◌, ◌+◌, ◌-◌, ◌*◌, ◌^◌, All, IfNone, IfOk, IfSome};
 ghost use Rattle.std.specs.Prelude.{length, map, slice_index};
+ghost use Rattle.rcu_live.specs.InPart.{watcher_part};
 ghost use Rattle.rcu_graph.specs.Filling.{CanFill, CanStore, after_links, after_words};
 ghost use Rattle.rcu_graph.specs.Graph.{IsWatcherOf, word_to};
 ghost use Rattle.rcu_graph.specs.Keeper.{IsKeeperOf, after_leave, after_link, after_look};
@@ -18,19 +19,21 @@ use crate::graph::Graph;
 use crate::mirror::Mirror;
 use crate::node_state::NodeState;
 use crate::plan::Plan;
-use crate::rule::{GraphWatcher, Shape};
+use crate::rule::{GraphRule, GraphWatcher, Shape};
+use rcu_live::Within;
 use std::alloc::{AllocError, Global};
 use std::marker::Model;
 
 /// The seat that keeps the nodes, with their states, links and words.
 #[derive(Drop)]
-pub(crate) struct KnownNodes<F: Shape> {
-    seat: GraphWatcher<F>,
+pub(crate) struct KnownNodes<F: Shape, P: Within<GraphRule<F>>> {
+    seat: GraphWatcher<F, P>,
     mirror: Mirror,
 }
 
-impl<F: Shape> Model for KnownNodes<F> {
+impl<F: Shape, P: Within<GraphRule<F>>> Model for KnownNodes<F, P> {
     ghost use Rattle.std.specs.Prelude.{◌≡◌, ◌≤◌, length};
+    ghost use Rattle.rcu_live.specs.InPart.{watcher_part};
     ghost use Rattle.rcu_live.specs.View.{IsOfWatcher};
     ghost use Rattle.rcu_live.specs.Watcher.{Watching};
     ghost use Rattle.rcu_graph.specs.Mirror.{AreBy};
@@ -39,39 +42,40 @@ impl<F: Shape> Model for KnownNodes<F> {
 
     ghost Value = { Watching Planned };
 
-    ghost view = { λ k. k.seat };
+    ghost view = { λ k. watcher_part P.lens k.seat };
 
     ghost invariant = { λ k. record {
-      planned : k.seat.view.client.plan ≡ k.mirror.plan;
+      planned : (P.lens.get k.seat.view.client).plan ≡ k.mirror.plan;
       role : IsOfWatcher k.seat.view;
-      keeps : IsKeeping k.seat.view.client.known;
-      few : length (nodes_in k.seat.view.client.known) ≡ k.mirror.plan.nodes;
-      late : latest_in k.seat.view.client.known ≤ k.seat.view.seen;
-      same : nodes_in k.seat.view.client.known ≡ k.mirror.nodes;
-      by : AreBy (latest_in k.seat.view.client.known) k.mirror.nodes;
+      keeps : IsKeeping (P.lens.get k.seat.view.client).known;
+      few : length (nodes_in (P.lens.get k.seat.view.client).known) ≡ k.mirror.plan.nodes;
+      late : latest_in (P.lens.get k.seat.view.client).known ≤ k.seat.view.seen;
+      same : nodes_in (P.lens.get k.seat.view.client).known ≡ k.mirror.nodes;
+      by : AreBy (latest_in (P.lens.get k.seat.view.client).known) k.mirror.nodes;
     } };
 }
 
-impl<F: Shape> KnownNodes<F> {
+impl<F: Shape, P: Within<GraphRule<F>>> KnownNodes<F, P> {
     /// The seat, whose nodes are as at first.
     pub(crate) fn new(
         alloc: Global,
-        graph: &Graph<F>,
-        seat: GraphWatcher<F>,
+        graph: &Graph<F, P>,
+        seat: GraphWatcher<F, P>,
     ) -> Result<Self, AllocError>
-        requires keeper { IsKeeperOf graph.now seat }
+        requires keeper { IsKeeperOf graph.now (watcher_part P.lens seat) }
         requires nodes { IsClaimed (F.first graph.now.plan) graph.now.plan.roots
-            graph.now.plan.links graph.now.plan.words graph.now.plan.nodes seat.view.client.known }
+            graph.now.plan.links graph.now.plan.words graph.now.plan.nodes
+            (P.lens.get seat.view.client).known }
         requires first { AreWhole (F.fits graph.now.plan) (F.first graph.now.plan)
             graph.now.plan }
-        ensures { IfOk result (λ nodes. nodes ≡ seat) }
+        ensures { IfOk result (λ nodes. nodes ≡ watcher_part P.lens seat) }
     {
         let mirror = Mirror::new::<F>(alloc, graph.plan())?;
         Ok(KnownNodes { seat, mirror })
     }
 
     /// What the type keeps: nothing is done.
-    pub(crate) fn keeps(&self, graph: &Graph<F>)
+    pub(crate) fn keeps(&self, graph: &Graph<F, P>)
         requires { IsWatcherOf graph.now self.now }
         ensures { IsKeeperOf graph.now self.now }
     {
@@ -80,7 +84,7 @@ impl<F: Shape> KnownNodes<F> {
     }
 
     /// How large the graph is.
-    pub(crate) fn plan(&self, graph: &Graph<F>) -> Plan
+    pub(crate) fn plan(&self, graph: &Graph<F, P>) -> Plan
         requires { IsWatcherOf graph.now self.now }
         ensures plan { result ≡ graph.now.plan }
         ensures keeps { IsKeeping self.now.view.client.known }
@@ -139,7 +143,7 @@ impl<F: Shape> KnownNodes<F> {
     }
 
     /// Stores a word of a free node.
-    fn write(&mut self, graph: &Graph<F>, node: usize, word: usize, value: u64)
+    fn write(&mut self, graph: &Graph<F, P>, node: usize, word: usize, value: u64)
         requires { CanStore graph.now.plan.words graph.now self.old node word }
         ensures { self.new ≡ after_write self.old node word value }
     {
@@ -148,7 +152,7 @@ impl<F: Shape> KnownNodes<F> {
     }
 
     /// Stores a link of a free node.
-    fn write_link(&mut self, graph: &Graph<F>, node: usize, link: usize, value: u64)
+    fn write_link(&mut self, graph: &Graph<F, P>, node: usize, link: usize, value: u64)
         requires { CanStore graph.now.plan.links graph.now self.old node link }
         ensures { self.new ≡ after_write_link self.old node link value }
     {
@@ -157,7 +161,7 @@ impl<F: Shape> KnownNodes<F> {
     }
 
     /// Stores a link of a live node, as [`Graph::link`] does.
-    pub(crate) fn link(&mut self, graph: &Graph<F>, node: usize, link: usize, value: u64)
+    pub(crate) fn link(&mut self, graph: &Graph<F, P>, node: usize, link: usize, value: u64)
         requires graph { IsWatcherOf graph.now self.old }
         requires node { node < graph.now.plan.nodes }
         requires link { link < graph.now.plan.links }
@@ -175,7 +179,7 @@ impl<F: Shape> KnownNodes<F> {
     /// Stores all words and links of a free node.
     pub(crate) fn fill(
         &mut self,
-        graph: &Graph<F>,
+        graph: &Graph<F, P>,
         node: usize,
         words: &[u64],
         links: &[Option<usize>],
@@ -195,7 +199,7 @@ impl<F: Shape> KnownNodes<F> {
     }
 
     /// Stores all words of a free node.
-    fn fill_words(&mut self, graph: &Graph<F>, node: usize, words: &[u64])
+    fn fill_words(&mut self, graph: &Graph<F, P>, node: usize, words: &[u64])
         requires free { CanFill graph.now self.old node }
         requires words { length words.now ≡ graph.now.plan.words }
         ensures { self.new ≡ after_words self.old node words.now }
@@ -206,7 +210,7 @@ impl<F: Shape> KnownNodes<F> {
     }
 
     /// Stores all links of a free node.
-    fn fill_links(&mut self, graph: &Graph<F>, node: usize, links: &[Option<usize>])
+    fn fill_links(&mut self, graph: &Graph<F, P>, node: usize, links: &[Option<usize>])
         requires free { CanFill graph.now self.old node }
         requires inside { All (λ to. IfSome to (λ other. other < graph.now.plan.nodes)) links.now }
         requires links { length links.now ≡ graph.now.plan.links }
@@ -219,7 +223,7 @@ impl<F: Shape> KnownNodes<F> {
     }
 
     /// Links a live node to a free one, as [`Graph::publish`] does.
-    pub(crate) fn publish(&mut self, graph: &Graph<F>, from: usize, link: usize, to: usize)
+    pub(crate) fn publish(&mut self, graph: &Graph<F, P>, from: usize, link: usize, to: usize)
         requires { CanPublish (F.fits graph.now.plan) (F.joins graph.now.plan) graph.now self.old
             from link to }
         ensures graph { IsWatcherOf graph.now self.new }
@@ -232,7 +236,7 @@ impl<F: Shape> KnownNodes<F> {
     }
 
     /// Leaves a live node to which no live one leads.
-    pub(crate) fn leave(&mut self, graph: &Graph<F>, node: usize)
+    pub(crate) fn leave(&mut self, graph: &Graph<F, P>, node: usize)
         requires graph { IsWatcherOf graph.now self.old }
         requires node { node < graph.now.plan.nodes }
         requires no_root { graph.now.plan.roots ≤ node }
@@ -247,7 +251,7 @@ impl<F: Shape> KnownNodes<F> {
     }
 
     /// Looks at the number, by which the nodes age. It costs what becomes free or retired by it.
-    pub(crate) fn look(&mut self, graph: &Graph<F>) -> u64
+    pub(crate) fn look(&mut self, graph: &Graph<F, P>) -> u64
         requires { IsWatcherOf graph.now self.old }
         ensures graph { IsWatcherOf graph.now self.new }
         ensures state { self.new ≡ after_look self.old result }

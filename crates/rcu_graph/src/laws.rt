@@ -5,7 +5,7 @@ ghost use Rattle.std.specs.Prelude.{IsSome, IsTrue};
 ghost use Rattle.std.specs.Prelude.{List, Option, Some, ℕ, slice_index, slice_set, suc, true};
 ghost use mathlib.Core.Option.{some};
 ghost use lib.ListN.{get_elem?};
-ghost use Rattle.rcu_live.specs.Client.{Slots, Views};
+ghost use Rattle.rcu_live.specs.Client.{Views};
 ghost use Rattle.rcu_live.specs.Numbers.{is_open_at};
 ghost use Rattle.rcu_live.specs.Watcher.{Watching};
 ghost use Rattle.rcu_graph.specs.Absence.{AreMadeBy, IsChained, IsHistory, IsKeeperStep};
@@ -31,11 +31,11 @@ use crate::rule::Shape;
 /// At two moments the rule holds, and a seat holds the same node. Then the node's words are the
 /// same at both: it was not used again between them.
 pub fn held_nodes_keep_their_words<F: Shape>()
-    ensures { (plan : Plan) (before after : List ℕ) (old new : Slots (Unit {0}))
-        (xs ys : Views Planned) (seat node word : ℕ) (cpu section here later : Option ℕ)
+    ensures { (plan : Plan) (before after : List ℕ) (xs ys : Views Planned)
+        (seat node word : ℕ) (cpu section here later : Option ℕ)
         (was now : Planned) (words : List ℕ) →
-        IsKeptBy F.fits F.joins F.first plan before old xs →
-        IsKeptBy F.fits F.joins F.first plan after new ys →
+        IsKeptBy F.fits F.joins F.first plan before xs →
+        IsKeptBy F.fits F.joins F.first plan after ys →
         get_elem? xs seat ≡ some (cpu, section, was) → get_elem? ys seat ≡ some (here, later, now) →
         IsReader was.known → IsReader now.known → IsHeld was.known node words →
         IsHeld now.known node words → word < plan.words →
@@ -45,11 +45,11 @@ pub fn held_nodes_keep_their_words<F: Shape>()
 
 /// No node that the keeper knows as free, so that it may write there, is held by a seat.
 pub fn free_nodes_are_not_held<F: Shape>()
-    ensures { (plan : Plan) (table : List ℕ) (homes : Slots (Unit {0})) (xs : Views Planned)
+    ensures { (plan : Plan) (table : List ℕ) (xs : Views Planned)
         (keeper seat node latest : ℕ) (who own cpu section : Option ℕ) (nodes : List Node)
         (stored : List (List Node))
         (known : Planned) (words : List ℕ) (v : Node) →
-        IsKeptBy F.fits F.joins F.first plan table homes xs →
+        IsKeptBy F.fits F.joins F.first plan table xs →
         get_elem? xs keeper ≡ some (who, own, of_plan plan (Keeper latest nodes stored)) →
         get_elem? xs seat ≡ some (cpu, section, known) → IsReader known.known →
         IsHeld known.known node words → get_elem? nodes node ≡ some v → v.state ≢ Free }
@@ -57,11 +57,11 @@ pub fn free_nodes_are_not_held<F: Shape>()
 
 /// A section holds a node as the keeper knows it: with the same words.
 pub fn held_nodes_are_as_known<F: Shape>()
-    ensures { (plan : Plan) (table : List ℕ) (homes : Slots (Unit {0})) (xs : Views Planned)
+    ensures { (plan : Plan) (table : List ℕ) (xs : Views Planned)
         (keeper seat node latest : ℕ) (who own cpu section : Option ℕ) (nodes : List Node)
         (stored : List (List Node))
         (known : Planned) (words : List ℕ) (v : Node) →
-        IsKeptBy F.fits F.joins F.first plan table homes xs →
+        IsKeptBy F.fits F.joins F.first plan table xs →
         get_elem? xs keeper ≡ some (who, own, of_plan plan (Keeper latest nodes stored)) →
         get_elem? xs seat ≡ some (cpu, section, known) → IsReader known.known →
         IsHeld known.known node words → get_elem? nodes node ≡ some v → v.words ≡ words }
@@ -70,10 +70,10 @@ pub fn held_nodes_are_as_known<F: Shape>()
 /// A link of a live node leads to a live node, and joins the two as the user's fact says, whoever
 /// loads it and whenever.
 pub fn live_nodes_lead_to_live_nodes<F: Shape>()
-    ensures { (plan : Plan) (table : List ℕ) (homes : Slots (Unit {0})) (xs : Views Planned)
+    ensures { (plan : Plan) (table : List ℕ) (xs : Views Planned)
         (keeper node link next latest : ℕ) (who own : Option ℕ) (nodes : List Node)
         (stored : List (List Node)) (v : Node) →
-        IsKeptBy F.fits F.joins F.first plan table homes xs →
+        IsKeptBy F.fits F.joins F.first plan table xs →
         get_elem? xs keeper ≡ some (who, own, of_plan plan (Keeper latest nodes stored)) →
         get_elem? nodes node ≡ some v → v.state ≡ Live → link < plan.links →
         slice_index table (place_of (plan.links + plan.words) node link) ≡ suc next →
@@ -85,12 +85,12 @@ pub fn live_nodes_lead_to_live_nodes<F: Shape>()
 /// keeper knows the nodes then, and a node to which it came has the words that the hop has. So a
 /// lookup by one hop takes effect at its load, where it finds nothing too.
 pub fn hops_are_true_of_the_nodes<F: Shape>()
-    ensures { (plan : Plan) (table : List ℕ) (homes : Slots (Unit {0})) (xs : Views Planned)
+    ensures { (plan : Plan) (table : List ℕ) (xs : Views Planned)
         (keeper seat node link latest : ℕ) (who own cpu section : Option ℕ) (nodes : List Node)
         (stored : List (List Node))
         (was now : Planned) (words : List ℕ) →
-        IsKeptBy F.fits F.joins F.first plan table homes xs →
-        IsKeptBy F.fits F.joins F.first plan table homes (slice_set xs seat (cpu, section, now)) →
+        IsKeptBy F.fits F.joins F.first plan table xs →
+        IsKeptBy F.fits F.joins F.first plan table (slice_set xs seat (cpu, section, now)) →
         get_elem? xs keeper ≡ some (who, own, of_plan plan (Keeper latest nodes stored)) →
         get_elem? xs seat ≡ some (cpu, section, was) → IsReader was.known →
         IsOn (F.first plan) plan.roots was.known node words → link < plan.links →
@@ -104,9 +104,9 @@ pub fn hops_are_true_of_the_nodes<F: Shape>()
 /// with a greater key, of the same chain, where the user's facts say so of two joined nodes.
 pub fn chains_go_up<F: Shape>()
     ensures { (plan : Plan) (ours : List ℕ → Bool) (root : ℕ) (table : List ℕ)
-        (homes : Slots (Unit {0})) (xs : Views Planned) (keeper latest : ℕ) (who own : Option ℕ)
+        (xs : Views Planned) (keeper latest : ℕ) (who own : Option ℕ)
         (nodes : List Node) (stored : List (List Node)) →
-        IsKeptBy F.fits F.joins F.first plan table homes xs →
+        IsKeptBy F.fits F.joins F.first plan table xs →
         get_elem? xs keeper ≡ some (who, own, of_plan plan (Keeper latest nodes stored)) →
         Ascends (F.joins plan) 0 →
         ((from to : List ℕ) → F.joins plan 0 from to → IsTrue (ours from) → IsTrue (ours to)) →

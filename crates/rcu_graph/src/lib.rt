@@ -2,12 +2,13 @@
 //! without a lock, and each node is used again when no section can be on it.
 #![tactic(auto)]
 
-mod allowed;
 mod chain;
 mod counted_nodes;
 mod cycle;
 pub mod definition_laws;
+mod first_words;
 pub mod graph;
+mod joining;
 pub mod keeper;
 mod keeper_steps;
 mod keeper_waits;
@@ -22,6 +23,7 @@ pub mod places;
 pub mod plan;
 pub mod rule;
 mod search;
+mod steps;
 pub mod value;
 pub mod walk;
 mod walk_steps;

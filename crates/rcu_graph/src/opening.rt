@@ -1,11 +1,10 @@
 //! The opening of a graph.
-ghost use Rattle.std.specs.Prelude.{◌≡◌, ◌≢◌, ◌↔◌, ◌+◌, ◌*◌, ◌^◌, ◌<◌, ◌≤◌, ℕ, Err, IfOk};
-ghost use Rattle.std.specs.Prelude.{length, slice_index};
+ghost use Rattle.std.specs.Prelude.{◌≡◌, ◌↔◌, ◌+◌, ◌*◌, ◌^◌, Err, IfOk};
 ghost use Rattle.rcu_geometry.specs.Opening.{opening_refusal};
 ghost use Rattle.rcu_live.specs.Opening.{AreDealt, AreFanouts, engine_at_first};
 ghost use Rattle.rcu_graph.specs.Keeper.{IsKeeperOf};
-ghost use Rattle.rcu_graph.specs.Nodes.{first_place, place_of};
-ghost use Rattle.rcu_graph.specs.Opening.{AreFirst, AreWhole, IsSized, keeper_at_first};
+ghost use Rattle.rcu_graph.specs.Nodes.{first_place};
+ghost use Rattle.rcu_graph.specs.Opening.{AreWhole, IsSized, keeper_at_first};
 ghost use Rattle.rcu_graph.specs.Opening.{tested_opening};
 ghost use Rattle.rcu_graph.specs.Planned.{of_plan};
 ghost use Rattle.rcu_graph.specs.declared.known.Known.TheVariants.{Idle};
@@ -13,52 +12,13 @@ ghost use Rattle.rcu_graph.specs.declared.not_opened.NotOpened.{NotOpened};
 
 use crate::graph::Graph;
 use crate::not_opened::NotOpened;
-use crate::places::{FIRST, place_of};
 use crate::plan::Plan;
 use crate::rule::{GraphEngine, GraphRule, GraphSeat, GraphWatcher, Shape};
-use rcu_geometry::check_size;
 use rcu_live::{Engine, Live, Parts};
 use rcu_node::Tree;
 use rcu_seq::Fault;
-use std::alloc::{AllocError, Global};
+use std::alloc::Global;
 use std::sync::Arc;
-
-/// Stores a root's first words from a place on.
-fn store_root<F: Shape>(behind: &mut Vec<u64>, plan: Plan, root: usize, place: usize)
-    requires root { root < plan.roots }
-    requires room { place + plan.words ≤ length behind.old.items }
-    ensures length { length behind.new.items ≡ length behind.old.items }
-    ensures stored { (k : ℕ) → k < plan.words →
-        slice_index behind.new.items (place + k) ≡ slice_index (F.first plan root) k }
-    ensures others { (p : ℕ) → ((k : ℕ) → k < plan.words → p ≢ place + k) →
-        slice_index behind.new.items p ≡ slice_index behind.old.items p }
-{
-    for word in 0..plan.words {
-        behind[place + word] = F::first_word(plan, root, word);
-    }
-}
-
-/// The words of the nodes at first: the roots have their words, and each link and each other word
-/// is 0.
-fn first_words<F: Shape>(alloc: Global, plan: Plan) -> Result<Vec<u64>, AllocError>
-    requires { IsSized plan }
-    ensures length { IfOk result (λ behind. length behind.items
-        ≡ first_place + (plan.links + plan.words) * plan.nodes) }
-    ensures first { IfOk result (λ behind.
-        AreFirst (F.first plan) plan.roots plan.links plan.words behind.items) }
-{
-    let row = plan.links + plan.words;
-    let mut behind = vec![in alloc; 0u64; FIRST + row * plan.nodes]?;
-    for root in 0..plan.roots {
-        store_root::<F>(
-            &mut behind,
-            plan,
-            root,
-            place_of(row, plan.nodes, root, plan.links),
-        );
-    }
-    Ok(behind)
-}
 
 /// How many callbacks may be queued: so many that no program queues them all.
 const MOST: u64 = 1 << 62;
@@ -105,7 +65,7 @@ impl<F: Shape> Graph<F> {
         ensures fault { IsSized plan →
             tested_opening result ≡ opening_refusal LEAF FAN cpus last }
         ensures dealt { IfOk result (λ opened. AreDealt cpus last (2 ^ 62)
-            (first_place + (plan.links + plan.words) * plan.nodes) 0 (of_plan plan Idle)
+            (first_place + (plan.links + plan.words) * plan.nodes) (of_plan plan Idle)
             opened.graph opened.seats.items opened.watchers.items) }
         ensures plan { IfOk result (λ opened. opened.graph.plan ≡ plan) }
         ensures live { IfOk result (λ opened. opened.live ≡ opened.graph) }
@@ -147,7 +107,7 @@ impl<F: Shape> Graph<F> {
         ensures fault { IsSized plan →
             tested_opening result ≡ opening_refusal LEAF FAN cpus last }
         ensures dealt { IfOk result (λ opened. AreDealt cpus last (2 ^ 62)
-            (first_place + (plan.links + plan.words) * plan.nodes) 0 (of_plan plan Idle)
+            (first_place + (plan.links + plan.words) * plan.nodes) (of_plan plan Idle)
             opened.graph opened.seats.items opened.watchers.items) }
         ensures plan { IfOk result (λ opened. opened.graph.plan ≡ plan) }
         ensures engine { IfOk result (λ opened. opened.live ≡ engine_at_first
@@ -159,26 +119,18 @@ impl<F: Shape> Graph<F> {
         if !plan.is_sized() {
             return Err(NotOpened::BadSizes);
         }
-        check_size::<LEAF, FAN>(cpus, last)?;
-        let Ok(behind) = first_words::<F>(alloc, plan) else {
-            return Err(NotOpened::Fault(Fault::NoMemory));
-        };
         let Parts {
             board,
             engine,
             seats,
             watchers,
             mut own,
-        } = Parts::<LEAF, FAN, T, GraphRule<F>>::open_for(
-            alloc,
-            cpus,
-            last,
-            MOST,
+        } = Parts::<LEAF, FAN, T, GraphRule<F>>::open_for(alloc, cpus, last, MOST, plan)?;
+        let graph = Graph {
+            board,
             plan,
-            behind.as_slice(),
-            Vec::new(alloc),
-        )?;
-        let graph = Graph { board, plan };
+            base: 0,
+        };
         graph.claim(&mut own);
         Ok(Opened {
             live: engine,

@@ -1,9 +1,12 @@
 //! The rule of a graph, as a client of the running engine, and its kinds of step.
 ghost use Rattle.std.specs.Prelude.{List, ℕ};
 
+use crate::first_words::first_words;
 use crate::known::Planned;
+use crate::places::FIRST;
 use crate::plan::Plan;
-use rcu_live::{Client, CpuSeat, Live, NumberStep, Watcher, WordStep};
+use rcu_live::{Alone, Client, CpuSeat, Live, NumberStep, Watcher, Within, WordStep};
+use std::alloc::{AllocError, Global};
 use std::marker::PhantomData;
 
 /// A user's facts on the nodes of a graph of a plan: what the words of one in use satisfy, which
@@ -34,11 +37,11 @@ pub struct GraphRule<F> {
 impl<F: Shape> Client for GraphRule<F> {
     type Plan = Plan;
 
-    type Slot = ();
-
     type Known = Planned;
 
-    ghost use Rattle.rcu_graph.specs.Nodes.{closed};
+    ghost use Rattle.std.specs.Prelude.{◌+◌, ◌*◌};
+    ghost use Rattle.rcu_graph.specs.Nodes.{closed, first_place};
+    ghost use Rattle.rcu_graph.specs.Opening.{AreWhole, IsSized};
     ghost use Rattle.rcu_graph.specs.Planned.{IsKeptBy, knowing, of_plan};
     ghost use Rattle.rcu_graph.specs.Planned.{planned_is_stable};
     ghost use Rattle.rcu_graph.specs.Stability.{is_stable};
@@ -52,7 +55,19 @@ impl<F: Shape> Client for GraphRule<F> {
 
     ghost closed = { λ c. knowing c (closed c.known) };
 
-    fn mark() {}
+    ghost suits = { λ plan. IsSized plan × AreWhole (F.fits plan) (F.first plan) plan };
+
+    ghost size = { λ plan. first_place + (plan.links + plan.words) * plan.nodes };
+
+    fn count(plan: Plan) -> usize {
+        FIRST + (plan.links + plan.words) * plan.nodes
+    }
+
+    fn add_words(alloc: Global, plan: Plan, words: &mut Vec<u64>) -> Result<(), AllocError> {
+        let own = first_words::<F>(alloc, plan)?;
+        words.extend_from_slice(own.as_slice())?;
+        Ok(())
+    }
 
     ghost stable = { λ plan. planned_is_stable _ plan (λ _. Idle) closed
         (is_stable (F.fits plan) (F.joins plan) (F.first plan) plan.roots plan.links plan.words
@@ -62,11 +77,12 @@ impl<F: Shape> Client for GraphRule<F> {
 /// The engine of a graph, which threads share.
 pub type GraphEngine<const LEAF: u32, const FAN: u32, T, F> = Live<LEAF, FAN, T, GraphRule<F>>;
 
-/// A processor's seat of a graph's engine.
-pub type GraphSeat<F> = CpuSeat<GraphRule<F>>;
+/// A processor's seat of a graph's engine: the graph is its only client, or one of several, at this
+/// place.
+pub type GraphSeat<F, P = Alone> = CpuSeat<<P as Within<GraphRule<F>>>::Whole>;
 
 /// A watcher's seat of a graph's engine.
-pub type GraphWatcher<F> = Watcher<GraphRule<F>>;
+pub type GraphWatcher<F, P = Alone> = Watcher<<P as Within<GraphRule<F>>>::Whole>;
 
 /// Loads a link of a root, or of a node that the section holds: the section comes to the node that
 /// it leads to.

@@ -2,6 +2,7 @@
 //! does meanwhile.
 ghost use Rattle.std.specs.Prelude.{◌≡◌, ◌<◌, ◌+◌, ℕ, IfSome, List, slice_index};
 ghost use Rattle.rcu_live.specs.CpuSeat.{after_word_step};
+ghost use Rattle.rcu_live.specs.InPart.{seat_part};
 ghost use Rattle.rcu_graph.specs.Graph.{IsAt, IsWalking};
 ghost use Rattle.rcu_graph.specs.Nodes.{IsOn};
 ghost use Rattle.rcu_graph.specs.Opening.{row_of};
@@ -9,16 +10,17 @@ ghost use Rattle.rcu_graph.specs.Search.{Ascends, IsFound, IsSearched};
 
 use crate::graph::Graph;
 use crate::plan::Row;
-use crate::rule::{GraphSeat, Shape};
+use crate::rule::{GraphRule, GraphSeat, Shape};
+use rcu_live::Within;
 
-impl<F: Shape> Graph<F> {
+impl<F: Shape, P: Within<GraphRule<F>>> Graph<F, P> {
     /// The key of a node on which the section is.
-    fn key_of(&self, seat: &mut GraphSeat<F>, row: Row, node: usize) -> u64
+    fn key_of(&self, seat: &mut GraphSeat<F, P>, row: Row, node: usize) -> u64
         requires row { row ≡ row_of self.now.plan }
-        requires at { IsAt (F.first self.now.plan) self.now seat.old node }
+        requires at { IsAt (F.first self.now.plan) self.now (seat_part P.lens seat.old) node }
         ensures same { seat.new ≡ seat.old }
         ensures told { (words : List ℕ) → IsOn (F.first self.now.plan) self.now.plan.roots
-            seat.old.view.client.known node words →
+            (P.lens.get seat.old.view.client).known node words →
             result ≡ slice_index words 0 }
     {
         self.plan();
@@ -29,19 +31,21 @@ impl<F: Shape> Graph<F> {
     /// each node that it came to; the one that it returns has the key, and is whole. It returns
     /// none only where a hop led nowhere, or to a greater key. The row is as of
     /// [`follow`](Self::follow).
-    pub fn find(&self, seat: &mut GraphSeat<F>, row: Row, root: usize, key: u64) -> Option<usize>
+    pub fn find(&self, seat: &mut GraphSeat<F, P>, row: Row, root: usize, key: u64) -> Option<usize>
         requires row { row ≡ row_of self.now.plan }
-        requires walking { IsWalking self.now seat.old }
+        requires walking { IsWalking self.now (seat_part P.lens seat.old) }
         requires root { root < self.now.plan.roots }
         requires link { 0 < self.now.plan.links }
         requires ascends { Ascends (F.joins self.now.plan) 0 }
-        ensures same { seat.new ≡ after_word_step seat.old seat.new.view.client }
-        ensures walking { IsWalking self.now seat.new }
-        ensures searched { IsSearched root key seat.old.view.client.known result
-            seat.new.view.client.known }
+        ensures same { seat.new ≡ after_word_step seat.old
+            (P.lens.set seat.old.view.client (P.lens.get seat.new.view.client)) }
+        ensures walking { IsWalking self.now (seat_part P.lens seat.new) }
+        ensures searched { IsSearched root key (P.lens.get seat.old.view.client).known result
+            (P.lens.get seat.new.view.client).known }
         ensures found { IfSome result (λ node. IsFound (F.fits self.now.plan) key
-            seat.new.view.client.known node) }
-        ensures on { IfSome result (λ node. IsAt (F.first self.now.plan) self.now seat.new node) }
+            (P.lens.get seat.new.view.client).known node) }
+        ensures on { IfSome result (λ node.
+            IsAt (F.first self.now.plan) self.now (seat_part P.lens seat.new) node) }
     {
         self.plan();
         let mut on = root;

@@ -7,7 +7,7 @@ use mathlib.Core.Option.{some, some-injective, some-ne-none}
 use lib.ListN.{get_elem?}
 use Rattle.atomic_table.specs.Table.{State}
 use Rattle.rcu_seq.specs.Numbers.{Number}
-use Rattle.rcu_live.specs.Client.{AreLone, AreOpen, Slots, Views, ClientView}
+use Rattle.rcu_live.specs.Client.{AreLone, AreOpen, Views, ClientView}
 use Rattle.rcu_live.specs.Numbers.{is_open_at, is_past}
 use Rattle.rcu_live.specs.Rule.{Fits, IsKept}
 use Rattle.rcu_live.specs.View.{if_cpu, client_view}
@@ -41,9 +41,9 @@ at_map_back f (x ∷ xs) (suc j) b e = at_map_back f xs j b e
 the_same : {a b : ℕ} → Some a ≡ Some b → a ≡ b
 the_same e = cc
 
-module _ {S C : Type 0} (holds : List ℕ → Slots S → Views C → Type 0) where
+module _ {C : Type 0} (holds : List ℕ → Views C → Type 0) where
   -- what is open now may be open at the number
-  pub are_open : (cpus : ℕ) (s : State S (View C)) → IsKept holds cpus s
+  pub are_open : (cpus : ℕ) (s : State (Unit {0}) (View C)) → IsKept holds cpus s
       → AreOpen (get_or s.words 0 0) (map client_view s.views)
   are_open cpus s k id at cpu c e =
       let t = at_map_back client_view s.views id (cpu, Some at, c) e in
@@ -55,7 +55,8 @@ module _ {S C : Type 0} (holds : List ℕ → Slots S → Views C → Type 0) wh
       let began : at ≤ v.seen = sound.to_seen at p.1 in
       open_at (get_or s.words 0 0) at (omega (arith, seen, began)) (sound.current at p.1)
 
-  owner_is : (cpus : ℕ) (s : State S (View C)) (k : IsKept holds cpus s) (i cpu : ℕ) (o : Option ℕ)
+  owner_is : (cpus : ℕ) (s : State (Unit {0}) (View C)) (k : IsKept holds cpus s) (i cpu : ℕ)
+      (o : Option ℕ)
       (c : C)
       → get_elem? (map client_view s.views) i ≡ some (Some cpu, o, c)
       → k.owner cpu ≡ i
@@ -67,7 +68,7 @@ module _ {S C : Type 0} (holds : List ℕ → Slots S → Views C → Type 0) wh
       ap k.owner (sym (the_same r.1)) ∙ f.own r.0
 
   -- a processor has one seat
-  pub are_lone : (cpus : ℕ) (s : State S (View C)) → IsKept holds cpus s
+  pub are_lone : (cpus : ℕ) (s : State (Unit {0}) (View C)) → IsKept holds cpus s
       → AreLone (map client_view s.views)
   are_lone cpus s k i j cpu o p c d e f =
       sym (owner_is cpus s k i cpu o c e) ∙ owner_is cpus s k j cpu p d f

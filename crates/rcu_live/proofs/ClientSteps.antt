@@ -9,10 +9,12 @@ use lib.ListN.{get_elem?}
 use lib.Seq.{map-set}
 use Rattle.atomic_table.specs.Table.{Me, keeps, Allows, Splits}
 use Rattle.atomic_table.proofs.Lists.{at_map, at_set}
-use Rattle.rcu_live.specs.Client.{Slots, IsStable, Views, AllowsNumber, ClientView, AllowsWord}
+use Rattle.rcu_live.specs.Client.{IsStable, Views, AllowsNumber, ClientView, AllowsWord}
 use Rattle.rcu_live.specs.Rule.{Fits, IsKept, IsSound}
-use Rattle.rcu_live.specs.View.{IsOfEngine, SteppedOnNumber, SteppedOnWord, after_hand, after_load}
-use Rattle.rcu_live.specs.View.{handed_seat, if_cpu, client_view, with_client}
+use Rattle.rcu_live.specs.Several.{IsPart, Lens}
+use Rattle.rcu_live.specs.View.{IsOfEngine, IsOfWatcher, SteppedOnNumber, SteppedOnWord, after_hand}
+use Rattle.rcu_live.specs.View.{after_load, client_view, handed_seat, if_cpu, watcher_seat}
+use Rattle.rcu_live.specs.View.{with_client}
 use Rattle.rcu_live.specs.Words.{base_of, own_word_index}
 use Rattle.rcu_live.specs.declared.view.Role.{Role}
 use Rattle.rcu_live.specs.declared.view.Role.TheVariants.{Cpu, Watcher}
@@ -26,7 +28,7 @@ use Rattle.rcu_live.proofs.Loads.{load_fits}
 abbrev client_view_of : {C : Type 0} → Role → ℕ → Option ℕ → C → ClientView C
 client_view_of role cpu section c = (if_cpu role (Some cpu), if_cpu role section, c)
 
-module _ {S C : Type 0} (holds : List ℕ → Slots S → Views C → Type 0) where
+module _ {C : Type 0} (holds : List ℕ → Views C → Type 0) where
   -- a seat fits where the engine's words are as before
   fits_still : (cpus : ℕ) (words new : List ℕ) (owner : ℕ → ℕ) (engine : ℕ)
       (own_word_loads : List (ℕ × ℕ)) (id : ℕ) (v : View C)
@@ -84,7 +86,7 @@ module _ {S C : Type 0} (holds : List ℕ → Slots S → Views C → Type 0) wh
       subst (λ (y : ℕ). 0 < y) (sym (same (own_word_index 0) (omega arith))) boot
 
   -- a step on the client's word p
-  steps_on_own_place : (cpus slots id p : ℕ) (me : Me S (View C)) (change : ℕ → ℕ)
+  steps_on_own_place : (cpus slots id p : ℕ) (me : Me (Unit {0}) (View C)) (change : ℕ → ℕ)
       (tells : ℕ → C → ℕ → C → Type 0)
       → 0 < cpus
       → AllowsWord holds (if_cpu me.0.role (Some me.0.cpu)) (if_cpu me.0.role me.0.section)
@@ -97,7 +99,7 @@ module _ {S C : Type 0} (holds : List ℕ → Slots S → Views C → Type 0) wh
       let rest : List ℕ = drop (base_of cpus) s.words in
       let found : get_or rest p 0 ≡ get_or s.words here 0 =
       get_or-drop (base_of cpus) s.words p 0 in
-      let u = allowed (get_or s.words 0 0) rest s.homes (map client_view s.views) id k.client
+      let u = allowed (get_or s.words 0 0) rest (map client_view s.views) id k.client
       (are_open holds cpus s k) (are_lone holds cpus s k) (at_map client_view s.views id v at) in
       let w : View C = with_client v u.0 in
       let x : ℕ = change (get_or s.words here 0) in
@@ -107,8 +109,8 @@ module _ {S C : Type 0} (holds : List ℕ → Slots S → Views C → Type 0) wh
       let number : get_or new 0 0 ≡ get_or s.words 0 0 = same 0 (omega arith) in
       let room : base_of cpus ≤ length s.words = k.room in
       let f : Fits cpus s.words k.owner k.engine k.own_word_loads id v = k.fits id v at in
-      let client : holds (drop (base_of cpus) new) s.homes (map client_view (set s.views id w)) =
-      subst (λ (y : List ℕ × Views C). holds y.0 s.homes y.1)
+      let client : holds (drop (base_of cpus) new) (map client_view (set s.views id w)) =
+      subst (λ (y : List ℕ × Views C). holds y.0 y.1)
       (λ i. (
         sym
             (drop-set-add (base_of cpus) s.words p x
@@ -122,7 +124,7 @@ module _ {S C : Type 0} (holds : List ℕ → Slots S → Views C → Type 0) wh
         w,
         keeps,
         tt,
-        changed holds cpus s k id w new s.homes k.own_word_loads
+        changed holds cpus s k id w new k.own_word_loads
             (rw (length-set s.words here x) room) (rw number k.number) boot
             (λ j o apart h.
             fits_still cpus s.words new k.owner k.engine k.own_word_loads j o same h)
@@ -140,7 +142,7 @@ module _ {S C : Type 0} (holds : List ℕ → Slots S → Views C → Type 0) wh
       )
 
   -- the same at a place that is the word's, of a table whose key is the number of processors
-  pub steps_on_word : (key cpus slots id p at : ℕ) (me : Me S (View C)) (change : ℕ → ℕ)
+  pub steps_on_word : (key cpus slots id p at : ℕ) (me : Me (Unit {0}) (View C)) (change : ℕ → ℕ)
       (tells : ℕ → C → ℕ → C → Type 0)
       → key ≡ cpus
       → 0 < cpus
@@ -156,7 +158,7 @@ module _ {S C : Type 0} (holds : List ℕ → Slots S → Views C → Type 0) wh
       (steps_on_own_place cpus slots id p me change tells any allowed)
 
   -- a store, of which the word is told that it stores
-  pub stores_client_word : (key cpus slots id p at x : ℕ) (me : Me S (View C))
+  pub stores_client_word : (key cpus slots id p at x : ℕ) (me : Me (Unit {0}) (View C))
       (tells : ℕ → C → ℕ → C → Type 0)
       → key ≡ cpus
       → 0 < cpus
@@ -170,7 +172,8 @@ module _ {S C : Type 0} (holds : List ℕ → Slots S → Views C → Type 0) wh
       allowed s k size here small
 
   -- a look at the number
-  pub steps_on_number : (cpus slots id : ℕ) (me : Me S (View C)) (tells : C → ℕ → C → Type 0)
+  pub steps_on_number : (cpus slots id : ℕ) (me : Me (Unit {0}) (View C))
+      (tells : C → ℕ → C → Type 0)
       → AllowsNumber holds (if_cpu me.0.role (Some me.0.cpu)) (if_cpu me.0.role me.0.section)
       me.0.client (tells me.0.client)
       → Allows (IsKept holds cpus) slots id me 0 (λ n. n)
@@ -179,12 +182,12 @@ module _ {S C : Type 0} (holds : List ℕ → Slots S → Views C → Type 0) wh
       let v : View C = me.0 in
       let n : ℕ = get_or s.words 0 0 in
       let f : Fits cpus s.words k.owner k.engine k.own_word_loads id v = k.fits id v at in
-      let u = allowed n (drop (base_of cpus) s.words) s.homes (map client_view s.views) id k.client
+      let u = allowed n (drop (base_of cpus) s.words) (map client_view s.views) id k.client
       (are_open holds cpus s k) (are_lone holds cpus s k) (at_map client_view s.views id v at) in
       let w : View C = with_client (after_load v n) u.0 in
-      let client : holds (drop (base_of cpus) s.words) s.homes
+      let client : holds (drop (base_of cpus) s.words)
       (map client_view (set s.views id w)) =
-      subst (λ (xs : Views C). holds (drop (base_of cpus) s.words) s.homes xs)
+      subst (λ (xs : Views C). holds (drop (base_of cpus) s.words) xs)
       (sym (map-set client_view s.views id w)) u.1 in (
         w,
         keeps,
@@ -196,27 +199,26 @@ module _ {S C : Type 0} (holds : List ℕ → Slots S → Views C → Type 0) wh
         ((refl, f.seen, k.number, u.2), refl),
       )
 
-  -- what the engine's seat knows of the client is handed over to a new seat
-  pub hands_over : (idle close : C → C)
-      → IsStable holds idle close → (cpus id : ℕ) (v : View C) → IsOfEngine v
-      → Splits (IsKept holds cpus) id v (after_hand (idle v.client) v) (handed_seat v)
-  hands_over idle close stable cpus id v engine s k at =
-      let left : View C = after_hand (idle v.client) v in
-      let new : View C = handed_seat v in
+  -- of what a seat of no processor knows of the client this goes to a new seat, and that is left
+  hands_on : (cpus id : ℕ) (v : View C) (left new : C)
+      → ((c : C) → client_view (with_client v c) ≡ (None, None, c))
+      → ((words : List ℕ) (xs : Views C) → holds words xs
+      → get_elem? xs id ≡ some (None, None, v.client)
+      → holds words (set xs id (None, None, left) ++ (None, None, new) ∷ []))
+      → Splits (IsKept holds cpus) id v (after_hand left v) (watcher_seat v.base new)
+  hands_on cpus id v left new shown goes s k at =
+      let here : View C = after_hand left v in
+      let more : View C = watcher_seat v.base new in
       let f : Fits cpus s.words k.owner k.engine k.own_word_loads id v = k.fits id v at in
-      let mine : Fits cpus s.words k.owner k.engine k.own_word_loads id left =
-      with_client_fits cpus s.words k.owner k.engine k.own_word_loads id v (idle v.client) f in
-      let was : client_view v ≡ (None, None, v.client) =
-      ap (λ (r : Role). client_view_of r v.cpu v.section v.client) engine in
-      let is : client_view left ≡ (None, None, idle v.client) =
-      ap (λ (r : Role). client_view_of r v.cpu v.section (idle v.client)) engine in
-      let after : map client_view (set s.views id left ++ new ∷ [])
-      ≡ set (map client_view s.views) id (None, None, idle v.client) ++ (None, None, v.client) ∷ []
+      let mine : Fits cpus s.words k.owner k.engine k.own_word_loads id here =
+      with_client_fits cpus s.words k.owner k.engine k.own_word_loads id v left f in
+      let after : map client_view (set s.views id here ++ more ∷ [])
+      ≡ set (map client_view s.views) id (None, None, left) ++ (None, None, new) ∷ []
       =
-      map-append client_view (set s.views id left) (new ∷ [])
-      ∙ ap (λ (xs : Views C). xs ++ (None, None, v.client) ∷ [])
-      (map-set client_view s.views id left
-      ∙ ap (λ (x : ClientView C). set (map client_view s.views) id x) is) in
+      map-append client_view (set s.views id here) (more ∷ [])
+      ∙ ap (λ (xs : Views C). xs ++ (None, None, new) ∷ [])
+      (map-set client_view s.views id here
+      ∙ ap (λ (x : ClientView C). set (map client_view s.views) id x) (shown left)) in
       record {
         room = k.room;
         number = k.number;
@@ -226,22 +228,45 @@ module _ {S C : Type 0} (holds : List ℕ → Slots S → Views C → Type 0) wh
         own_word_loads = k.own_word_loads;
         fits = λ j u e.
             ⊎_elim
-            (λ (was : get_elem? (set s.views id left) j ≡ some u).
+            (λ (was : get_elem? (set s.views id here) j ≡ some u).
             ⊎_elim
-            (λ (x : (j ≡ id) × (left ≡ u)).
+            (λ (x : (j ≡ id) × (here ≡ u)).
             subst (λ (y : ℕ × View C). Fits cpus s.words k.owner k.engine k.own_word_loads y.0 y.1)
             (λ i. (sym x.0 i, x.1 i)) mine)
             (λ (x : (j ≢ id) × (get_elem? s.views j ≡ some u)). k.fits j u x.1)
-            (at_set s.views id j left u was))
-            (λ (last : (j ≡ length (set s.views id left)) × (new ≡ u)).
+            (at_set s.views id j here u was))
+            (λ (last : (j ≡ length (set s.views id here)) × (more ≡ u)).
             subst (Fits cpus s.words k.owner k.engine k.own_word_loads j) last.1
-            (watcher_fits holds cpus s k j v.base v.client f.base))
-            (at_end (set s.views id left) new u j e);
-        client = subst (λ (xs : Views C). holds (drop (base_of cpus) s.words) s.homes xs)
+            (watcher_fits holds cpus s k j v.base new f.base))
+            (at_end (set s.views id here) more u j e);
+        client = subst (λ (xs : Views C). holds (drop (base_of cpus) s.words) xs)
             (sym after)
-            (stable.hands (drop (base_of cpus) s.words) s.homes (map client_view s.views) id
-            v.client k.client (at_map client_view s.views id v at ∙ ap some was));
+            (goes (drop (base_of cpus) s.words) (map client_view s.views) k.client
+            (at_map client_view s.views id v at ∙ ap some (shown v.client)));
       }
+
+  -- what the engine's seat knows of the client is handed over to a new seat
+  pub hands_over : (idle close : C → C)
+      → IsStable holds idle close → (cpus id : ℕ) (v : View C) → IsOfEngine v
+      → Splits (IsKept holds cpus) id v (after_hand (idle v.client) v) (handed_seat v)
+  hands_over idle close stable cpus id v engine =
+      hands_on cpus id v (idle v.client) v.client
+      (λ c. ap (λ (r : Role). client_view_of r v.cpu v.section c) engine)
+      (λ words xs h at. stable.hands words xs id v.client h at)
+
+  -- and what a watcher knows of a part of it
+  pub hands_part_over : {D : Type 0} (lens : Lens C D) (rule : List ℕ → Views D → Type 0)
+      (own : List ℕ → List ℕ) (base : ℕ) (idle : D → D) (idle_whole : C → C)
+      → IsPart lens holds rule own base idle idle_whole
+      → (cpus id : ℕ) (v : View C) → IsOfWatcher v
+      → Splits (IsKept holds cpus) id v
+      (after_hand (lens.set v.client (idle (lens.get v.client))) v)
+      (watcher_seat v.base (lens.set (idle_whole v.client) (lens.get v.client)))
+  hands_part_over lens rule own base idle idle_whole is cpus id v watcher =
+      hands_on cpus id v (lens.set v.client (idle (lens.get v.client)))
+      (lens.set (idle_whole v.client) (lens.get v.client))
+      (λ c. ap (λ (r : Role). client_view_of r v.cpu v.section c) watcher)
+      (λ words xs h at. is.hands words xs id v.client h at)
 
   -- a step of a processor's seat, and of a watcher's
   pub allows_word_of_cpu : (role : Role) (a cpu : ℕ) (section : Option ℕ) (c : C) (p : ℕ)

@@ -7,7 +7,7 @@ use mathlib.Core.Option.{some, some-injective, some-ne-none}
 use lib.ListN.{get_elem?}
 use Rattle.atomic_table.specs.Table.{State, Splits}
 use Rattle.atomic_table.proofs.Lists.{at_map, at_set, set_again}
-use Rattle.rcu_live.specs.Client.{Slots, IsStable, Views, ClientView}
+use Rattle.rcu_live.specs.Client.{IsStable, Views, ClientView}
 use Rattle.rcu_live.specs.Rule.{Fits, IsKept}
 use Rattle.rcu_live.specs.View.{after_deal, if_cpu, next_cpu_seat, client_view, watcher_seat}
 use Rattle.rcu_live.specs.Words.{base_of, first_own_word}
@@ -35,9 +35,9 @@ first_boot : (c : ℕ) → c ≡ 0 → 0 < first_own_word c
 first_boot zero e = omega arith
 first_boot (suc c) e = absurd (omega arith)
 
-module _ {S C : Type 0} (holds : List ℕ → Slots S → Views C → Type 0) where
+module _ {C : Type 0} (holds : List ℕ → Views C → Type 0) where
   -- a dealt seat, as the client sees it
-  dealt : (cpus : ℕ) (s : State S (View C))
+  dealt : (cpus : ℕ) (s : State (Unit {0}) (View C))
       → IsKept holds cpus s
       → (idle close : C → C)
       → IsStable holds idle close
@@ -45,7 +45,7 @@ module _ {S C : Type 0} (holds : List ℕ → Slots S → Views C → Type 0) wh
       → get_elem? s.views id ≡ some v
       → client_view w ≡ client_view v
       → client_view new ≡ (cpu, None, idle v.client)
-      → holds (drop (base_of cpus) s.words) s.homes (map client_view (set s.views id w ++ new ∷ []))
+      → holds (drop (base_of cpus) s.words) (map client_view (set s.views id w ++ new ∷ []))
   dealt cpus s k idle close stable id v w new cpu at same is =
       let after : map client_view (set s.views id w ++ new ∷ [])
       ≡ map client_view s.views ++ (cpu, None, idle v.client) ∷ [] =
@@ -53,13 +53,14 @@ module _ {S C : Type 0} (holds : List ℕ → Slots S → Views C → Type 0) wh
       ∙ (ap (λ (x : ClientView C). map client_view (set s.views id w) ++ x ∷ []) is
       ∙ ap (λ (xs : Views C). xs ++ (cpu, None, idle v.client) ∷ [])
       (same_views s.views id v w at same)) in
-      subst (λ (xs : Views C). holds (drop (base_of cpus) s.words) s.homes xs) (sym after)
-      (stable.deals (drop (base_of cpus) s.words) s.homes (map client_view s.views) id
+      subst (λ (xs : Views C). holds (drop (base_of cpus) s.words) xs) (sym after)
+      (stable.deals (drop (base_of cpus) s.words) (map client_view s.views) id
       (if_cpu v.role (Some v.cpu)) (if_cpu v.role v.section) v.client cpu k.client
       (at_map client_view s.views id v at))
 
   -- a watcher's seat fits, whatever it knows of the client
-  pub watcher_fits : (cpus : ℕ) (s : State S (View C)) (k : IsKept holds cpus s) (j base : ℕ)
+  pub watcher_fits : (cpus : ℕ) (s : State (Unit {0}) (View C)) (k : IsKept holds cpus s)
+      (j base : ℕ)
       (c : C)
       → base ≡ base_of cpus
       → Fits cpus s.words k.owner k.engine k.own_word_loads j (watcher_seat base c)

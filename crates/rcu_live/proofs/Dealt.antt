@@ -11,14 +11,14 @@ use Rattle.rcu_live.specs.Words.{base_of}
 use Rattle.rcu_live.proofs.RowLemmas.{each_made}
 
 -- a seat and a watcher a processor, as they are at first
-pub are_dealt : {C P : Type 0} (cpus : ℕ) (last : Number) (most behind slots : ℕ) (idle : C)
+pub are_dealt : {C P : Type 0} (cpus : ℕ) (last : Number) (most behind : ℕ) (idle : C)
     (engine : Object P) (seats : List (Seated C)) (watchers : List (Watching C))
-    → IsSized cpus last most behind slots engine
+    → IsSized cpus last most behind engine
     → seats ≡ map (at_first engine.table (base_of cpus) idle) (range_with_len 0 cpus)
     → watchers
     ≡ map (λ _. watcher_at_first engine.table (base_of cpus) idle) (range_with_len 0 cpus)
-    → AreDealt cpus last most behind slots idle engine seats watchers
-are_dealt {C} cpus last most behind slots idle engine seats watchers size s w = record {
+    → AreDealt cpus last most behind idle engine seats watchers
+are_dealt {C} cpus last most behind idle engine seats watchers size s w = record {
   size = size;
   each_seat = s;
   each_watcher = w;
@@ -27,9 +27,9 @@ are_dealt {C} cpus last most behind slots idle engine seats watchers size s w = 
   seats_read = each_made _ _ _ (λ (seat : Seated C). seat.table ≡ engine.table) s (λ cpu. refl);
   watchers_read =
       each_made _ _ _ (λ (watcher : Watching C). watcher.table ≡ engine.table) w (λ cpu. refl);
-  are_seats = each_made _ _ _ (IsSeatOf engine) s (λ cpu. (refl, ap base_of (sym size.count)));
+  are_seats = each_made _ _ _ (IsSeatOf engine) s (λ cpu. (refl, sym size.base));
   are_watchers =
-      each_made _ _ _ (IsWatcherOf engine) w (λ cpu. (refl, ap base_of (sym size.count)));
+      each_made _ _ _ (IsWatcherOf engine) w (λ cpu. (refl, sym size.base));
   outside = each_made _ _ _ (λ (seat : Seated C). seat.depth ≡ 0) s (λ cpu. refl);
   know = each_made _ _ _ (λ (seat : Seated C). seat.view.client ≡ idle) s (λ cpu. refl);
 }

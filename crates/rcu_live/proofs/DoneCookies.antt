@@ -7,7 +7,7 @@ use lib.ListN.{get_elem?}
 use Rattle.atomic_table.specs.Table.{State}
 use Rattle.rcu_seq.specs.Numbers.{Number}
 use Rattle.rcu_seq.specs.Tags.{cookie_at, is_done_first, of_first_epoch}
-use Rattle.rcu_live.specs.Client.{Slots, Views}
+use Rattle.rcu_live.specs.Client.{Views}
 use Rattle.rcu_live.specs.Numbers.{is_past}
 use Rattle.rcu_live.specs.Rule.{Fits, IsKept}
 use Rattle.rcu_live.specs.declared.view.Role.TheVariants.{Cpu}
@@ -18,8 +18,8 @@ taken_late : (at taken polled : Number) → is_past at polled ≡ false → at �
     → is_done_first (cookie_at (of_first_epoch taken)) polled ≡ false
 taken_late at taken polled current up = grind (arith, nat_tests)
 
-pub not_done_while_open : {S C : Type 0} (holds : List ℕ → Slots S → Views C → Type 0) (cpus : ℕ)
-    (s t : State S (View C)) (i j : ℕ) (v w : View C) (at : Number)
+pub not_done_while_open : {C : Type 0} (holds : List ℕ → Views C → Type 0) (cpus : ℕ)
+    (s t : State (Unit {0}) (View C)) (i j : ℕ) (v w : View C) (at : Number)
     → IsKept holds cpus s
     → IsKept holds cpus t
     → get_elem? s.views i ≡ some v

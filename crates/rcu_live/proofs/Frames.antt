@@ -8,7 +8,7 @@ use lib.ListN.{get_elem?}
 use lib.Seq.{map-set}
 use Rattle.atomic_table.specs.Table.{State}
 use Rattle.atomic_table.proofs.Lists.{at_set, set_again, at_map}
-use Rattle.rcu_live.specs.Client.{Slots, Views, ClientView}
+use Rattle.rcu_live.specs.Client.{Views, ClientView}
 use Rattle.rcu_live.specs.Numbers.{is_number_word}
 use Rattle.rcu_live.specs.Rule.{Fits, IsKept}
 use Rattle.rcu_live.specs.View.{client_view}
@@ -25,33 +25,34 @@ same_views {C} views id v w at same =
     ∙ (ap (λ (x : ClientView C). set (map client_view views) id x) same
     ∙ set_again (map client_view views) id (client_view v) (at_map client_view views id v at))
 
-module _ {S C : Type 0} (holds : List ℕ → Slots S → Views C → Type 0) where
+module _ {C : Type 0} (holds : List ℕ → Views C → Type 0) where
   -- the client sees nothing of a step that leaves its words, and what is shown of the seat
-  pub unseen : (cpus : ℕ) (s : State S (View C))
+  pub unseen : (cpus : ℕ) (s : State (Unit {0}) (View C))
       → IsKept holds cpus s
       → (id : ℕ) (v w : View C) (words : List ℕ)
       → get_elem? s.views id ≡ some v
       → client_view w ≡ client_view v
       → drop (base_of cpus) words ≡ drop (base_of cpus) s.words
-      → holds (drop (base_of cpus) words) s.homes (map client_view (set s.views id w))
+      → holds (drop (base_of cpus) words) (map client_view (set s.views id w))
   unseen cpus s k id v w words at same rest =
       let back = same_views s.views id v w at same in
-      subst (λ (y : List ℕ × Views C). holds y.0 s.homes y.1) (λ i. (sym rest i, sym back i))
+      subst (λ (y : List ℕ × Views C). holds y.0 y.1) (λ i. (sym rest i, sym back i))
       k.client
 
   -- one view changes, and words do: the rule is kept where the others fit as before, the changed
   -- one fits, and the client's rule is kept
-  pub changed : (cpus : ℕ) (s : State S (View C)) (k : IsKept holds cpus s) (id : ℕ) (w : View C)
-      (words : List ℕ) (homes : Slots S) (own_word_loads : List (ℕ × ℕ))
+  pub changed : (cpus : ℕ) (s : State (Unit {0}) (View C)) (k : IsKept holds cpus s) (id : ℕ)
+      (w : View C)
+      (words : List ℕ) (own_word_loads : List (ℕ × ℕ))
       → base_of cpus ≤ length words
       → is_number_word (slice_index words 0) ≡ true
       → 0 < slice_index words (own_word_index 0)
       → ((j : ℕ) (u : View C) → j ≢ id → Fits cpus s.words k.owner k.engine k.own_word_loads j u
       → Fits cpus words k.owner k.engine own_word_loads j u)
       → Fits cpus words k.owner k.engine own_word_loads id w
-      → holds (drop (base_of cpus) words) homes (map client_view (set s.views id w))
-      → IsKept holds cpus record { words = words; homes = homes; views = set s.views id w }
-  changed cpus s k id w words homes own_word_loads room number boot others mine client = record {
+      → holds (drop (base_of cpus) words) (map client_view (set s.views id w))
+      → IsKept holds cpus record { words = words; homes = s.homes; views = set s.views id w }
+  changed cpus s k id w words own_word_loads room number boot others mine client = record {
     room = room;
     number = number;
     boot = boot;
@@ -69,15 +70,15 @@ module _ {S C : Type 0} (holds : List ℕ → Slots S → Views C → Type 0) wh
   }
 
   -- a load: no word changes
-  pub unchanged : (cpus : ℕ) (s : State S (View C)) (k : IsKept holds cpus s) (id at : ℕ)
+  pub unchanged : (cpus : ℕ) (s : State (Unit {0}) (View C)) (k : IsKept holds cpus s) (id at : ℕ)
       (w : View C)
       → Fits cpus s.words k.owner k.engine k.own_word_loads id w
-      → holds (drop (base_of cpus) s.words) s.homes (map client_view (set s.views id w))
+      → holds (drop (base_of cpus) s.words) (map client_view (set s.views id w))
       → IsKept holds cpus record
       { words = set s.words at (get_or s.words at 0); homes = s.homes; views = set s.views id w }
   unchanged cpus s k id at w mine client =
       subst (λ (words : List ℕ).
       IsKept holds cpus record { words = words; homes = s.homes; views = set s.views id w })
       (sym (set-get_or s.words at 0))
-      (changed cpus s k id w s.words s.homes k.own_word_loads k.room k.number k.boot
+      (changed cpus s k id w s.words k.own_word_loads k.room k.number k.boot
       (λ j u apart f. f) mine client)

@@ -13,6 +13,7 @@ pub mod OwnWordLoads
 pub mod LoadedWords
 pub mod Frames
 pub mod HeardBelow
+pub mod InPart
 pub mod ListRuns
 pub mod Loads
 pub mod Meetings
@@ -22,6 +23,7 @@ pub mod OldSections
 pub mod Openings
 pub mod Reports
 pub mod RowLemmas
+pub mod Several
 pub mod Stores
 pub mod Turns
 pub mod WaitLemmas

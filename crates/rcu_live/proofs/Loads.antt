@@ -6,7 +6,7 @@ use lib.ListN.{get_elem?}
 use lib.Seq.{map-set}
 use Rattle.atomic_table.specs.Table.{State, Me, keeps, Allows}
 use Rattle.atomic_table.proofs.Lists.{at_map}
-use Rattle.rcu_live.specs.Client.{Slots, IsStable, Views, ClientView}
+use Rattle.rcu_live.specs.Client.{IsStable, Views, ClientView}
 use Rattle.rcu_live.specs.Numbers.{may_open}
 use Rattle.rcu_live.specs.Rule.{Fits, IsKept, IsSound}
 use Rattle.rcu_live.specs.View.{Closed, Loaded, Opened, after_close, after_load, after_open, if_cpu}
@@ -28,7 +28,7 @@ none_shown Engine = refl
 the_same : {a b : ℕ} → Some a ≡ Some b → b ≡ a
 the_same e = cc
 
-module _ {S C : Type 0} (holds : List ℕ → Slots S → Views C → Type 0) where
+module _ {C : Type 0} (holds : List ℕ → Views C → Type 0) where
   -- a seat that saw the number fits, where it did before, and where what it has of a section holds
   seen_fits : (cpus : ℕ) (words : List ℕ) (owner : ℕ → ℕ) (engine : ℕ)
       (own_word_loads : List (ℕ × ℕ)) (id : ℕ) (v w : View C)
@@ -56,7 +56,8 @@ module _ {S C : Type 0} (holds : List ℕ → Slots S → Views C → Type 0) wh
       }
 
   -- a seat fits after a number load
-  pub load_fits : (cpus : ℕ) (s : State S (View C)) (k : IsKept holds cpus s) (id : ℕ) (v : View C)
+  pub load_fits : (cpus : ℕ) (s : State (Unit {0}) (View C)) (k : IsKept holds cpus s) (id : ℕ)
+      (v : View C)
       → get_elem? s.views id ≡ some v
       → Fits cpus s.words k.owner k.engine k.own_word_loads id (after_load v (get_or s.words 0 0))
   load_fits cpus s k id v at =
@@ -79,7 +80,7 @@ module _ {S C : Type 0} (holds : List ℕ → Slots S → Views C → Type 0) wh
       sound
 
   -- number load
-  pub loads : (cpus slots id : ℕ) (me : Me S (View C))
+  pub loads : (cpus slots id : ℕ) (me : Me (Unit {0}) (View C))
       → Allows (IsKept holds cpus) slots id me 0 (λ n. n) (λ n m. Loaded me.0 n m.0 × (m.1 ≡ me.1))
   loads cpus slots id me s k _ at _ =
       let n : ℕ = get_or s.words 0 0 in
@@ -106,7 +107,7 @@ module _ {S C : Type 0} (holds : List ℕ → Slots S → Views C → Type 0) wh
   -- section-opening load
   pub opens : (idle close : C → C)
       → IsStable holds idle close
-      → (cpus slots id : ℕ) (me : Me S (View C))
+      → (cpus slots id : ℕ) (me : Me (Unit {0}) (View C))
       → me.0.role ≡ Cpu
       → may_open me.0.own_word ≡ true
       → me.0.section ≡ None
@@ -141,10 +142,10 @@ module _ {S C : Type 0} (holds : List ℕ → Slots S → Views C → Type 0) wh
       ≡ set (map client_view s.views) id (one, Some n, v.client) =
       map-set client_view s.views id w
       ∙ ap (λ (x : ClientView C). set (map client_view s.views) id x) now in
-      let client : holds (drop (base_of cpus) s.words) s.homes
+      let client : holds (drop (base_of cpus) s.words)
       (map client_view (set s.views id w)) =
-      subst (λ (xs : Views C). holds (drop (base_of cpus) s.words) s.homes xs) (sym after)
-      (stable.opens (drop (base_of cpus) s.words) s.homes (map client_view s.views) id n one
+      subst (λ (xs : Views C). holds (drop (base_of cpus) s.words) xs) (sym after)
+      (stable.opens (drop (base_of cpus) s.words) (map client_view s.views) id n one
       v.client k.client (at_map client_view s.views id v at ∙ ap some was)) in (
         w,
         keeps,
@@ -156,7 +157,7 @@ module _ {S C : Type 0} (holds : List ℕ → Slots S → Views C → Type 0) wh
   -- section-closing load
   pub closes : (idle close : C → C)
       → IsStable holds idle close
-      → (cpus slots id : ℕ) (me : Me S (View C))
+      → (cpus slots id : ℕ) (me : Me (Unit {0}) (View C))
       → Allows (IsKept holds cpus) slots id me 0 (λ n. n)
       (λ n m. Closed close me.0 n m.0 × (m.1 ≡ me.1))
   closes idle close stable cpus slots id me s k _ at _ =
@@ -186,10 +187,10 @@ module _ {S C : Type 0} (holds : List ℕ → Slots S → Views C → Type 0) wh
       ≡ set (map client_view s.views) id (one, None, close v.client) =
       map-set client_view s.views id w
       ∙ ap (λ (x : ClientView C). set (map client_view s.views) id x) now in
-      let client : holds (drop (base_of cpus) s.words) s.homes
+      let client : holds (drop (base_of cpus) s.words)
       (map client_view (set s.views id w)) =
-      subst (λ (xs : Views C). holds (drop (base_of cpus) s.words) s.homes xs) (sym after)
-      (stable.closes (drop (base_of cpus) s.words) s.homes (map client_view s.views) id one
+      subst (λ (xs : Views C). holds (drop (base_of cpus) s.words) xs) (sym after)
+      (stable.closes (drop (base_of cpus) s.words) (map client_view s.views) id one
       (if_cpu v.role v.section) v.client k.client (at_map client_view s.views id v at)) in (
         w,
         keeps,

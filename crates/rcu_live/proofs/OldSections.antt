@@ -10,15 +10,15 @@ use Rattle.rcu_seq.specs.Seq.{number_of}
 use Rattle.rcu_node.specs.CpuSet.{is_in}
 use Rattle.rcu_state.specs.GpState.{Grace}
 use Rattle.rcu_state.proofs.Periods.{running_number}
-use Rattle.rcu_live.specs.Client.{Slots, Views}
+use Rattle.rcu_live.specs.Client.{Views}
 use Rattle.rcu_live.specs.Engine.{AwaitsTheOthers}
 use Rattle.rcu_live.specs.Rule.{Fits, IsKept, is_cleared}
 use Rattle.rcu_live.specs.View.{IsOfEngine}
 use Rattle.rcu_live.specs.declared.view.Role.TheVariants.{Cpu}
 use Rattle.rcu_live.specs.declared.view.View.{View}
 
-pub old_awaited : {S C X : Type 0} (holds : List ℕ → Slots S → Views C → Type 0) (cpus : ℕ)
-    (s : State S (View C)) (i j : ℕ) (e v : View C) (g : Grace X) (at : Number)
+pub old_awaited : {C X : Type 0} (holds : List ℕ → Views C → Type 0) (cpus : ℕ)
+    (s : State (Unit {0}) (View C)) (i j : ℕ) (e v : View C) (g : Grace X) (at : Number)
     → IsKept holds cpus s
     → get_elem? s.views i ≡ some e
     → IsOfEngine e

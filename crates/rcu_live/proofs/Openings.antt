@@ -1,13 +1,13 @@
 -- The rule at the opening: one seat, the engine's, which has all parts.
 use Rattle.std.proofs.Common.{◌≡◌, ℕ, zero, suc, ◌+◌, ◌<◌, ◌≤◌, List, [], ◌∷◌, ◌++◌, None, length}
-use Rattle.std.proofs.Common.{get_or, map, drop, replicate, true, refl, sym, ap, ◌∙◌, subst, arith}
+use Rattle.std.proofs.Common.{get_or, drop, replicate, true, refl, sym, ap, ◌∙◌, subst, arith}
 use Rattle.std.proofs.Common.{length-append, length-set}
 use Rattle.std.proofs.lemmas.List.{get_or-replicate, get_or-set_other, get_or-set_same}
 use Rattle.std.proofs.lemmas.List.{length-replicate}
 use mathlib.Core.Option.{some, some-injective, some-ne-none}
 use lib.ListN.{get_elem?}
 use Rattle.atomic_table.specs.Table.{opening}
-use Rattle.rcu_live.specs.Client.{Slots, Views}
+use Rattle.rcu_live.specs.Client.{Views}
 use Rattle.rcu_live.specs.Numbers.{is_number_word}
 use Rattle.rcu_live.specs.Rule.{Fits, IsKept}
 use Rattle.rcu_live.specs.View.{engine_seat}
@@ -54,10 +54,10 @@ word_at_first cpus (suc c) low =
 zero_is_number : (n : ℕ) → n ≡ 0 → is_number_word n ≡ true
 zero_is_number n e = rw e refl
 
-module _ {S C : Type 0} (holds : List ℕ → Slots S → Views C → Type 0) where
+module _ {C : Type 0} (holds : List ℕ → Views C → Type 0) where
   -- the rule at the start, with the client's words behind
-  pub starts : (cpus : ℕ) (behind : List ℕ) (slots : List S) (c : C) → 0 < cpus
-      → holds behind (map some slots) ((None, None, c) ∷ [])
+  pub starts : (cpus : ℕ) (behind : List ℕ) (slots : List (Unit {0})) (c : C) → 0 < cpus
+      → holds behind ((None, None, c) ∷ [])
       → IsKept holds cpus (opening (first_words cpus ++ behind) slots (engine_seat cpus 0 c))
   starts cpus behind slots c any client =
       let words : List ℕ = first_words cpus ++ behind in
@@ -89,7 +89,7 @@ module _ {S C : Type 0} (holds : List ℕ → Slots S → Views C → Type 0) wh
         own_word_loads = [];
         fits = λ id v at. alone words id v at first;
         client =
-            subst (λ (l : List ℕ). holds l (map some slots) ((None, None, c) ∷ []))
+            subst (λ (l : List ℕ). holds l ((None, None, c) ∷ []))
             (sym (drop_front (base_of cpus) (first_words cpus) behind long)) client;
       }
     where

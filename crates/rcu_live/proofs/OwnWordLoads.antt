@@ -5,7 +5,7 @@ use Rattle.std.proofs.lemmas.Bool.{and_parts, or_cases}
 use Rattle.std.proofs.lemmas.Bool.Decides.{Decides-eqb, nat_tests}
 use Rattle.std.proofs.lemmas.List.{set-get_or}
 use Rattle.atomic_table.specs.Table.{Me, keeps, Allows}
-use Rattle.rcu_live.specs.Client.{Slots, Views}
+use Rattle.rcu_live.specs.Client.{Views}
 use Rattle.rcu_live.specs.Numbers.{may_open, reports_quiescence}
 use Rattle.rcu_live.specs.Rule.{Fits, IsKept, is_cleared}
 use Rattle.rcu_live.specs.View.{OwnWordLoaded, after_own_word_load}
@@ -38,9 +38,9 @@ still_young n at word own_word_loads cpu own_word p own found is any from old cl
     old
     (or_cases _ _ cleared)
 
-module _ {S C : Type 0} (holds : List ℕ → Slots S → Views C → Type 0) where
+module _ {C : Type 0} (holds : List ℕ → Views C → Type 0) where
   -- processor-word load
-  pub loads_own_word : (cpus slots id cpu : ℕ) (me : Me S (View C))
+  pub loads_own_word : (cpus slots id cpu : ℕ) (me : Me (Unit {0}) (View C))
       → me.0.role ≡ Engine
       → Allows (IsKept holds cpus) slots id me (own_word_index cpu) (λ n. n)
       (λ n m. OwnWordLoaded (own_word_index cpu) me.0 n m.0 × (m.1 ≡ me.1))
@@ -98,7 +98,7 @@ module _ {S C : Type 0} (holds : List ℕ → Slots S → Views C → Type 0) wh
         subst (λ (words : List ℕ).
             IsKept holds cpus record { words = words; homes = s.homes; views = set s.views id w })
             (sym (set-get_or s.words (own_word_index cpu) 0))
-            (changed holds cpus s k id w s.words s.homes now k.room k.number k.boot others mine
+            (changed holds cpus s k id w s.words now k.room k.number k.boot others mine
             (unseen holds cpus s k id v w s.words at refl refl)),
         (
           record {
@@ -110,7 +110,7 @@ module _ {S C : Type 0} (holds : List ℕ → Slots S → Views C → Type 0) wh
       )
 
   -- the same at a place that is the processor's
-  pub loads_own_word_at : (cpus slots id cpu at : ℕ) (me : Me S (View C))
+  pub loads_own_word_at : (cpus slots id cpu at : ℕ) (me : Me (Unit {0}) (View C))
       → me.0.role ≡ Engine
       → at ≡ own_word_index cpu
       → Allows (IsKept holds cpus) slots id me at (λ n. n)

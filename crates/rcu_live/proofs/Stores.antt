@@ -5,7 +5,7 @@ use Rattle.std.proofs.lemmas.List.{drop-set-lt, get_or-set_other, get_or-set_sam
 use mathlib.Core.Logic.{dite}
 use native.Mathlib.Decide.{ℕ_discrete}
 use Rattle.atomic_table.specs.Table.{State, Me, keeps, Allows}
-use Rattle.rcu_live.specs.Client.{Slots, Views}
+use Rattle.rcu_live.specs.Client.{Views}
 use Rattle.rcu_live.specs.Numbers.{is_own_word}
 use Rattle.rcu_live.specs.Rule.{Fits, IsKept, IsSound}
 use Rattle.rcu_live.specs.View.{after_store}
@@ -15,9 +15,9 @@ use Rattle.rcu_live.specs.declared.view.View.{View}
 use Rattle.rcu_live.proofs.Frames.{changed, unseen}
 use Rattle.rcu_live.proofs.Numbers.{number_apart, own_words_apart}
 
-module _ {S C : Type 0} (holds : List ℕ → Slots S → Views C → Type 0) where
+module _ {C : Type 0} (holds : List ℕ → Views C → Type 0) where
   -- another seat fits as before, since its processor is another
-  others_fit : (cpus : ℕ) (s : State S (View C)) (k : IsKept holds cpus s) (id c word : ℕ)
+  others_fit : (cpus : ℕ) (s : State (Unit {0}) (View C)) (k : IsKept holds cpus s) (id c word : ℕ)
       → k.owner c ≡ id
       → (j : ℕ) (u : View C)
       → j ≢ id
@@ -50,7 +50,8 @@ module _ {S C : Type 0} (holds : List ℕ → Slots S → Views C → Type 0) wh
       }
 
   -- own-word store
-  stores_own : (cpus slots id word : ℕ) (me : Me S (View C)) → me.0.role ≡ Cpu → me.0.section ≡ None
+  stores_own : (cpus slots id word : ℕ) (me : Me (Unit {0}) (View C)) → me.0.role ≡ Cpu →
+      me.0.section ≡ None
       → is_own_word me.0.seen word ≡ true
       → (me.0.cpu ≡ 0 → 0 < word)
       → Allows (IsKept holds cpus) slots id me (own_word_index me.0.cpu) (λ _. word)
@@ -101,7 +102,7 @@ module _ {S C : Type 0} (holds : List ℕ → Slots S → Views C → Type 0) wh
         w,
         keeps,
         tt,
-        changed holds cpus s k id w words s.homes k.own_word_loads
+        changed holds cpus s k id w words k.own_word_loads
             (rw (length-set s.words (own_word_index c) word) room) (rw number k.number) booted
             (others_fit cpus s k id c word (f.own cpu)) mine
             (unseen holds cpus s k id v w words at refl
@@ -110,7 +111,7 @@ module _ {S C : Type 0} (holds : List ℕ → Slots S → Views C → Type 0) wh
       )
 
   -- the same at a place that is the one of the seat's processor
-  pub stores : (cpus slots id word c at : ℕ) (me : Me S (View C))
+  pub stores : (cpus slots id word c at : ℕ) (me : Me (Unit {0}) (View C))
       → me.0.role ≡ Cpu
       → me.0.cpu ≡ c
       → at ≡ own_word_index c

@@ -7,7 +7,7 @@ use mathlib.Core.Option.{some}
 use lib.ListN.{get_elem?}
 use Rattle.atomic_table.specs.Table.{State, Me, keeps, Allows}
 use Rattle.rcu_seq.specs.Numbers.{Number, is_running}
-use Rattle.rcu_live.specs.Client.{Slots, Views}
+use Rattle.rcu_live.specs.Client.{Views}
 use Rattle.rcu_live.specs.Numbers.{is_number_word, is_past}
 use Rattle.rcu_live.specs.Rule.{AreCleared, Fits, IsKept, IsSound, is_cleared}
 use Rattle.rcu_live.specs.View.{after_begin_store, after_end_store}
@@ -39,10 +39,10 @@ ended_current n at runs already_quiescent = grind (arith, nat_tests)
 ended_rests : (n : Number) → is_running n ≡ true → is_running (n + 3) ≡ false
 ended_rests n runs = grind (arith, nat_tests)
 
-module _ {S C : Type 0} (holds : List ℕ → Slots S → Views C → Type 0) where
+module _ {C : Type 0} (holds : List ℕ → Views C → Type 0) where
   -- the engine stores a number that is no lower, and what it found stays or falls: the rule is kept
   -- where each processor's seat is sound at it
-  stored : (cpus id n : ℕ) (s : State S (View C)) (k : IsKept holds cpus s) (v : View C)
+  stored : (cpus id n : ℕ) (s : State (Unit {0}) (View C)) (k : IsKept holds cpus s) (v : View C)
       (own_word_loads : List (ℕ × ℕ))
       → get_elem? s.views id ≡ some v
       → v.role ≡ Engine
@@ -94,12 +94,12 @@ module _ {S C : Type 0} (holds : List ℕ → Slots S → Views C → Type 0) wh
         found = λ r. absurd (none r);
         undealt = λ r. absurd (none r);
       } in
-      changed holds cpus s k id w words s.homes own_word_loads (rw (length-set s.words 0 n) room)
+      changed holds cpus s k id w words own_word_loads (rw (length-set s.words 0 n) room)
       (rw now legal) (rw (same 0) k.boot) others mine
       (unseen holds cpus s k id v w words at refl
       (drop-set-lt (base_of cpus) s.words 0 n (omega arith)))
 
-  begins_next : (cpus slots id : ℕ) (me : Me S (View C))
+  begins_next : (cpus slots id : ℕ) (me : Me (Unit {0}) (View C))
       → me.0.role ≡ Engine
       → is_running me.0.seen ≡ false
       → me.0.seen < 2 ^ 62
@@ -132,7 +132,7 @@ module _ {S C : Type 0} (holds : List ℕ → Slots S → Views C → Type 0) wh
         (refl, refl),
       )
 
-  ends_next : (cpus slots id : ℕ) (me : Me S (View C))
+  ends_next : (cpus slots id : ℕ) (me : Me (Unit {0}) (View C))
       → me.0.role ≡ Engine
       → is_running me.0.seen ≡ true
       → AreCleared cpus me.0.seen me.0.own_word_loads
@@ -173,7 +173,7 @@ module _ {S C : Type 0} (holds : List ℕ → Slots S → Views C → Type 0) wh
       )
 
   -- begin store, of a number that is the next one
-  pub begins_at : (cpus slots id n : ℕ) (me : Me S (View C))
+  pub begins_at : (cpus slots id n : ℕ) (me : Me (Unit {0}) (View C))
       → me.0.role ≡ Engine
       → is_running me.0.seen ≡ false
       → n ≡ me.0.seen + 1
@@ -186,7 +186,7 @@ module _ {S C : Type 0} (holds : List ℕ → Slots S → Views C → Type 0) wh
       (sym is) (begins_next cpus slots id me engine idle (omega (arith, is, small)))
 
   -- end store, of a number that is the next idle one
-  pub ends_at : (cpus slots id n key : ℕ) (me : Me S (View C))
+  pub ends_at : (cpus slots id n key : ℕ) (me : Me (Unit {0}) (View C))
       → me.0.role ≡ Engine
       → is_running me.0.seen ≡ true
       → cpus ≡ key

@@ -1,8 +1,7 @@
 -- What a client of the engine sees of the seats, and what its rule owes the engine.
-use Rattle.std.specs.Prelude.{◌≡◌, ℕ, true, List, [], ◌∷◌, ◌++◌, Option, Some, None, slice_index}
-use Rattle.std.specs.Prelude.{slice_set}
+use Rattle.std.specs.Prelude.{◌≡◌, ℕ, true, List, [], ◌∷◌, ◌++◌, Option, Some, None, length}
+use Rattle.std.specs.Prelude.{slice_index, slice_set}
 use mathlib.Core.Option.{some}
-use mathlib.Core.Option as maybe
 use lib.ListN.{get_elem?}
 use Rattle.rcu_seq.specs.Numbers.{Number}
 use Rattle.rcu_live.specs.Numbers.{is_open_at}
@@ -16,32 +15,28 @@ ClientView C = Option ℕ × Option Number × C
 abbrev pub Views : Type 0 → Type 0
 Views C = List (ClientView C)
 
--- the slots, each at home with a value, or out with a seat
-abbrev pub Slots : Type 0 → Type 0
-Slots S = List (maybe.Option S)
-
 -- the law of a client: its rule is kept where a section opens, where one closes, where a seat is
 -- dealt by another, and where what a seat with no section knows is handed over to a new seat
-pub record IsStable {S C : Type 0} (holds : List ℕ → Slots S → Views C → Type 0)
+pub record IsStable {C : Type 0} (holds : List ℕ → Views C → Type 0)
     (idle closed : C → C) : Type 0 where
-  pub opens : (words : List ℕ) (homes : Slots S) (xs : Views C) (id : ℕ) (number : Number)
+  pub opens : (words : List ℕ) (xs : Views C) (id : ℕ) (number : Number)
       (cpu : Option ℕ) (c : C)
-      → holds words homes xs
+      → holds words xs
       → get_elem? xs id ≡ some (cpu, None, c)
-      → holds words homes (slice_set xs id (cpu, Some number, c))
-  pub closes : (words : List ℕ) (homes : Slots S) (xs : Views C) (id : ℕ) (cpu : Option ℕ)
+      → holds words (slice_set xs id (cpu, Some number, c))
+  pub closes : (words : List ℕ) (xs : Views C) (id : ℕ) (cpu : Option ℕ)
       (section : Option Number) (c : C)
-      → holds words homes xs
+      → holds words xs
       → get_elem? xs id ≡ some (cpu, section, c)
-      → holds words homes (slice_set xs id (cpu, None, closed c))
-  pub deals : (words : List ℕ) (homes : Slots S) (xs : Views C) (id : ℕ) (who : Option ℕ)
+      → holds words (slice_set xs id (cpu, None, closed c))
+  pub deals : (words : List ℕ) (xs : Views C) (id : ℕ) (who : Option ℕ)
       (section : Option Number) (c : C) (cpu : Option ℕ)
-      → holds words homes xs
+      → holds words xs
       → get_elem? xs id ≡ some (who, section, c)
-      → holds words homes (xs ++ (cpu, None, idle c) ∷ [])
-  pub hands : (words : List ℕ) (homes : Slots S) (xs : Views C) (id : ℕ) (c : C)
-      → holds words homes xs → get_elem? xs id ≡ some (None, None, c)
-      → holds words homes (slice_set xs id (None, None, idle c) ++ (None, None, c) ∷ [])
+      → holds words (xs ++ (cpu, None, idle c) ∷ [])
+  pub hands : (words : List ℕ) (xs : Views C) (id : ℕ) (c : C)
+      → holds words xs → get_elem? xs id ≡ some (None, None, c)
+      → holds words (slice_set xs id (None, None, idle c) ++ (None, None, c) ∷ [])
 
 -- at this number: each open section may be open at it
 abbrev pub AreOpen : {C : Type 0} → Number → Views C → Type 0
@@ -54,39 +49,48 @@ abbrev pub AreLone : {C : Type 0} → Views C → Type 0
 AreLone {C} xs = (i j cpu : ℕ) (o p : Option Number) (c d : C)
     → get_elem? xs i ≡ some (Some cpu, o, c) → get_elem? xs j ≡ some (Some cpu, p, d) → i ≡ j
 
-module _ {S C : Type 0} (holds : List ℕ → Slots S → Views C → Type 0) (cpu section : Option ℕ)
+module _ {C : Type 0} (holds : List ℕ → Views C → Type 0) (cpu section : Option ℕ)
     (c : C) where
   -- a client's step on its word p, which becomes `change` of what it was: wherever its rule holds,
   -- the seat has a new view that keeps it, and what the step tells holds of the word found and of
-  -- that view. The step takes no slot
+  -- that view
   abbrev pub AllowsWord : ℕ → (ℕ → ℕ) → (ℕ → C → Type 0) → Type 0
   AllowsWord p change tells =
-      (number : Number) (words : List ℕ) (homes : Slots S) (xs : Views C) (id : ℕ)
-      → holds words homes xs
+      (number : Number) (words : List ℕ) (xs : Views C) (id : ℕ)
+      → holds words xs
       → AreOpen number xs
       → AreLone xs
       → get_elem? xs id ≡ some (cpu, section, c)
       → (after : C)
-      × holds (slice_set words p (change (slice_index words p))) homes
+      × holds (slice_set words p (change (slice_index words p)))
       (slice_set xs id (cpu, section, after))
       × tells (slice_index words p) after
 
   -- a client's look at the number
   abbrev pub AllowsNumber : (Number → C → Type 0) → Type 0
   AllowsNumber tells =
-      (number : Number) (words : List ℕ) (homes : Slots S) (xs : Views C) (id : ℕ)
-      → holds words homes xs
+      (number : Number) (words : List ℕ) (xs : Views C) (id : ℕ)
+      → holds words xs
       → AreOpen number xs
       → AreLone xs
       → get_elem? xs id ≡ some (cpu, section, c)
-      → (after : C) × holds words homes (slice_set xs id (cpu, section, after)) × tells number after
+      → (after : C) × holds words (slice_set xs id (cpu, section, after)) × tells number after
+
+-- a client's first words were added behind others: so many, of which its rule holds where the first
+-- seat knows this
+pub record HasAdded {C : Type 0} (holds : List ℕ → Views C → Type 0) (first : C) (size : ℕ)
+    (old new : List ℕ) : Type 0 where
+  pub own : List ℕ
+  pub added : new ≡ old ++ own
+  pub many : length own ≡ size
+  pub kept : holds own ((None, None, first) ∷ [])
 
 -- a client with no rule keeps the law
-pub no_client_is_stable : IsStable {S = Unit {0}} {C = Unit {0}} (λ _ _ _. Unit {0}) (λ c. c)
+pub no_client_is_stable : IsStable {C = Unit {0}} (λ _ _. Unit {0}) (λ c. c)
     (λ c. c)
 no_client_is_stable = record {
-  opens = λ words homes xs id number cpu c kept at. tt;
-  closes = λ words homes xs id cpu section c kept at. tt;
-  deals = λ words homes xs id who section c cpu kept at. tt;
-  hands = λ words homes xs id c kept at. tt;
+  opens = λ words xs id number cpu c kept at. tt;
+  closes = λ words xs id cpu section c kept at. tt;
+  deals = λ words xs id who section c cpu kept at. tt;
+  hands = λ words xs id c kept at. tt;
 }

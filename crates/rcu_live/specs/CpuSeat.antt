@@ -13,7 +13,6 @@ use Rattle.rcu_live.specs.Board.{Object}
 use Rattle.rcu_live.specs.Numbers.{idle_word}
 use Rattle.rcu_live.specs.View.{after_close, after_load, after_open, after_store, cpu_seat}
 use Rattle.rcu_live.specs.View.{with_client}
-use Rattle.rcu_live.specs.Words.{base_of}
 use Rattle.rcu_live.specs.declared.view.View.{View}
 
 -- a processor's seat: of which object, of which processor, how deep its sections nest, and what it
@@ -33,7 +32,7 @@ module _ {C : Type 0} where
   -- a processor's seat of this engine: it reads the engine's words, and knows where the client's
   -- begin
   abbrev pub IsSeatOf : {P : Type 0} → Object P → Seated C → Type 0
-  IsSeatOf engine seat = (seat.table ≡ engine.table) × (seat.view.base ≡ base_of engine.cpus)
+  IsSeatOf engine seat = (seat.table ≡ engine.table) × (seat.view.base ≡ engine.base)
 
   -- the call was accepted at the number n, which is at least all that the seat saw before: this is
   -- what it leaves

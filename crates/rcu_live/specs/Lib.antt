@@ -4,12 +4,15 @@ pub mod CpuSeat
 pub mod Drive
 pub mod Engine
 pub mod EngineLists
+pub mod InPart
 pub mod Met
 pub mod NextCpu
 pub mod Numbers
 pub mod Opening
 pub mod Rule
 pub mod Runs
+pub mod Several
+pub mod SeveralLaws
 pub mod TableSeat
 pub mod View
 pub mod Waits

@@ -30,11 +30,11 @@ engine_at_first table cpus last most idle = record {
 
 module _ {C : Type 0} where
   -- what an opening deals of an engine of so many processors, with this last number, in which so
-  -- many callbacks may be queued, with so many words of a client behind its own, and so many slots:
+  -- many callbacks may be queued, with so many words of a client behind its own:
   -- a seat and a watcher a processor, in order, as they are at first
-  pub record AreDealt {P : Type 0} (cpus : ℕ) (last : Number) (most behind slots : ℕ) (idle : C)
+  pub record AreDealt {P : Type 0} (cpus : ℕ) (last : Number) (most behind : ℕ) (idle : C)
       (engine : Object P) (seats : List (Seated C)) (watchers : List (Watching C)) : Type 0 where
-    pub size : IsSized cpus last most behind slots engine
+    pub size : IsSized cpus last most behind engine
     pub each_seat : seats ≡ map (at_first engine.table (base_of cpus) idle) (range_with_len 0 cpus)
     pub each_watcher : watchers
         ≡ map (λ _. watcher_at_first engine.table (base_of cpus) idle) (range_with_len 0 cpus)
@@ -51,9 +51,9 @@ module _ {C : Type 0} where
 
   -- all parts of an engine as it is opened: its words and seats, its state, and the client's own
   -- watcher
-  pub record IsOpened {X P : Type 0} (cpus : ℕ) (last : Number) (most behind slots : ℕ)
+  pub record IsOpened {X P : Type 0} (cpus : ℕ) (last : Number) (most behind : ℕ)
       (first idle : C) (engine : Object P) (state : Locked C X) (seats : List (Seated C))
       (watchers : List (Watching C)) (own : Watching C) : Type 0 where
-    pub dealt : AreDealt cpus last most behind slots idle engine seats watchers
+    pub dealt : AreDealt cpus last most behind idle engine seats watchers
     pub at_start : state ≡ engine_at_first engine.table cpus last most idle
     pub alone : own ≡ watcher_at_first engine.table (base_of cpus) first

@@ -5,7 +5,7 @@ use mathlib.Core.Option.{some}
 use lib.ListN.{get_elem?}
 use Rattle.atomic_table.specs.Table.{State}
 use Rattle.rcu_seq.specs.Numbers.{Number, is_running}
-use Rattle.rcu_live.specs.Client.{Slots, Views}
+use Rattle.rcu_live.specs.Client.{Views}
 use Rattle.rcu_live.specs.Numbers.{is_number_word, is_own_word, is_past, may_open}
 use Rattle.rcu_live.specs.Numbers.{reports_quiescence}
 use Rattle.rcu_live.specs.View.{client_view}
@@ -68,8 +68,8 @@ module _ {C : Type 0} where
     pub undealt : v.role ≡ Engine → AreUndealt cpus words owner id v
 
   -- the rule. There are at least the engine's words, and what stands behind them is the client's
-  pub record IsKept {S : Type 0} (holds : List ℕ → Slots S → Views C → Type 0) (cpus : ℕ)
-      (s : State S (View C)) : Type 0 where
+  pub record IsKept (holds : List ℕ → Views C → Type 0) (cpus : ℕ)
+      (s : State (Unit {0}) (View C)) : Type 0 where
     pub room : base_of cpus ≤ length s.words
     pub number : is_number_word (slice_index s.words 0) ≡ true
     pub boot : 0 < slice_index s.words (own_word_index 0)
@@ -78,4 +78,4 @@ module _ {C : Type 0} where
     pub own_word_loads : List (ℕ × ℕ)
     pub fits : (id : ℕ) (v : View C) → get_elem? s.views id ≡ some v
         → Fits cpus s.words owner engine own_word_loads id v
-    pub client : holds (drop (base_of cpus) s.words) s.homes (map client_view s.views)
+    pub client : holds (drop (base_of cpus) s.words) (map client_view s.views)

@@ -9,22 +9,24 @@ use Rattle.rcu_live.specs.Rule.{AreCleared}
 use Rattle.rcu_live.specs.declared.view.Role.TheVariants.{Cpu, Engine}
 use Rattle.rcu_live.specs.declared.view.View.{View}
 
-module _ {S C : Type 0} where
+module _ {C : Type 0} where
   -- a seat is at this table, with this view
-  pub record IsSeatAt (table : TableId) (view : View C) (seat : Seat S (View C)) : Type 0 where
-    pub at_table : seat.table_id ≡ table
-    pub has_view : seat.me.0 ≡ view
+  pub record IsSeatAt (table : TableId) (view : View C) (seat : Seat (Unit {0}) (View C)) : Type 0
+    where
+      pub at_table : seat.table_id ≡ table
+      pub has_view : seat.me.0 ≡ view
 
   -- a seat took a step: it is at its table and has the slots that it had, and what the step tells
   -- holds of its two views
-  pub record Stepped (tells : View C → View C → Type 0) (old new : Seat S (View C)) : Type 0 where
+  pub record Stepped (tells : View C → View C → Type 0) (old new : Seat (Unit {0}) (View C)) : Type
+      0 where
     pub table : new.table_id ≡ old.table_id
     pub slots : new.me.1 ≡ old.me.1
     pub told : tells old.me.0 new.me.0
 
   -- a seat was split: this view is left to it, and the one that is dealt is at the same table, with
   -- that view
-  pub record IsSplit (rest part : View C) (old new dealt : Seat S (View C)) : Type 0 where
+  pub record IsSplit (rest part : View C) (old new dealt : Seat (Unit {0}) (View C)) : Type 0 where
     pub table : new.table_id ≡ old.table_id
     pub left : new.me.0 ≡ rest
     pub view : dealt.me.0 ≡ part

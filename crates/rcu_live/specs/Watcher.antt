@@ -5,7 +5,6 @@ use Rattle.rcu_seq.specs.Numbers.{Number}
 use Rattle.rcu_live.specs.Board.{Object}
 use Rattle.rcu_live.specs.Numbers.{is_number_word}
 use Rattle.rcu_live.specs.View.{after_load, watcher_seat, with_client}
-use Rattle.rcu_live.specs.Words.{base_of}
 use Rattle.rcu_live.specs.declared.view.View.{View}
 
 -- a watcher: of which object, and what it has seen
@@ -17,7 +16,7 @@ module _ {C : Type 0} where
   -- a watcher of this engine: it reads the engine's words, and knows where the client's begin
   abbrev pub IsWatcherOf : {P : Type 0} → Object P → Watching C → Type 0
   IsWatcherOf engine watcher =
-      (watcher.table ≡ engine.table) × (watcher.view.base ≡ base_of engine.cpus)
+      (watcher.table ≡ engine.table) × (watcher.view.base ≡ engine.base)
 
   -- after one load more, which saw n
   abbrev pub after_watch : Watching C → Number → Watching C

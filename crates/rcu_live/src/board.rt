@@ -1,6 +1,5 @@
 //! The shared words, and each kind of step on them in plain words.
-ghost use Rattle.std.specs.Prelude.{◌≡◌, ◌<◌, ◌∷◌, [], IfOk, None, length, map};
-ghost use mathlib.Core.Option.{some};
+ghost use Rattle.std.specs.Prelude.{◌≡◌, ◌<◌, ◌^◌, [], IfOk};
 ghost use Rattle.rcu_live.specs.Board.{IsCpuCount, IsSized};
 ghost use Rattle.rcu_live.specs.TableSeat.{IsSeatAt, IsSplit, MayBegin, MayEnd, MayOpen};
 ghost use Rattle.rcu_live.specs.TableSeat.{MayStore, Stepped};
@@ -20,7 +19,7 @@ use std::marker::Model;
 /// The shared words: the number, a word a processor, and a client's words behind them.
 #[derive(Drop)]
 pub struct Board<P: Client = NoClient> {
-    pub(crate) table: Table<P::Slot, View<P::Known>, (u32, P::Plan), Words<P>, Global>,
+    pub(crate) table: Table<(), View<P::Known>, (u32, P::Plan), Words<P>, Global>,
     pub(crate) cpus: u32,
     last: u64,
     most: u64,
@@ -37,6 +36,7 @@ impl<P: Client> Model for Board<P> {
       table = b.table.shared.table_id;
       plan = b.table.shared.key.1;
       cpus = b.cpus;
+      base = base_of b.cpus;
       last = b.last;
       most = b.most;
     } };
@@ -51,7 +51,7 @@ impl<P: Client> Model for Board<P> {
 }
 
 /// A seat at the shared words.
-pub type TableSeat<P> = Seat<<P as Client>::Slot, View<<P as Client>::Known>>;
+pub type TableSeat<P> = Seat<(), View<<P as Client>::Known>>;
 
 impl<P: Client> Board<P> {
     /// The words with their first seat, which is the engine's and has all parts.
@@ -61,22 +61,19 @@ impl<P: Client> Board<P> {
         last: u64,
         most: u64,
         plan: P::Plan,
-        behind: &[u64],
-        slots: Vec<P::Slot>,
     ) -> Result<(Board<P>, TableSeat<P>), AllocError>
         requires cpus { IsCpuCount cpus }
-        requires client { P.holds plan behind.now (map some slots.items)
-            ((None, None, P.first plan) ∷ []) }
-        ensures size { IfOk result (λ r.
-            IsSized cpus last most (length behind.now) (length slots.items) r.0) }
+        requires client { P.suits plan }
+        ensures size { IfOk result (λ r. IsSized cpus last most (P.size plan) r.0) }
         ensures plan { IfOk result (λ r. r.0.plan ≡ plan) }
         ensures seat { IfOk result (λ r.
             IsSeatAt r.0.table (engine_seat cpus 0 (P.first plan)) r.1) }
         ensures no_slots { IfOk result (λ r. r.1.me.1 ≡ []) }
     {
         let mut words = first_words(alloc, cpus)?;
-        words.extend_from_slice(behind)?;
-        let Ok((table, seat)) = Table::new(alloc, words.as_slice(), slots, &(cpus, plan)) else {
+        P::add_words(alloc, plan, &mut words)?;
+        let none = Vec::new(alloc);
+        let Ok((table, seat)) = Table::new(alloc, words.as_slice(), none, &(cpus, plan)) else {
             return Err(AllocError);
         };
         Ok((
@@ -88,6 +85,14 @@ impl<P: Client> Board<P> {
             },
             seat,
         ))
+    }
+
+    /// What the words keep: they fit in memory. Nothing is done.
+    pub fn fits(&self)
+        ensures { self.now.table.words < 2 ^ 64 }
+    {
+        // A borrow of a field shows the prover what the type keeps.
+        let _ = &self.table;
     }
 
     /// The number of processors.

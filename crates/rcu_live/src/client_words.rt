@@ -5,7 +5,6 @@ ghost use Rattle.rcu_live.specs.Client.{AllowsNumber, AllowsWord};
 ghost use Rattle.rcu_live.specs.TableSeat.{IsSplit, Stepped};
 ghost use Rattle.rcu_live.specs.View.{IsOfEngine, SteppedOnNumber, SteppedOnWord};
 ghost use Rattle.rcu_live.specs.View.{after_hand, handed_seat, if_cpu};
-ghost use Rattle.rcu_live.specs.Words.{base_of};
 
 use crate::board::{Board, TableSeat};
 use crate::client::{Client, NumberStep, WordStep};
@@ -32,7 +31,7 @@ impl<P: Client> Board<P> {
             (if_cpu seat.old.me.0.role seat.old.me.0.section) seat.old.me.0.client word (λ n. n)
             (M.then word seat.old.me.0.client) }
         ensures { Stepped
-            (λ old new. SteppedOnWord M.then (base_of self.now.cpus + word) old result new)
+            (λ old new. SteppedOnWord M.then (self.now.base + word) old result new)
             seat.old seat.new }
     {
         self.table
@@ -54,7 +53,7 @@ impl<P: Client> Board<P> {
             (if_cpu seat.old.me.0.role seat.old.me.0.section) seat.old.me.0.client word
             (λ _. value) (λ _. M.then word seat.old.me.0.client value) }
         ensures { Stepped
-            (λ old new. SteppedOnWord M.then (base_of self.now.cpus + word) old value new)
+            (λ old new. SteppedOnWord M.then (self.now.base + word) old value new)
             seat.old seat.new }
     {
         self.table

@@ -1,6 +1,6 @@
 //! A processor's seat: its read sections, its quiescent states and its idleness.
-ghost use Rattle.std.specs.Prelude.{◌≡◌, ◌≢◌, ◌<◌, ◌≤◌, ◌==◌, ℕ, IfOk, None, OnErr, OnOk, Some};
-ghost use Rattle.std.specs.Prelude.{false, not};
+ghost use Rattle.std.specs.Prelude.{◌≡◌, ◌≢◌, ◌<◌, ◌≤◌, ◌+◌, ◌==◌, ℕ, IfOk, None, OnErr, OnOk};
+ghost use Rattle.std.specs.Prelude.{Some, false, not};
 ghost use Rattle.std.specs.Result.{result_err};
 ghost use Rattle.rcu_live.specs.Board.{HasWord};
 ghost use Rattle.rcu_live.specs.Client.{AllowsWord};
@@ -457,6 +457,20 @@ impl<P: Client> CpuSeat<P> {
             self.old.view.client word (λ n. n) (M.then word self.old.view.client) }
         ensures { KnowsBy (λ was now. M.then word was result now) self.old self.new }
     {
-        live.board().load_word::<M>(&mut self.seat, word)
+        self.load_at::<M>(live.board(), word)
+    }
+
+    /// The same of the place behind the engine's words, wherever the seat knows the client's.
+    pub(crate) fn load_at<M: WordStep<P::Known>>(&mut self, board: &Board<P>, place: usize) -> u64
+        requires table { self.old.table ≡ board.now.table }
+        requires inside { HasWord board.now place }
+        requires allowed { AllowsWord (P.holds board.now.plan) (Some self.old.cpu)
+            self.old.view.section
+            self.old.view.client place (λ n. n) (M.then place self.old.view.client) }
+        ensures { KnowsBy (λ was now. (word : ℕ) →
+            board.now.base + place ≡ self.old.view.base + word → M.then word was result now)
+            self.old self.new }
+    {
+        board.load_word::<M>(&mut self.seat, place)
     }
 }

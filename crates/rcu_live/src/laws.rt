@@ -46,7 +46,7 @@ pub fn done_cookies_are_older_than_the_section_met()
 /// every processor that is not cleared. Then, while a grace period runs, it awaits the processor of
 /// each section that is open and began before that.
 pub fn old_sections_are_awaited<T: Drop, P: Client>()
-    ensures { (plan : P.Plan) (cpus : ℕ) (s : State P.Slot (View P.Known)) (i j : ℕ)
+    ensures { (plan : P.Plan) (cpus : ℕ) (s : State (Unit {0}) (View P.Known)) (i j : ℕ)
         (engine seat : View P.Known) (g : Grace T) (at : ℕ) → IsKept (P.holds plan) cpus s →
         get_elem? s.views i ≡ some engine → IsOfEngine engine →
         engine.seen ≡ number_of g.seq → AwaitsTheOthers cpus engine.own_word_loads g →
@@ -59,7 +59,7 @@ pub fn old_sections_are_awaited<T: Drop, P: Client>()
 /// The rule holds of the words and all views at both moments, as at each. Then the poll does not
 /// return done: where a cookie tests done, each section that was open at its taking has ended.
 pub fn readers_finish_before_done<P: Client>()
-    ensures { (plan : P.Plan) (cpus : ℕ) (before after : State P.Slot (View P.Known)) (i j : ℕ)
+    ensures { (plan : P.Plan) (cpus : ℕ) (before after : State (Unit {0}) (View P.Known)) (i j : ℕ)
         (first later : View P.Known) (at : ℕ) → IsKept (P.holds plan) cpus before →
         IsKept (P.holds plan) cpus after → get_elem? before.views i ≡ some first →
         first.role ≡ Cpu → first.section ≡ Some at → get_elem? after.views j ≡ some later →

@@ -3,6 +3,8 @@
 
 mod begin;
 pub mod board;
+pub mod both;
+pub mod both_known;
 pub mod client;
 mod client_words;
 pub mod cpu_seat;
@@ -13,6 +15,7 @@ pub mod engine_drive;
 pub mod engine_lists;
 pub mod grace_periods;
 mod grace_waits;
+pub mod in_part;
 pub mod laws;
 pub mod live;
 mod locked;
@@ -28,10 +31,12 @@ pub mod shared;
 mod sleepers;
 pub mod view;
 pub mod watcher;
+pub mod within;
 mod word_sets;
 pub mod words;
 
 pub use board::Board;
+pub use both::{Both, BothPlans};
 pub use client::{Client, NoClient, NumberStep, WordStep};
 pub use cpu_seat::CpuSeat;
 pub use engine::Engine;
@@ -42,3 +47,4 @@ pub use meeting::Met;
 pub use parts::Parts;
 pub use shared::Shared;
 pub use watcher::Watcher;
+pub use within::{Alone, First, Second, Within};

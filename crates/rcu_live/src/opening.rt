@@ -1,7 +1,6 @@
 //! The opening of an engine.
-ghost use Rattle.std.specs.Prelude.{◌≡◌, ◌≤◌, ◌^◌, [], ◌∷◌, IfOk, None, length, map};
+ghost use Rattle.std.specs.Prelude.{◌≡◌, ◌≤◌, ◌^◌, IfOk, length};
 ghost use Rattle.std.specs.Arc.{arc_value};
-ghost use mathlib.Core.Option.{some};
 ghost use Rattle.rcu_barrier.specs.Lists.{most_queued};
 ghost use Rattle.rcu_state.specs.GpState as grace;
 ghost use Rattle.rcu_geometry.specs.Opening.{opening_refusal};
@@ -30,8 +29,7 @@ use std::sync::Arc;
 impl<const LEAF: u32, const FAN: u32, T: Drop, P: Client> Parts<LEAF, FAN, T, P> {
     /// The parts of an engine of `cpus` processors, idle at number 0, with processor 0 alone
     /// online, in which `most` callbacks may be queued, from 1 to 2^62; with this plan of a
-    /// client, and these words and slots, which meet its rule. What the client knows first, its own
-    /// watcher has.
+    /// client. What the client knows first, its own watcher has.
     ///
     /// Faults: `TooManyCpus` (17) for no processor, more than 4,096, or more than four levels hold;
     /// `BadLast` (19) where `last` is no last number; `NoMemory` (16).
@@ -41,22 +39,18 @@ impl<const LEAF: u32, const FAN: u32, T: Drop, P: Client> Parts<LEAF, FAN, T, P>
         last: u64,
         most: u64,
         plan: P::Plan,
-        behind: &[u64],
-        slots: Vec<P::Slot>,
     ) -> Result<Parts<LEAF, FAN, T, P>, Fault>
         requires fanouts { AreFanouts LEAF FAN }
         requires most { (1 ≤ most) × (most ≤ 2 ^ 62) }
-        requires client { P.holds plan behind.now (map some slots.items)
-            ((None, None, P.first plan) ∷ []) }
+        requires client { P.suits plan }
         ensures fault { tested_fault result ≡ opening_refusal LEAF FAN cpus last }
-        ensures opened { IfOk result (λ parts. IsOpened cpus last most (length behind.now)
-            (length slots.items) (P.first plan) (P.idle (P.first plan)) (arc_value parts.board)
-            parts.engine
+        ensures opened { IfOk result (λ parts. IsOpened cpus last most (P.size plan)
+            (P.first plan) (P.idle (P.first plan)) (arc_value parts.board) parts.engine
             parts.seats.items parts.watchers.items parts.own) }
         ensures plan { IfOk result (λ parts. (arc_value parts.board).plan ≡ plan) }
     {
         check_size::<LEAF, FAN>(cpus, last)?;
-        let Ok(parts) = Self::open_tested(alloc, cpus, last, most, plan, behind, slots) else {
+        let Ok(parts) = Self::open_tested(alloc, cpus, last, most, plan) else {
             return Err(Fault::NoMemory);
         };
         Ok(parts)
@@ -69,16 +63,12 @@ impl<const LEAF: u32, const FAN: u32, T: Drop, P: Client> Parts<LEAF, FAN, T, P>
         last: u64,
         most: u64,
         plan: P::Plan,
-        behind: &[u64],
-        slots: Vec<P::Slot>,
     ) -> Result<Parts<LEAF, FAN, T, P>, AllocError>
         requires cpus { IsCpuCount cpus }
         requires most { (1 ≤ most) × (most ≤ 2 ^ 62) }
-        requires client { P.holds plan behind.now (map some slots.items)
-            ((None, None, P.first plan) ∷ []) }
-        ensures opened { IfOk result (λ parts. IsOpened cpus last most (length behind.now)
-            (length slots.items) (P.first plan) (P.idle (P.first plan)) (arc_value parts.board)
-            parts.engine
+        requires client { P.suits plan }
+        ensures opened { IfOk result (λ parts. IsOpened cpus last most (P.size plan)
+            (P.first plan) (P.idle (P.first plan)) (arc_value parts.board) parts.engine
             parts.seats.items parts.watchers.items parts.own) }
         ensures plan { IfOk result (λ parts. (arc_value parts.board).plan ≡ plan) }
     {
@@ -88,7 +78,7 @@ impl<const LEAF: u32, const FAN: u32, T: Drop, P: Client> Parts<LEAF, FAN, T, P>
             seats,
             watchers,
             own,
-        } = open_board(alloc, cpus, last, most, plan, behind, slots)?;
+        } = open_board(alloc, cpus, last, most, plan)?;
         let (gp, by_word) = make_state(alloc, cpus, last, most)?;
         let engine = Engine::new(Arc::try_clone(&board)?, engine_seat, gp, by_word);
         Ok(Parts {
@@ -116,11 +106,11 @@ impl<const LEAF: u32, const FAN: u32, T: Drop> Parts<LEAF, FAN, T> {
         requires fanouts { AreFanouts LEAF FAN }
         requires most { (1 ≤ most) × (most ≤ 2 ^ 62) }
         ensures fault { tested_fault result ≡ opening_refusal LEAF FAN cpus last }
-        ensures opened { IfOk result (λ parts. IsOpened cpus last most 0 0 tt tt
+        ensures opened { IfOk result (λ parts. IsOpened cpus last most 0 tt tt
             (arc_value parts.board) parts.engine parts.seats.items parts.watchers.items
             parts.own) }
     {
-        Self::open_for(alloc, cpus, last, most, (), &[], Vec::new(alloc))
+        Self::open_for(alloc, cpus, last, most, ())
     }
 }
 
@@ -142,7 +132,7 @@ impl<const LEAF: u32, const FAN: u32, T: Drop> Live<LEAF, FAN, T> {
         requires { AreFanouts LEAF FAN }
         ensures fault { tested_fault result ≡ opening_refusal LEAF FAN cpus last }
         ensures dealt { IfOk result (λ opened.
-            AreDealt cpus last most_queued 0 0 tt opened.0 opened.1.items opened.2.items) }
+            AreDealt cpus last most_queued 0 tt opened.0 opened.1.items opened.2.items) }
     {
         Live::open_with_most(alloc, cpus, last, MOST_QUEUED)
     }
@@ -161,10 +151,9 @@ impl<const LEAF: u32, const FAN: u32, T: Drop> Live<LEAF, FAN, T> {
         requires most { (1 ≤ most) × (most ≤ 2 ^ 62) }
         ensures fault { tested_fault result ≡ opening_refusal LEAF FAN cpus last }
         ensures dealt { IfOk result (λ opened.
-            AreDealt cpus last most 0 0 tt opened.0 opened.1.items opened.2.items) }
+            AreDealt cpus last most 0 tt opened.0 opened.1.items opened.2.items) }
     {
-        let slots = Vec::new(alloc);
-        let (live, seats, watchers, _) = Live::open_for(alloc, cpus, last, most, (), &[], slots)?;
+        let (live, seats, watchers, _) = Live::open_for(alloc, cpus, last, most, ())?;
         Ok((live, seats, watchers))
     }
 }
@@ -178,8 +167,8 @@ pub type Opened<const LEAF: u32, const FAN: u32, T, P> = (
 );
 
 impl<const LEAF: u32, const FAN: u32, T: Drop, P: Client> Live<LEAF, FAN, T, P> {
-    /// Opens an engine as [`Live::open`], with this plan of a client, and these words and slots,
-    /// which meet its rule. What the client knows first, its own watcher has.
+    /// Opens an engine as [`Live::open`], with this plan of a client. What the client knows
+    /// first, its own watcher has.
     ///
     /// Faults: `TooManyCpus` (17) for no processor, more than 4,096, or more than four levels hold;
     /// `BadLast` (19) where `last` is no last number; `NoMemory` (16).
@@ -189,17 +178,13 @@ impl<const LEAF: u32, const FAN: u32, T: Drop, P: Client> Live<LEAF, FAN, T, P> 
         last: u64,
         most: u64,
         plan: P::Plan,
-        behind: &[u64],
-        slots: Vec<P::Slot>,
     ) -> Result<Opened<LEAF, FAN, T, P>, Fault>
         requires fanouts { AreFanouts LEAF FAN }
         requires most { (1 ≤ most) × (most ≤ 2 ^ 62) }
-        requires client { P.holds plan behind.now (map some slots.items)
-            ((None, None, P.first plan) ∷ []) }
+        requires client { P.suits plan }
         ensures fault { tested_fault result ≡ opening_refusal LEAF FAN cpus last }
-        ensures dealt { IfOk result (λ opened. AreDealt cpus last most
-            (length behind.now) (length slots.items) (P.idle (P.first plan)) opened.0 opened.1.items
-            opened.2.items) }
+        ensures dealt { IfOk result (λ opened. AreDealt cpus last most (P.size plan)
+            (P.idle (P.first plan)) opened.0 opened.1.items opened.2.items) }
         ensures plan { IfOk result (λ opened. opened.0.plan ≡ plan) }
         ensures own { IfOk result (λ opened.
             opened.3 ≡ watcher_at_first opened.0.table (base_of cpus) (P.first plan)) }
@@ -210,7 +195,7 @@ impl<const LEAF: u32, const FAN: u32, T: Drop, P: Client> Live<LEAF, FAN, T, P> 
             seats,
             watchers,
             own,
-        } = Parts::open_for(alloc, cpus, last, most, plan, behind, slots)?;
+        } = Parts::open_for(alloc, cpus, last, most, plan)?;
         Ok((Live::new(board, engine), seats, watchers, own))
     }
 }

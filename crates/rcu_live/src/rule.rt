@@ -3,6 +3,7 @@ ghost use Rattle.std.specs.Prelude.{◌≡◌};
 
 use crate::client::{Client, NumberStep, WordStep};
 use crate::view::View;
+use crate::within::Within;
 use atomic_table::{Play, Split, TableRule};
 use std::marker::PhantomData;
 
@@ -12,7 +13,7 @@ pub struct Words<P> {
     client: PhantomData<P>,
 }
 
-impl<P: Client> TableRule<P::Slot, View<P::Known>, (u32, P::Plan)> for Words<P> {
+impl<P: Client> TableRule<(), View<P::Known>, (u32, P::Plan)> for Words<P> {
     ghost use Rattle.rcu_live.specs.Rule.{IsKept};
     ghost use Rattle.rcu_live.specs.View.{engine_seat};
 
@@ -44,7 +45,7 @@ pub struct Close<P> {
     client: PhantomData<P>,
 }
 
-impl<P: Client> Play<P::Slot, View<P::Known>> for Close<P> {
+impl<P: Client> Play<(), View<P::Known>> for Close<P> {
     ghost use Rattle.rcu_live.specs.View.{Closed};
 
     ghost then = { λ _ me n now. Closed P.closed me.0 n now.0 × (now.1 ≡ me.1) };
@@ -145,4 +146,19 @@ impl<P: Client> Split<View<P::Known>> for HandOver<P> {
     ghost left = { λ v. after_hand (P.idle v.client) v };
 
     ghost right = { handed_seat };
+}
+
+/// Seat split: a watcher's seat that has what a part of the client knew here, and of all else what
+/// a seat knows that is dealt.
+pub struct HandPartOver<C, P> {
+    place: PhantomData<(C, P)>,
+}
+
+impl<C: Client, P: Within<C>> Split<View<<P::Whole as Client>::Known>> for HandPartOver<C, P> {
+    ghost use Rattle.rcu_live.specs.View.{after_hand, watcher_seat};
+
+    ghost left = { λ v. after_hand (P.lens.set v.client (C.idle (P.lens.get v.client))) v };
+
+    ghost right = { λ v. watcher_seat v.base
+        (P.lens.set (P.Whole.idle v.client) (P.lens.get v.client)) };
 }

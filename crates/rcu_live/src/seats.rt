@@ -2,7 +2,6 @@
 ghost use Rattle.std.specs.Prelude.{◌≡◌, ◌+◌, ◌<◌, [], ◌∷◌, IfOk, None, OnOk};
 ghost use Rattle.std.specs.Prelude.{length, map};
 ghost use Rattle.std.specs.Arc.{arc_value};
-ghost use mathlib.Core.Option.{some};
 ghost use Rattle.std.specs.List.{range_with_len};
 ghost use Rattle.rcu_live.specs.Board.{IsCpuCount};
 ghost use Rattle.rcu_live.specs.CpuSeat.{at_first};
@@ -34,30 +33,26 @@ pub(crate) struct BoardParts<P: Client> {
     pub own: Watcher<P>,
 }
 
-/// The shared words of an engine whose size was tested, with these words and slots of a client, and
-/// all seats.
+/// The shared words of an engine whose size was tested, with those of a client of this plan,
+/// and all seats.
 pub(crate) fn open_board<P: Client>(
     alloc: Global,
     cpus: u32,
     last: u64,
     most: u64,
     plan: P::Plan,
-    behind: &[u64],
-    slots: Vec<P::Slot>,
 ) -> Result<BoardParts<P>, AllocError>
     requires cpus { IsCpuCount cpus }
-    requires client { P.holds plan behind.now (map some slots.items)
-        ((None, None, P.first plan) ∷ []) }
-    ensures dealt { IfOk result (λ dealt. AreDealt cpus last most (length behind.now)
-        (length slots.items) (P.idle (P.first plan)) (arc_value dealt.board) dealt.seats.items
-        dealt.watchers.items) }
+    requires client { P.suits plan }
+    ensures dealt { IfOk result (λ dealt. AreDealt cpus last most (P.size plan)
+        (P.idle (P.first plan)) (arc_value dealt.board) dealt.seats.items dealt.watchers.items) }
     ensures plan { IfOk result (λ dealt. (arc_value dealt.board).plan ≡ plan) }
     ensures own { IfOk result (λ dealt.
         dealt.own ≡ watcher_at_first (arc_value dealt.board).table (base_of cpus) (P.first plan)) }
     ensures engine { IfOk result (λ dealt. IsSeatAt (arc_value dealt.board).table
         (engine_seat cpus cpus (P.idle (P.first plan))) dealt.engine_seat) }
 {
-    let (board, mut engine_seat) = Board::open(alloc, cpus, last, most, plan, behind, slots)?;
+    let (board, mut engine_seat) = Board::open(alloc, cpus, last, most, plan)?;
     let board = Arc::new(alloc, board)?;
     let (seats, watchers) = deal(alloc, &board, &mut engine_seat, cpus)?;
     let own = Watcher::new(board.hand_over(&mut engine_seat));

@@ -1,6 +1,7 @@
 //! The keeper of a map: it reads the entries without a section, and looks which nodes are free.
 ghost use Rattle.std.specs.Prelude.{◌≡◌, ◌≤◌, ◌<◌, ◌^◌, ◌↔◌, IfOk, IfSome, IsSome, IsTrue};
 ghost use Rattle.std.specs.Prelude.{MatchOption};
+ghost use Rattle.rcu_live.specs.InPart.{watcher_part};
 ghost use Rattle.rcu_graph.specs.Graph.{IsOfSameGraph};
 ghost use Rattle.rcu_graph.specs.Keeper.{IsKeeperOf, after_look};
 ghost use Rattle.rcu_graph.specs.Nodes.{node_at, nodes_in};
@@ -15,19 +16,20 @@ use crate::bucket::bucket_of;
 use crate::entry::Entry;
 use crate::links::keep;
 use crate::map::Map;
-use crate::shape::{MapShape, MapWatcher};
+use crate::shape::{MapRule, MapShape, MapWatcher};
 use rcu_graph::Keeper;
+use rcu_live::{Alone, Within};
 use std::alloc::{AllocError, Global};
 use std::marker::Model;
 
 /// The keeper of a map, for one thread. A map has one.
 #[derive(Drop)]
-pub struct MapKeeper<E: Entry<W>, const W: usize> {
-    pub(crate) nodes: Keeper<MapShape<E, W>>,
+pub struct MapKeeper<E: Entry<W>, const W: usize, P: Within<MapRule<E, W>> = Alone> {
+    pub(crate) nodes: Keeper<MapShape<E, W>, P>,
     pub(crate) len: usize,
 }
 
-impl<E: Entry<W>, const W: usize> Model for MapKeeper<E, W> {
+impl<E: Entry<W>, const W: usize, P: Within<MapRule<E, W>>> Model for MapKeeper<E, W, P> {
     ghost use Rattle.rcu_live.specs.Watcher.{Watching};
     ghost use Rattle.rcu_graph.specs.Nodes.{nodes_in};
     ghost use Rattle.rcu_graph.specs.declared.known.Planned.{Planned};
@@ -50,14 +52,19 @@ pub(crate) struct Place {
     pub(crate) node: Option<usize>,
 }
 
-impl<E: Entry<W>, const W: usize> MapKeeper<E, W> {
+impl<E: Entry<W>, const W: usize, P: Within<MapRule<E, W>>> MapKeeper<E, W, P> {
     /// The keeper of a map that has no entry yet: the nodes of its graph are as at first. It takes
     /// all the memory that it will ever have.
-    pub fn new(alloc: Global, map: &Map<E, W>, seat: MapWatcher<E, W>) -> Result<Self, AllocError>
-        requires keeper { IsKeeperOf map.now seat }
+    pub fn new(
+        alloc: Global,
+        map: &Map<E, W, P>,
+        seat: MapWatcher<E, W, P>,
+    ) -> Result<Self, AllocError>
+        requires keeper { IsKeeperOf map.now (watcher_part P.lens seat) }
         requires nodes { IsClaimed (root_words map.now.plan.words) map.now.plan.roots
-            map.now.plan.links map.now.plan.words map.now.plan.nodes seat.view.client.known }
-        ensures { IfOk result (λ keeper. keeper ≡ seat) }
+            map.now.plan.links map.now.plan.words map.now.plan.nodes
+            (P.lens.get seat.view.client).known }
+        ensures { IfOk result (λ keeper. keeper ≡ watcher_part P.lens seat) }
     {
         // A borrow of a field shows the prover what the type keeps: that there is a bucket.
         let graph = &map.graph;

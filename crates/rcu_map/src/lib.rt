@@ -7,6 +7,7 @@ pub mod cursor;
 pub mod definition_laws;
 pub mod entries;
 pub mod entry;
+mod joining;
 pub mod keeper;
 mod keeper_waits;
 pub mod laws;

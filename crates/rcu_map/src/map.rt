@@ -3,6 +3,7 @@ ghost use Rattle.std.specs.Prelude.{◌≡◌, ◌≤◌, ◌<◌, ◌+◌, ◌^
 ghost use Rattle.std.specs.Prelude.{is_some};
 ghost use Rattle.std.specs.Arc.{arc_value};
 ghost use Rattle.rcu_live.specs.CpuSeat.{after_word_step};
+ghost use Rattle.rcu_live.specs.InPart.{engine_part, seat_part};
 ghost use Rattle.rcu_graph.specs.Graph.{IsAt, IsWalking};
 ghost use Rattle.rcu_graph.specs.Nodes.{IsOn};
 ghost use Rattle.rcu_graph.specs.Opening.{row_of};
@@ -14,19 +15,20 @@ use crate::bucket::bucket_of;
 use crate::entry::Entry;
 use crate::shape::{MapRule, MapSeat, MapShape};
 use rcu_graph::{Graph, Plan, Row};
-use rcu_live::Board;
+use rcu_live::{Alone, Board, Within};
 use std::alloc::{AllocError, Global};
 use std::marker::Model;
 use std::sync::Arc;
 
 /// Entries among the shared words of a running engine: a chain a bucket, whose keys go up. With one
-/// bucket it is a sorted list.
+/// bucket it is a sorted list. The map is the client of the engine, or one of several, at the place
+/// `P`.
 #[derive(Drop)]
-pub struct Map<E: Entry<W>, const W: usize> {
-    pub(crate) graph: Graph<MapShape<E, W>>,
+pub struct Map<E: Entry<W>, const W: usize, P: Within<MapRule<E, W>> = Alone> {
+    pub(crate) graph: Graph<MapShape<E, W>, P>,
 }
 
-impl<E: Entry<W>, const W: usize> Model for Map<E, W> {
+impl<E: Entry<W>, const W: usize, P: Within<MapRule<E, W>>> Model for Map<E, W, P> {
     ghost use Rattle.std.specs.Prelude.{◌≡◌, ◌<◌};
     ghost use Rattle.rcu_live.specs.Board.{Object};
     ghost use Rattle.rcu_graph.specs.declared.plan.Plan.{Plan};
@@ -42,9 +44,9 @@ impl<E: Entry<W>, const W: usize> Model for Map<E, W> {
     } };
 }
 
-impl<E: Entry<W>, const W: usize> Map<E, W> {
+impl<E: Entry<W>, const W: usize, P: Within<MapRule<E, W>>> Map<E, W, P> {
     /// A map over a graph of one link a node, whose roots are those of the buckets.
-    pub fn over(graph: Graph<MapShape<E, W>>) -> Map<E, W>
+    pub fn over(graph: Graph<MapShape<E, W>, P>) -> Map<E, W, P>
         requires some { 0 < graph.plan.roots }
         requires one { graph.plan.links ≡ 1 }
         requires words { graph.plan.words ≡ W }
@@ -68,7 +70,7 @@ impl<E: Entry<W>, const W: usize> Map<E, W> {
     }
 
     /// A second handle to the same map.
-    pub fn try_clone(&self) -> Result<Map<E, W>, AllocError>
+    pub fn try_clone(&self) -> Result<Map<E, W, P>, AllocError>
         ensures { IfOk result (λ map. map ≡ self.now) }
     {
         // A borrow of a field shows the prover what the type keeps.
@@ -79,14 +81,14 @@ impl<E: Entry<W>, const W: usize> Map<E, W> {
     }
 
     /// The words of its engine, which all seats read.
-    pub fn board(&self) -> &Arc<Board<MapRule<E, W>>, Global>
-        ensures { arc_value result.now ≡ self.now }
+    pub fn board(&self) -> &Arc<Board<P::Whole>, Global>
+        ensures { engine_part P.own_plan P.begins (arc_value result.now) ≡ self.now }
     {
         self.graph.board()
     }
 
     /// The nodes, for who keeps them.
-    pub fn graph(&self) -> &Graph<MapShape<E, W>>
+    pub fn graph(&self) -> &Graph<MapShape<E, W>, P>
         ensures { result.now ≡ self.now }
     {
         &self.graph
@@ -103,12 +105,13 @@ impl<E: Entry<W>, const W: usize> Map<E, W> {
 
     /// The words of the node that the section is on, whose key was read: by a load each of the
     /// others.
-    pub(crate) fn words_at(&self, seat: &mut MapSeat<E, W>, node: usize, key: u64) -> [u64; W]
-        requires at { IsAt (root_words self.now.plan.words) self.now seat.old node }
+    pub(crate) fn words_at(&self, seat: &mut MapSeat<E, W, P>, node: usize, key: u64) -> [u64; W]
+        requires at { IsAt (root_words self.now.plan.words) self.now (seat_part P.lens seat.old)
+            node }
         ensures same { seat.new ≡ seat.old }
         ensures told { (words : List ℕ) →
             IsOn (root_words self.now.plan.words) self.now.plan.roots
-            seat.old.view.client.known node words →
+            (P.lens.get seat.old.view.client).known node words →
             IsWhole E.holds self.now.plan.words words → key_in words ≡ key → result ≡ words }
     {
         self.plan();
@@ -120,19 +123,21 @@ impl<E: Entry<W>, const W: usize> Map<E, W> {
     }
 
     /// The node that has the entry of this key. No entry has the key 0.
-    fn find(&self, seat: &mut MapSeat<E, W>, key: u64) -> Option<usize>
-        requires walking { IsWalking self.now seat.old }
-        ensures same { seat.new ≡ after_word_step seat.old seat.new.view.client }
-        ensures walking { IsWalking self.now seat.new }
+    fn find(&self, seat: &mut MapSeat<E, W, P>, key: u64) -> Option<usize>
+        requires walking { IsWalking self.now (seat_part P.lens seat.old) }
+        ensures same { seat.new ≡ after_word_step seat.old
+            (P.lens.set seat.old.view.client (P.lens.get seat.new.view.client)) }
+        ensures walking { IsWalking self.now (seat_part P.lens seat.new) }
         ensures searched { 0 < key →
             IsSearched (bucket_of self.now.plan.roots self.now.plan.seed key) key
-            seat.old.view.client.known result seat.new.view.client.known }
+            (P.lens.get seat.old.view.client).known result (P.lens.get seat.new.view.client).known }
         ensures none { key ≡ 0 → result ≡ None }
         ensures found { IfSome result (λ node.
-            IsFound (IsWhole E.holds self.now.plan.words) key seat.new.view.client.known node) }
+            IsFound (IsWhole E.holds self.now.plan.words) key
+            (P.lens.get seat.new.view.client).known node) }
         ensures keyed { IfSome result (λ _. 0 < key) }
         ensures on { IfSome result (λ node.
-            IsAt (root_words self.now.plan.words) self.now seat.new node) }
+            IsAt (root_words self.now.plan.words) self.now (seat_part P.lens seat.new) node) }
     {
         if key == 0 {
             return None;
@@ -144,12 +149,13 @@ impl<E: Entry<W>, const W: usize> Map<E, W> {
     /// The entry of this key, by two loads for each node of its bucket up to there, and one for
     /// each word of it but the key. It ends, whatever the keeper does meanwhile. No entry has the
     /// key 0.
-    pub fn get(&self, seat: &mut MapSeat<E, W>, key: u64) -> Option<E>
-        requires walking { IsWalking self.now seat.old }
-        ensures same { seat.new ≡ after_word_step seat.old seat.new.view.client }
-        ensures walking { IsWalking self.now seat.new }
+    pub fn get(&self, seat: &mut MapSeat<E, W, P>, key: u64) -> Option<E>
+        requires walking { IsWalking self.now (seat_part P.lens seat.old) }
+        ensures same { seat.new ≡ after_word_step seat.old
+            (P.lens.set seat.old.view.client (P.lens.get seat.new.view.client)) }
+        ensures walking { IsWalking self.now (seat_part P.lens seat.new) }
         ensures got { 0 < key → IsGot E.holds E.decode self.now.plan.roots self.now.plan.seed key
-            seat.old.view.client.known result seat.new.view.client.known }
+            (P.lens.get seat.old.view.client).known result (P.lens.get seat.new.view.client).known }
         ensures none { key ≡ 0 → is_some result ≡ false }
         ensures keyed { IfSome result (λ entry. E.key_of entry ≡ key) }
         ensures sound { IfSome result (λ entry. E.valid entry) }
@@ -159,12 +165,13 @@ impl<E: Entry<W>, const W: usize> Map<E, W> {
     }
 
     /// Whether the section finds an entry of this key, as [`get`](Self::get) does.
-    pub fn contains(&self, seat: &mut MapSeat<E, W>, key: u64) -> bool
-        requires walking { IsWalking self.now seat.old }
-        ensures same { seat.new ≡ after_word_step seat.old seat.new.view.client }
-        ensures walking { IsWalking self.now seat.new }
+    pub fn contains(&self, seat: &mut MapSeat<E, W, P>, key: u64) -> bool
+        requires walking { IsWalking self.now (seat_part P.lens seat.old) }
+        ensures same { seat.new ≡ after_word_step seat.old
+            (P.lens.set seat.old.view.client (P.lens.get seat.new.view.client)) }
+        ensures walking { IsWalking self.now (seat_part P.lens seat.new) }
         ensures searched { 0 < key → IsLookedUp self.now.plan.roots self.now.plan.seed key
-            seat.old.view.client.known result seat.new.view.client.known }
+            (P.lens.get seat.old.view.client).known result (P.lens.get seat.new.view.client).known }
         ensures none { key ≡ 0 → result ≡ false }
     {
         self.find(seat, key).is_some()

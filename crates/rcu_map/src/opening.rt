@@ -40,7 +40,11 @@ pub struct Opened<L: Drop, E: Entry<W>, const W: usize> {
 /// The plan of a map of so many buckets and nodes, and of this seed.
 ///
 /// Fault: `BadSizes` for no bucket.
-fn make_plan<const W: usize>(buckets: usize, nodes: usize, seed: u64) -> Result<Plan, NotOpened>
+pub(crate) fn make_plan<const W: usize>(
+    buckets: usize,
+    nodes: usize,
+    seed: u64,
+) -> Result<Plan, NotOpened>
     ensures plan { IfOk result (λ plan. plan ≡ plan_of_map buckets W nodes seed) }
     ensures some { OnOk result (0 < buckets) }
     ensures fault { IfErr result (λ fault. fault ≡ NotOpened.BadSizes) }
@@ -80,7 +84,7 @@ impl<E: Entry<W>, const W: usize> Map<E, W> {
         ensures fault { HasSizes buckets W nodes →
             tested_opening result ≡ opening_refusal LEAF FAN cpus last }
         ensures dealt { IfOk result (λ opened. AreDealt cpus last (2 ^ 62)
-            (first_place + (1 + W) * nodes) 0 (of_plan opened.map.plan Idle) opened.map
+            (first_place + (1 + W) * nodes) (of_plan opened.map.plan Idle) opened.map
             opened.seats.items opened.watchers.items) }
         ensures plan { IfOk result (λ opened. opened.map.plan ≡ plan_of_map buckets W nodes seed) }
         ensures live { IfOk result (λ opened. opened.live ≡ opened.map) }
@@ -124,7 +128,7 @@ impl<E: Entry<W>, const W: usize> Map<E, W> {
         ensures fault { HasSizes buckets W nodes →
             tested_opening result ≡ opening_refusal LEAF FAN cpus last }
         ensures dealt { IfOk result (λ opened. AreDealt cpus last (2 ^ 62)
-            (first_place + (1 + W) * nodes) 0 (of_plan opened.map.plan Idle) opened.map
+            (first_place + (1 + W) * nodes) (of_plan opened.map.plan Idle) opened.map
             opened.seats.items opened.watchers.items) }
         ensures plan { IfOk result (λ opened. opened.map.plan ≡ plan_of_map buckets W nodes seed) }
         ensures engine { IfOk result (λ opened. opened.live ≡ engine_at_first

@@ -2,6 +2,7 @@
 use crate::entry::Entry;
 use rcu_graph::rule::GraphRule;
 use rcu_graph::{GraphSeat, GraphWatcher, Plan, Shape};
+use rcu_live::Alone;
 use std::marker::PhantomData;
 
 /// The facts of a map whose buckets' roots are the roots: a node in use is one, or has an entry's
@@ -30,8 +31,9 @@ impl<E: Entry<W>, const W: usize> Shape for MapShape<E, W> {
 /// The rule of a map, as a client of its engine.
 pub type MapRule<E, const W: usize> = GraphRule<MapShape<E, W>>;
 
-/// A processor's seat of a map's engine.
-pub type MapSeat<E, const W: usize> = GraphSeat<MapShape<E, W>>;
+/// A processor's seat of a map's engine: the map is its only client, or one of several, at this
+/// place.
+pub type MapSeat<E, const W: usize, P = Alone> = GraphSeat<MapShape<E, W>, P>;
 
 /// A watcher's seat of a map's engine.
-pub type MapWatcher<E, const W: usize> = GraphWatcher<MapShape<E, W>>;
+pub type MapWatcher<E, const W: usize, P = Alone> = GraphWatcher<MapShape<E, W>, P>;

@@ -5,27 +5,29 @@ ghost use Rattle.rcu_map.specs.Puts.{IsOfKey};
 use crate::entry::Entry;
 use crate::keeper::MapKeeper;
 use crate::put::Put;
+use crate::shape::MapRule;
 use rcu_graph::Full;
+use rcu_live::{Alone, Within};
 use std::sync::{Mutex, MutexGuard, Wait};
 
 /// The keeper of a map behind a lock: threads that share it update the map, one call at a time.
 /// What each call does to the map is said at [`MapKeeper`]. None holds the lock while it waits for
 /// a reader.
 #[derive(Drop)]
-pub struct Updater<E: Entry<W>, const W: usize> {
-    keeper: Mutex<MapKeeper<E, W>>,
+pub struct Updater<E: Entry<W>, const W: usize, P: Within<MapRule<E, W>> = Alone> {
+    keeper: Mutex<MapKeeper<E, W, P>>,
 }
 
-impl<E: Entry<W>, const W: usize> Updater<E, W> {
+impl<E: Entry<W>, const W: usize, P: Within<MapRule<E, W>>> Updater<E, W, P> {
     /// Puts the keeper of a map under a lock.
-    pub fn new(keeper: MapKeeper<E, W>) -> Self {
+    pub fn new(keeper: MapKeeper<E, W, P>) -> Self {
         Updater {
             keeper: Mutex::new(keeper),
         }
     }
 
     /// Lends the keeper, for several steps between which no other thread's comes.
-    pub fn lock(&self, rt: &impl Wait) -> MutexGuard<'_, MapKeeper<E, W>> {
+    pub fn lock(&self, rt: &impl Wait) -> MutexGuard<'_, MapKeeper<E, W, P>> {
         self.keeper.lock(rt)
     }
 

@@ -14,9 +14,11 @@ use crate::entry::Entry;
 use crate::keeper::MapKeeper;
 use crate::links::pass;
 use crate::put::Put;
+use crate::shape::MapRule;
 use rcu_graph::Full;
+use rcu_live::Within;
 
-impl<E: Entry<W>, const W: usize> MapKeeper<E, W> {
+impl<E: Entry<W>, const W: usize, P: Within<MapRule<E, W>>> MapKeeper<E, W, P> {
     /// Puts an entry of these words behind the node where its key belongs, which no entry has.
     fn put_behind(&mut self, previous: usize, words: &[u64; W]) -> Result<(), Full>
         requires whole { E.holds words.now }

@@ -4,7 +4,7 @@ use Rattle.std.specs.Prelude.{slice_index}
 use Rattle.rcu_seq.specs.Numbers.{snapshot}
 use Rattle.rcu_seq.specs.Seq.{number_of}
 use Rattle.rcu_seq.specs.Tags.{cookie_at, is_done_first, of_first_epoch}
-use Rattle.rcu_live.specs.Client.{Slots, Views}
+use Rattle.rcu_live.specs.Client.{Views}
 use Rattle.rcu_live.specs.Rule.{IsKept}
 use Rattle.rcu_live.proofs.DoneCookies.{not_done_while_open}
 use Rattle.rcu_graph.specs.declared.known.Planned.{Planned}
@@ -24,10 +24,10 @@ not_reached : (taken number : ℕ) → is_done_first (cookie_at (of_first_epoch 
 not_reached taken number undone reached = grind (arith, nat_tests)
 
 -- the rule of the engine's own words, whatever map lies behind them
-abbrev AnyMap : List ℕ → Slots (Unit {0}) → Views Planned → Type 0
-AnyMap words homes views = Unit {0}
+abbrev AnyMap : List ℕ → Views Planned → Type 0
+AnyMap words views = Unit {0}
 
-of_any_map : (holds : List ℕ → Slots (Unit {0}) → Views Planned → Type 0) (cpus : ℕ) (now : Moment)
+of_any_map : (holds : List ℕ → Views Planned → Type 0) (cpus : ℕ) (now : Moment)
     → IsKept holds cpus now → IsKept AnyMap cpus now
 of_any_map holds cpus now kept = record {
   room = kept.room;

@@ -6,8 +6,8 @@ use Rattle.rcu_graph.proofs.HeldNodes.{chains}
 use Rattle.rcu_graph.proofs.laws.chains_go_up.Goals as goal
 
 pub returns : goal.returns
-returns g c = λ plan ours root table homes xs keeper latest who own nodes stored h kept.
+returns g c = λ plan ours root table xs keeper latest who own nodes stored h kept.
     chains (g.F.Shape.fits plan) (g.F.Shape.joins plan) (g.F.Shape.first plan) plan.roots plan.links
-    plan.words plan.nodes ours root table homes (map unplanned xs) keeper latest who own nodes
+    plan.words plan.nodes ours root table (map unplanned xs) keeper latest who own nodes
     stored h.kept
     (at_map unplanned xs keeper (who, own, of_plan plan (Keeper latest nodes stored)) kept)

@@ -6,9 +6,9 @@ use Rattle.rcu_graph.proofs.HeldNodes.{live_leads}
 use Rattle.rcu_graph.proofs.laws.live_nodes_lead_to_live_nodes.Goals as goal
 
 pub returns : goal.returns
-returns g c = λ plan table homes xs keeper node link next latest who own nodes stored v h kept.
+returns g c = λ plan table xs keeper node link next latest who own nodes stored v h kept.
     live_leads (g.F.Shape.fits plan) (g.F.Shape.joins plan) (g.F.Shape.first plan) plan.roots
     plan.links
-    plan.words plan.nodes table homes (map unplanned xs) keeper node link next latest who own nodes
+    plan.words plan.nodes table (map unplanned xs) keeper node link next latest who own nodes
     stored v h.kept
     (at_map unplanned xs keeper (who, own, of_plan plan (Keeper latest nodes stored)) kept)

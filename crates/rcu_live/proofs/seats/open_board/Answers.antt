@@ -1,4 +1,4 @@
-use Rattle.std.proofs.Common.{◌≡◌, ◌∙◌, ap, length, map, subst, sym}
+use Rattle.std.proofs.Common.{◌≡◌, ◌∙◌, ap, map, subst, sym}
 use Rattle.std.specs.Arc.{arc_value}
 use Rattle.std.specs.List.{range_with_len}
 use Rattle.rcu_live.specs.Board.{IsSized, Object}
@@ -14,8 +14,7 @@ returns-clause-dealt g c =
     let board = arc_value c.in_ok-board-2.board in
     let idle = λ (plan : g.row.P-Plan.Denot). g.P.Client.idle (g.P.Client.first plan) in
     let sized =
-    subst
-    (IsSized cpus c.args.last c.args.most (length c.args.behind.now) (length c.args.slots.items))
+    subst (IsSized cpus c.args.last c.args.most (g.P.Client.size c.args.plan))
     (sym c.in_ok-board-2.ensures.ok) c.in_ok-board.ensures.size in
     let plan =
     ap (λ (o : Object g.row.P-Plan.Denot). o.plan) c.in_ok-board-2.ensures.ok
@@ -36,4 +35,4 @@ returns-clause-dealt g c =
     c.in_ok-seats.watchers.items
     ≡ map (λ _. watcher_at_first o.table (base_of cpus) (idle o.plan)) (range_with_len 0 cpus))
     c.deref.ensures c.in_ok-seats.ensures.watchers) in
-    are_dealt cpus _ _ _ _ (idle c.args.plan) board _ _ sized seats watchers
+    are_dealt cpus _ _ _ (idle c.args.plan) board _ _ sized seats watchers

@@ -1,9 +1,8 @@
-use Rattle.std.proofs.Common.{◌∙◌, ap, sym}
-use Rattle.rcu_live.specs.Board.{Object}
-use Rattle.rcu_graph.specs.declared.plan.Plan.{Plan}
+use Rattle.rcu_graph.proofs.Allowed.{claim_allowed}
 use Rattle.rcu_graph.proofs.graph.Graph.claim.Goals as goal
 
-pub load_word-requires-clause-allowed : goal.load_word-requires-clause-allowed
-load_word-requires-clause-allowed g c = c.claim_is_allowed.ensures c.deref-board.result.now.plan
-    (c.requires.seat.planned
-    ∙ ap (λ (o : Object Plan). o.plan) (sym (c.deref-board.ensures ∙ c.self.view_is)))
+pub watch-requires-clause-allowed : goal.watch-requires-clause-allowed
+watch-requires-clause-allowed g c =
+    claim_allowed g.F.Shape.fits g.F.Shape.joins g.F.Shape.first _ _
+    (g.P.Within.lens.get c.args.seat.now.view.client)
+    c.args.self.now.plan c.requires.seat.planned c.requires.owner

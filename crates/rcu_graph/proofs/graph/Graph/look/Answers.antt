@@ -1,9 +1,8 @@
-use Rattle.std.proofs.Common.{◌∙◌, ap, sym}
-use Rattle.rcu_live.specs.Board.{Object}
-use Rattle.rcu_graph.specs.declared.plan.Plan.{Plan}
+use Rattle.rcu_graph.proofs.Allowed.{age_allowed}
 use Rattle.rcu_graph.proofs.graph.Graph.look.Goals as goal
 
-pub load_number-requires-clause-allowed : goal.load_number-requires-clause-allowed
-load_number-requires-clause-allowed g c = c.age_is_allowed.ensures c.deref-board.result.now.plan
-    (c.requires.watches.planned
-    ∙ ap (λ (o : Object Plan). o.plan) (sym (c.deref-board.ensures ∙ c.self.view_is)))
+pub look_at_number-requires-clause-allowed : goal.look_at_number-requires-clause-allowed
+look_at_number-requires-clause-allowed g c =
+    age_allowed g.F.Shape.fits g.F.Shape.joins g.F.Shape.first _ _
+    (g.P.Within.lens.get c.args.seat.now.view.client)
+    c.args.self.now.plan c.requires.watches.planned c.requires.keeps

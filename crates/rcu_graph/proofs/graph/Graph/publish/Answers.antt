@@ -1,23 +1,30 @@
-use Rattle.std.proofs.Common.{◌∙◌, ap, arith, length-set, sym}
-use Rattle.rcu_live.specs.Board.{Object}
+use Rattle.std.proofs.Common.{◌∙◌, arith, length-set}
 use Rattle.rcu_graph.specs.Steps.{IsPublished}
 use Rattle.rcu_graph.specs.declared.plan.Plan.{Plan}
+use Rattle.rcu_graph.proofs.Allowed.{publish_allowed}
 use Rattle.rcu_graph.proofs.Keeping.{keeps_on}
 use Rattle.rcu_graph.proofs.Planned.{told_at}
 use Rattle.rcu_graph.proofs.graph.Graph.publish.Goals as goal
 
-pub store_word-requires-clause-allowed : goal.store_word-requires-clause-allowed
-store_word-requires-clause-allowed g c = c.publish_is_allowed.ensures c.deref-board.result.now.plan
-    (c.requires.keeper.watches.planned
-    ∙ ap (λ (o : Object Plan). o.plan) (sym (c.deref-board.ensures ∙ c.self.view_is)))
+pub store-requires-clause-allowed : goal.store-requires-clause-allowed
+store-requires-clause-allowed g c =
+    publish_allowed g.F.Shape.fits g.F.Shape.joins g.F.Shape.first _ _
+    (g.P.Within.lens.get c.args.seat.now.view.client)
+    c.args.self.now.plan c.requires.keeper.watches.planned c.args.from c.args.link c.args.to
+    c.place-place.result _
+    c.requires.keeper.keeps (omega (arith, c.requires.keeper.few, c.requires.from))
+    (omega (arith, c.requires.keeper.few, c.requires.to))
+    c.requires.link c.requires.live c.requires.ready c.requires.joined c.place-place.ensures.place
+    (omega arith)
 
 pub returns-clause-keeper : goal.returns-clause-keeper
 returns-clause-keeper g c =
-    let e = c.store_word.ensures in
+    let e = c.store.ensures.part in
     let k = c.requires.keeper in
     keeps_on _ _ _ _ _ _ e.state e.told.0
     (told_at (λ (p : Plan). IsPublished p.links p.words) c.place-place.result
-    c.args.seat.now.view.client _ c.store_word.new.self.view.client c.args.self.now.plan
+    (g.P.Within.lens.get c.args.seat.now.view.client) _
+    (g.P.Within.lens.get c.store.new.seat.view.client) c.args.self.now.plan
     k.watches.planned e.told c.args.from c.args.link c.args.to c.requires.link
     c.place-place.ensures.place
     (omega arith))

@@ -1,9 +1,19 @@
-use Rattle.std.proofs.Common.{◌∙◌, ap, sym}
-use Rattle.rcu_live.specs.Board.{Object}
-use Rattle.rcu_graph.specs.declared.plan.Plan.{Plan}
+use Rattle.std.proofs.Common.{◌≡◌, ◌+◌, subst}
+use Rattle.rcu_graph.specs.Nodes.{place_of}
+use Rattle.rcu_graph.specs.declared.plan.Row.{Row}
+use Rattle.rcu_graph.proofs.Allowed.{read_allowed}
 use Rattle.rcu_graph.proofs.graph.Graph.read.Goals as goal
 
-pub load_word-requires-clause-allowed : goal.load_word-requires-clause-allowed
-load_word-requires-clause-allowed g c = c.read_is_allowed.ensures c.deref-board.result.now.plan
-    (c.requires.at.walking.seat_of.planned
-    ∙ ap (λ (o : Object Plan). o.plan) (sym (c.deref-board.ensures ∙ c.self.view_is)))
+pub load-requires-clause-allowed : goal.load-requires-clause-allowed
+load-requires-clause-allowed g c =
+    read_allowed g.F.Shape.fits g.F.Shape.joins g.F.Shape.first _ _
+    (g.P.Within.lens.get c.args.seat.now.view.client)
+    c.args.self.now.plan c.requires.at.walking.seat_of.planned c.args.node c.args.word
+    c.place-place.result
+    c.requires.at.walking.is_open c.requires.at.walking.reads
+    (c.requires.at.words, c.requires.at.on)
+    c.requires.word
+    (subst (λ (row : Row). c.place-place.result
+    ≡ place_of (c.args.self.now.plan.links + c.args.self.now.plan.words) c.args.node
+    (row.links + c.args.word))
+    c.requires.row c.place-place.ensures.place)

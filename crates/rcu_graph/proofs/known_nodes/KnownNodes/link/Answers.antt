@@ -1,4 +1,5 @@
 use Rattle.std.proofs.Common.{◌≡◌, ◌∙◌, ap, subst, sym}
+use Rattle.rcu_live.specs.InPart.{watcher_part}
 use Rattle.rcu_live.specs.Watcher.{Watching}
 use Rattle.rcu_graph.specs.Graph.{IsWatcherOf}
 use Rattle.rcu_graph.specs.Keeper.{IsKeeperOf}
@@ -10,11 +11,12 @@ use Rattle.rcu_graph.proofs.known_nodes.KnownNodes.link.Goals as goal
 
 pub link-requires : goal.link-requires
 link-requires g c =
-    let is : c.self.inside.seat ≡ c.args.self.now = c.self.view_is in
+    let seat = watcher_part g.P.Within.lens c.self.inside.seat in
+    let is : seat ≡ c.args.self.now = c.self.view_is in
     let k = c.self.invariant in
     let watches = subst (λ (w : Watching Planned). IsWatcherOf c.args.graph.now w) (sym is)
     c.requires.graph in
-    let keeper : IsKeeperOf c.args.graph.now c.self.inside.seat = record {
+    let keeper : IsKeeperOf c.args.graph.now seat = record {
       watches = watches;
       role = k.role;
       keeps = k.keeps;

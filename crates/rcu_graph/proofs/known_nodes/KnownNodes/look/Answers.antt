@@ -17,7 +17,7 @@ invariant_of-self g c =
     let k = c.self.invariant in
     let e = c.look-number.ensures in
     let n : ℕ = c.look-number.result in
-    let was : Known = c.self.inside.seat.view.client.known in
+    let was : Known = (g.P.Within.lens.get c.self.inside.seat.view.client).known in
     let seen = k.late in
     let later = e.later in
     let low : latest_in was ≤ n = omega (arith, seen, later) in
@@ -25,7 +25,7 @@ invariant_of-self g c =
     max-le {a = n} {b = latest_in was} {k = n} (omega arith) low in
     let over : n ≤ max n (latest_in was) = le-max_left n (latest_in was) in
     let same : max n (latest_in was) ≡ n = omega (arith, up, over) in
-    let latest : latest_in c.look-number.new.seat.view.client.known ≡ n =
+    let latest : latest_in (g.P.Within.lens.get c.look-number.new.seat.view.client).known ≡ n =
     ap (λ (w : Watching Planned). latest_in w.view.client.known) e.state ∙ same in
     let now : c.look-number.new.seat.view.seen ≡ n =
     ap (λ (w : Watching Planned). w.view.seen) e.state in

@@ -2,21 +2,20 @@ use Rattle.std.proofs.Common.{Some, ℕ, ◌+◌, ◌<◌, ap, arith, rules, sub
 use Rattle.rcu_live.specs.Board.{Object}
 use Rattle.rcu_live.specs.Client.{AllowsWord}
 use Rattle.rcu_live.specs.View.{if_cpu}
-use Rattle.rcu_live.specs.Words.{base_of}
 use Rattle.rcu_live.proofs.ClientSteps.{steps_on_word}
 use Rattle.rcu_live.proofs.board.Board.load_word.Goals as goal
 
 pub overflow_add-own_word_index : goal.overflow_add-own_word_index
 overflow_add-own_word_index g c =
     let inside =
-    subst (λ (o : Object g.row.P-Plan.Denot). base_of o.cpus + c.args.word < o.table.words)
+    subst (λ (o : Object g.row.P-Plan.Denot). o.base + c.args.word < o.table.words)
     (sym c.self.view_is) c.requires.inside in
     omega (arith, c.own_word_index.ensures, inside, c.self.invariant.long)
 
 pub load-requires : goal.load-requires
 load-requires g c =
     let inside =
-    subst (λ (o : Object g.row.P-Plan.Denot). base_of o.cpus + c.args.word < o.table.words)
+    subst (λ (o : Object g.row.P-Plan.Denot). o.base + c.args.word < o.table.words)
     (sym c.self.view_is) c.requires.inside in
     let v = c.args.seat.now.me.0 in
     let p = c.args.word in

@@ -1,4 +1,4 @@
-use Rattle.std.proofs.Common.{arith, ℕ, List, sym, ◌∙◌, subst, ap, ◌++◌}
+use Rattle.std.proofs.Common.{◌∙◌, ◌++◌, ℕ, List, ap, arith, subst, sym}
 use Rattle.atomic_table.specs.Table.{opening}
 use Rattle.rcu_live.specs.Rule.{IsKept}
 use Rattle.rcu_live.specs.View.{engine_seat}
@@ -7,23 +7,25 @@ use Rattle.rcu_live.proofs.board.Board.open.Goals as goal
 
 pub new-requires : goal.new-requires
 new-requires g c =
+    let added = c.in_ok-add_words.ensures in
+    let none = c.new-none.result.items in
     let words =
-    c.as_slice.ensures.value ∙ c.in_ok-extend_from_slice.ensures.items
-    ∙ ap (λ (front : List ℕ). front ++ c.args.behind.now) c.in_ok-words.ensures in
+    c.as_slice.ensures.value ∙ added.added
+    ∙ ap (λ (front : List ℕ). front ++ added.own) c.in_ok-words.ensures in
     subst (λ (words : List ℕ). IsKept (g.P.Client.holds c.args.plan) c.args.cpus
-    (opening words c.args.slots.items (engine_seat c.args.cpus 0 (g.P.Client.first c.args.plan))))
+    (opening words none (engine_seat c.args.cpus 0 (g.P.Client.first c.args.plan))))
     (sym words)
-    (starts (g.P.Client.holds c.args.plan) c.args.cpus c.args.behind.now c.args.slots.items
-    (g.P.Client.first c.args.plan)
-    c.requires.cpus.some c.requires.client)
+    (starts (g.P.Client.holds c.args.plan) c.args.cpus added.own none
+    (g.P.Client.first c.args.plan) c.requires.cpus.some added.kept)
 
 pub invariant_of-result : goal.invariant_of-result
 invariant_of-result g c =
+    let added = c.in_ok-add_words.ensures in
     let words =
-    c.as_slice.ensures.value ∙ c.in_ok-extend_from_slice.ensures.items
-    ∙ ap (λ (front : List ℕ). front ++ c.args.behind.now) c.in_ok-words.ensures in
-    let room = room_at_first c.args.cpus c.args.behind.now c.as_slice.result.now words in
-    let v = c.extend_from_slice.new.self in record {
+    c.as_slice.ensures.value ∙ added.added
+    ∙ ap (λ (front : List ℕ). front ++ added.own) c.in_ok-words.ensures in
+    let room = room_at_first c.args.cpus added.own c.as_slice.result.now words in
+    let v = c.add_words.new.words in record {
       key = ap (λ (k : ℕ × g.row.P-Plan.Denot). k.0) c.in-Ok.ensures.ok.5;
       room = omega (arith, room, c.in-Ok.ensures.ok.0);
       long = omega (arith, v.ok.0, v.ok.1, v.small, c.as_slice.ensures.len, c.in-Ok.ensures.ok.0);

@@ -1,24 +1,12 @@
 use Rattle.std.proofs.Common.{Some, subst, sym}
 use Rattle.rcu_live.specs.Board.{Object}
 use Rattle.rcu_live.specs.Client.{AllowsWord}
-use Rattle.rcu_live.specs.CpuSeat.{Seated}
-use Rattle.rcu_live.specs.View.{if_cpu}
-use Rattle.rcu_live.proofs.ClientSteps.{allows_word_of_cpu}
 use Rattle.rcu_live.proofs.cpu_seat.CpuSeat.load_word.Goals as goal
 
-pub load_word-requires-clause-allowed : goal.load_word-requires-clause-allowed
-load_word-requires-clause-allowed g c =
-    let holds = g.P.Client.holds (g.L.Shared.object c.args.live.now).plan in
-    let p = c.args.word in
-    let v = c.self.inside.seat.me.0 in
-    let allowed = subst (λ (s : Seated g.row.P-Known.Denot).
-    AllowsWord holds (Some s.cpu) s.view.section s.view.client p (λ n. n)
-    (g.M.WordStep.then p s.view.client))
-    (sym c.self.view_is) c.requires.allowed in
-    subst (λ (o : Object g.row.P-Plan.Denot). AllowsWord (g.P.Client.holds o.plan)
-    (if_cpu v.role (Some v.cpu)) (if_cpu v.role v.section) v.client p (λ n. n)
-    (g.M.WordStep.then p v.client))
-    (sym c.board.ensures)
-    (allows_word_of_cpu holds _ _ _ _ _ p (λ n. n)
-    (g.M.WordStep.then p c.self.inside.seat.me.0.client) c.self.invariant.role c.self.invariant.own
-    allowed)
+pub load_at-requires-clause-allowed : goal.load_at-requires-clause-allowed
+load_at-requires-clause-allowed g c =
+    let s = c.args.self.now in
+    subst (λ (o : Object g.row.P-Plan.Denot).
+    AllowsWord (g.P.Client.holds o.plan) (Some s.cpu) s.view.section s.view.client c.args.word
+    (λ n. n) (g.M.WordStep.then c.args.word s.view.client))
+    (sym c.board.ensures) c.requires.allowed

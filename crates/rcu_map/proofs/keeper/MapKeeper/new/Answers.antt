@@ -1,5 +1,6 @@
 use Rattle.std.proofs.Common.{◌∙◌, ℕ, List, ap, arith, subst, sym}
 use Rattle.rcu_live.specs.Board.{Object}
+use Rattle.rcu_live.specs.InPart.{watcher_part}
 use Rattle.rcu_live.specs.Watcher.{Watching}
 use Rattle.rcu_graph.specs.Keeper.{IsKeeperOf}
 use Rattle.rcu_graph.specs.Nodes.{first_nodes, nodes_in}
@@ -16,10 +17,10 @@ use Rattle.rcu_map.proofs.keeper.MapKeeper.new.Goals as goal
 pub keep-requires : goal.keep-requires
 keep-requires g c = record {
   one = c.map.invariant.one;
-  keeper = subst (λ (o : Object Plan). IsKeeperOf o c.args.seat) (sym c.map.view_is)
-      c.requires.keeper;
+  keeper = subst (λ (o : Object Plan). IsKeeperOf o (watcher_part g.P.Within.lens c.args.seat))
+      (sym c.map.view_is) c.requires.keeper;
   nodes = subst (λ (o : Object Plan). IsClaimed (root_words o.plan.words) o.plan.roots
-      o.plan.links o.plan.words o.plan.nodes c.args.seat.view.client.known)
+      o.plan.links o.plan.words o.plan.nodes (g.P.Within.lens.get c.args.seat.view.client).known)
       (sym c.map.view_is) c.requires.nodes;
   whole = roots_are_whole g.E.Invariant.holds c.map.inside.graph.plan;
 }
@@ -32,11 +33,13 @@ invariant_of-result g c =
     let kept = c.in_ok-nodes.ensures in
     let p : Plan = c.map.inside.graph.plan in
     let nodes : List Node = nodes_in c.in_ok-nodes.nodes.view.client.known in
-    let keeper = subst (λ (o : Object Plan). IsKeeperOf o c.args.seat) back c.requires.keeper in
+    let keeper = subst (λ (o : Object Plan).
+    IsKeeperOf o (watcher_part g.P.Within.lens c.args.seat)) back c.requires.keeper in
     let planned = ap (λ (w : Watching Planned). w.view.client.plan) kept.same
     ∙ keeper.watches.planned in
     let claimed = subst (λ (o : Object Plan). IsClaimed (root_words o.plan.words) o.plan.roots
-    o.plan.links o.plan.words o.plan.nodes c.args.seat.view.client.known) back c.requires.nodes in
+    o.plan.links o.plan.words o.plan.nodes (g.P.Within.lens.get c.args.seat.view.client).known)
+    back c.requires.nodes in
     let e = ap (λ (w : Watching Planned). nodes_in w.view.client.known) kept.same
     ∙ (ap nodes_in claimed
     ∙ ap (λ (links : ℕ). first_nodes links p.words (root_words p.words) p.roots p.nodes) k.one) in

@@ -2,7 +2,6 @@ use Rattle.std.proofs.Common.{◌∙◌, Some, ap, arith, inr, subst, sym, ℕ}
 use Rattle.rcu_live.specs.CpuSeat.{Seated}
 use Rattle.rcu_graph.specs.Nodes.{IsHeld}
 use Rattle.rcu_graph.specs.Search.{IsSearched}
-use Rattle.rcu_graph.specs.declared.known.Planned.{Planned}
 use Rattle.rcu_map.specs.Keys.{bucket_of}
 use Rattle.rcu_map.proofs.map.Map.get.Goals as goal
 
@@ -14,12 +13,14 @@ returns-clause-got g c = λ up.
     let bucket : ℕ = bucket_of c.args.self.now.plan.roots c.args.self.now.plan.seed c.args.key in
     record {
       node = Some node;
-      searched = subst (λ (s : Seated Planned). IsSearched bucket c.args.key
-          c.args.seat.now.view.client.known (Some node) s.view.client.known)
+      searched = subst (λ (s : Seated g.row.P-Whole-Known.Denot). IsSearched bucket c.args.key
+          (g.P.Within.lens.get c.args.seat.now.view.client).known (Some node)
+          (g.P.Within.lens.get s.view.client).known)
           back (c.in_ok-node.ensures.searched up);
       told = record {
         words = f.words;
-        held = subst (λ (s : Seated Planned). IsHeld s.view.client.known node f.words) back f.held;
+        held = subst (λ (s : Seated g.row.P-Whole-Known.Denot). IsHeld
+            (g.P.Within.lens.get s.view.client).known node f.words) back f.held;
         whole = f.whole.entry (let is = f.is in omega (arith, is, up));
         is = f.is;
         told =

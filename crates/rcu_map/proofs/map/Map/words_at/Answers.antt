@@ -3,7 +3,6 @@ use Rattle.std.proofs.lemmas.List.{length-replicate}
 use Rattle.rcu_live.specs.Board.{Object}
 use Rattle.rcu_live.specs.CpuSeat.{Seated}
 use Rattle.rcu_graph.specs.Nodes.{IsOn}
-use Rattle.rcu_graph.specs.declared.known.Planned.{Planned}
 use Rattle.rcu_graph.specs.declared.plan.Plan.{Plan}
 use Rattle.rcu_map.specs.Keys.{root_words}
 use Rattle.rcu_map.proofs.Rows.{read_all, read_more}
@@ -22,10 +21,11 @@ loop-word-preserved g c =
           read_more c.loop-word.words words c.loop-word.word c.read.result low (i.told words on is)
           (c.read.ensures.told words
           (subst (λ (map : Object Plan). IsOn (root_words map.plan.words) map.plan.roots
-          c.loop-word.seat.view.client.known c.args.node words)
+          (g.P.Within.lens.get c.loop-word.seat.view.client).known c.args.node words)
           (sym c.self.view_is)
-          (subst (λ (s : Seated Planned). IsOn (root_words c.args.self.now.plan.words)
-          c.args.self.now.plan.roots s.view.client.known c.args.node words)
+          (subst (λ (s : Seated g.row.P-Whole-Known.Denot). IsOn (root_words
+          c.args.self.now.plan.words)
+          c.args.self.now.plan.roots (g.P.Within.lens.get s.view.client).known c.args.node words)
           (sym i.same) on)));
     }
 

@@ -9,8 +9,8 @@ invariant-loop-word g l = record {
   same : l.seat ≡ l.initial.seat;
   size : length l.words ≡ length l.initial.words;
   told : (words : List ℕ)
-      → IsOn (root_words l.self.plan.words) l.self.plan.roots l.initial.seat.view.client.known
-      l.node words
+      → IsOn (root_words l.self.plan.words) l.self.plan.roots
+      (g.P.Within.lens.get l.initial.seat.view.client).known l.node words
       → key_in words ≡ l.key
       → (j : ℕ) → j < l.word
       → slice_index l.words j ≡ slice_index words j;

@@ -1,0 +1,75 @@
+//! A cell that is one of several clients of its engine.
+ghost use Rattle.std.specs.Prelude.{◌≡◌, ◌<◌, ◌+◌, IfErr, IfOk, OnErr, OnOk};
+ghost use Rattle.std.specs.Arc.{arc_value};
+ghost use Rattle.rcu_live.specs.InPart.{engine_part, watcher_part};
+ghost use Rattle.rcu_live.specs.Watcher.{IsWatcherOf, after_word_step};
+ghost use Rattle.rcu_graph.specs.Keeper.{IsKeeperOf};
+ghost use Rattle.rcu_graph.specs.Opening.{AreWhole, IsSized, claimed_first};
+ghost use Rattle.rcu_graph.specs.Planned.{of_plan};
+ghost use Rattle.rcu_graph.specs.declared.known.Known.TheVariants.{Idle, Owner};
+ghost use Rattle.rcu_graph.specs.declared.not_opened.NotOpened.{NotOpened};
+ghost use Rattle.rcu_cell.specs.Opening.{HasSizes, plan_of_cell};
+
+use crate::cell::Cell;
+use crate::opening::plan_of;
+use crate::shape::{CellRule, CellWatcher, Version};
+use rcu_graph::{Graph, NotOpened, Plan};
+use rcu_live::{Board, Client, Within};
+use std::alloc::{AllocError, Global};
+use std::sync::Arc;
+
+impl<F: Version<W>, const W: usize, P: Within<CellRule<F, W>>> Cell<F, W, P> {
+    /// The cell at this place of an engine that was opened by this plan, and the watcher that its
+    /// keeper takes ([`Graph::join`]).
+    pub fn join(
+        board: &Arc<Board<P::Whole>, Global>,
+        own: &mut CellWatcher<F, W, P>,
+        plan: <P::Whole as Client>::Plan,
+    ) -> Result<(Cell<F, W, P>, CellWatcher<F, W, P>), AllocError>
+        requires plan { (arc_value board.now).plan ≡ plan }
+        requires suits { P.Whole.suits plan }
+        requires words { (arc_value board.now).table.words
+            ≡ (arc_value board.now).base + P.Whole.size plan }
+        requires own { IsWatcherOf (engine_part P.own_plan P.begins (arc_value board.now))
+            (watcher_part P.lens own.old) }
+        requires first { P.lens.get own.old.view.client ≡ of_plan (P.own_plan plan) Owner }
+        requires root { (P.own_plan plan).roots ≡ 1 }
+        requires one { (P.own_plan plan).links ≡ 1 }
+        requires version { (P.own_plan plan).words ≡ W }
+        ensures cell { IfOk result (λ joined.
+            joined.0 ≡ engine_part P.own_plan P.begins (arc_value board.now)) }
+        ensures keeper { IfOk result (λ joined.
+            IsKeeperOf joined.0 (watcher_part P.lens joined.1)) }
+        ensures claimed { IfOk result (λ joined. P.lens.get joined.1.view.client
+            ≡ claimed_first (λ _. F.first) (P.own_plan plan)) }
+        ensures left { OnOk result (own.new ≡ after_word_step own.old
+            (P.lens.set own.old.view.client (of_plan (P.own_plan plan) Idle))) }
+        ensures unchanged { OnErr result (own.new ≡ own.old) }
+    {
+        let (graph, keeper) = Graph::join(board, own, plan)?;
+        Ok((Cell::over(graph), keeper))
+    }
+}
+
+impl<F: Version<W>, const W: usize> Cell<F, W> {
+    /// The plan of a cell of so many slots, as one of several clients.
+    ///
+    /// It is `BadSizes` for fewer than two slots, no word, or more than 2^32 words in all.
+    pub fn sized(slots: usize) -> Result<Plan, NotOpened>
+        ensures plan { IfOk result (λ plan. plan ≡ plan_of_cell W slots) }
+        ensures several { IfOk result (λ plan. 2 < plan.nodes) }
+        ensures sized { IfOk result (λ plan. IsSized plan) }
+        ensures whole { IfOk result (λ plan. AreWhole F.holds (λ _. F.first) plan) }
+        ensures bad_sizes { OnErr result (¬ HasSizes W slots) }
+        ensures fault { IfErr result (λ fault. fault ≡ NotOpened.BadSizes) }
+    {
+        F::first_word(0);
+        let Some(plan) = plan_of(W, slots) else {
+            return Err(NotOpened::BadSizes);
+        };
+        if !plan.is_sized() {
+            return Err(NotOpened::BadSizes);
+        }
+        Ok(plan)
+    }
+}

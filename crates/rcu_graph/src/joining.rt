@@ -1,0 +1,58 @@
+//! A graph that is one of several of its engine.
+ghost use Rattle.std.specs.Prelude.{◌≡◌, ◌+◌, IfOk, OnErr, OnOk};
+ghost use Rattle.std.specs.Arc.{arc_value};
+ghost use Rattle.rcu_live.specs.InPart.{engine_part, watcher_part};
+ghost use Rattle.rcu_live.specs.Watcher.{IsWatcherOf, after_word_step, watcher_at_first};
+ghost use Rattle.rcu_graph.specs.Keeper.{IsKeeperOf};
+ghost use Rattle.rcu_graph.specs.Opening.{claimed_first};
+ghost use Rattle.rcu_graph.specs.Planned.{of_plan};
+ghost use Rattle.rcu_graph.specs.declared.known.Known.TheVariants.{Idle, Owner};
+
+use crate::graph::Graph;
+use crate::rule::{GraphRule, GraphWatcher, Shape};
+use rcu_live::{Board, Client, Within, in_part};
+use std::alloc::{AllocError, Global};
+use std::sync::Arc;
+
+impl<F: Shape, P: Within<GraphRule<F>>> Graph<F, P> {
+    /// The graph at this place of an engine that was opened by this plan, and the watcher that
+    /// keeps its nodes. It has what the engine's own watcher knew of the graph; of all else that
+    /// one knows what it knew.
+    pub fn join(
+        board: &Arc<Board<P::Whole>, Global>,
+        own: &mut GraphWatcher<F, P>,
+        plan: <P::Whole as Client>::Plan,
+    ) -> Result<(Graph<F, P>, GraphWatcher<F, P>), AllocError>
+        requires plan { (arc_value board.now).plan ≡ plan }
+        requires suits { P.Whole.suits plan }
+        requires words { (arc_value board.now).table.words
+            ≡ (arc_value board.now).base + P.Whole.size plan }
+        requires own { IsWatcherOf (engine_part P.own_plan P.begins (arc_value board.now))
+            (watcher_part P.lens own.old) }
+        requires first { P.lens.get own.old.view.client ≡ of_plan (P.own_plan plan) Owner }
+        ensures graph { IfOk result (λ joined.
+            joined.0 ≡ engine_part P.own_plan P.begins (arc_value board.now)) }
+        ensures keeper { IfOk result (λ joined.
+            IsKeeperOf joined.0 (watcher_part P.lens joined.1)) }
+        ensures claimed { IfOk result (λ joined. P.lens.get joined.1.view.client
+            ≡ claimed_first (F.first (P.own_plan plan)) (P.own_plan plan)) }
+        ensures new { IfOk result (λ joined. joined.1
+            ≡ watcher_at_first own.old.table own.old.view.base
+            (P.lens.set (P.Whole.idle own.old.view.client)
+            (claimed_first (F.first (P.own_plan plan)) (P.own_plan plan)))) }
+        ensures left { OnOk result (own.new ≡ after_word_step own.old
+            (P.lens.set own.old.view.client (of_plan (P.own_plan plan) Idle))) }
+        ensures unchanged { OnErr result (own.new ≡ own.old) }
+    {
+        let words = &**board;
+        words.fits();
+        let graph = Graph {
+            board: Arc::try_clone(board)?,
+            plan: P::plan(plan),
+            base: P::base(plan),
+        };
+        let mut keeper = in_part::hand_over::<GraphRule<F>, P>(own, words);
+        graph.claim(&mut keeper);
+        Ok((graph, keeper))
+    }
+}

@@ -1,0 +1,75 @@
+//! A map that is one of several clients of its engine.
+ghost use Rattle.std.specs.Prelude.{◌≡◌, ◌<◌, ◌+◌, IfErr, IfOk, OnErr, OnOk};
+ghost use Rattle.std.specs.Arc.{arc_value};
+ghost use Rattle.rcu_live.specs.InPart.{engine_part, watcher_part};
+ghost use Rattle.rcu_live.specs.Watcher.{IsWatcherOf, after_word_step};
+ghost use Rattle.rcu_graph.specs.Keeper.{IsKeeperOf};
+ghost use Rattle.rcu_graph.specs.Opening.{AreWhole, IsSized, claimed_first};
+ghost use Rattle.rcu_graph.specs.Planned.{of_plan};
+ghost use Rattle.rcu_graph.specs.declared.known.Known.TheVariants.{Idle, Owner};
+ghost use Rattle.rcu_graph.specs.declared.not_opened.NotOpened.{NotOpened};
+ghost use Rattle.rcu_map.specs.Chains.{HasSizes, plan_of_map};
+ghost use Rattle.rcu_map.specs.Keys.{IsWhole, root_words};
+
+use crate::entry::Entry;
+use crate::map::Map;
+use crate::opening::make_plan;
+use crate::shape::{MapRule, MapWatcher};
+use rcu_graph::{Graph, NotOpened, Plan};
+use rcu_live::{Board, Client, Within};
+use std::alloc::{AllocError, Global};
+use std::sync::Arc;
+
+impl<E: Entry<W>, const W: usize, P: Within<MapRule<E, W>>> Map<E, W, P> {
+    /// The map at this place of an engine that was opened by this plan, and the watcher that its
+    /// keeper takes ([`Graph::join`]).
+    pub fn join(
+        board: &Arc<Board<P::Whole>, Global>,
+        own: &mut MapWatcher<E, W, P>,
+        plan: <P::Whole as Client>::Plan,
+    ) -> Result<(Map<E, W, P>, MapWatcher<E, W, P>), AllocError>
+        requires plan { (arc_value board.now).plan ≡ plan }
+        requires suits { P.Whole.suits plan }
+        requires words { (arc_value board.now).table.words
+            ≡ (arc_value board.now).base + P.Whole.size plan }
+        requires own { IsWatcherOf (engine_part P.own_plan P.begins (arc_value board.now))
+            (watcher_part P.lens own.old) }
+        requires first { P.lens.get own.old.view.client ≡ of_plan (P.own_plan plan) Owner }
+        requires buckets { 0 < (P.own_plan plan).roots }
+        requires one { (P.own_plan plan).links ≡ 1 }
+        requires entries { (P.own_plan plan).words ≡ W }
+        ensures map { IfOk result (λ joined.
+            joined.0 ≡ engine_part P.own_plan P.begins (arc_value board.now)) }
+        ensures keeper { IfOk result (λ joined.
+            IsKeeperOf joined.0 (watcher_part P.lens joined.1)) }
+        ensures claimed { IfOk result (λ joined. P.lens.get joined.1.view.client
+            ≡ claimed_first (root_words (P.own_plan plan).words) (P.own_plan plan)) }
+        ensures left { OnOk result (own.new ≡ after_word_step own.old
+            (P.lens.set own.old.view.client (of_plan (P.own_plan plan) Idle))) }
+        ensures unchanged { OnErr result (own.new ≡ own.old) }
+    {
+        let (graph, keeper) = Graph::join(board, own, plan)?;
+        Ok((Map::over(graph), keeper))
+    }
+}
+
+impl<E: Entry<W>, const W: usize> Map<E, W> {
+    /// The plan of a map of so many buckets and nodes, and of this seed, as one of several clients.
+    ///
+    /// It is `BadSizes` where no map is so large.
+    pub fn sized(buckets: usize, nodes: usize, seed: u64) -> Result<Plan, NotOpened>
+        ensures plan { IfOk result (λ plan. plan ≡ plan_of_map buckets W nodes seed) }
+        ensures some { IfOk result (λ plan. 0 < plan.roots) }
+        ensures sized { IfOk result (λ plan. IsSized plan) }
+        ensures whole { IfOk result (λ plan.
+            AreWhole (IsWhole E.holds plan.words) (root_words plan.words) plan) }
+        ensures bad_sizes { OnErr result (¬ HasSizes buckets W nodes) }
+        ensures fault { IfErr result (λ fault. fault ≡ NotOpened.BadSizes) }
+    {
+        let plan = make_plan::<W>(buckets, nodes, seed)?;
+        if !plan.is_sized() {
+            return Err(NotOpened::BadSizes);
+        }
+        Ok(plan)
+    }
+}
