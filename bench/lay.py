@@ -17,6 +17,9 @@ BENCH = os.path.dirname(os.path.realpath(__file__))
 ROOT = os.path.dirname(BENCH)
 RATTLE = f"{BENCH}/rattle"
 PARTS = ("src", "specs", "proofs", "out")
+TACTIC = "#![tactic(auto)]\n"
+# The crate of several programs.
+TOGETHER = "together"
 
 
 def crates_in(path):
@@ -54,6 +57,27 @@ def lay_program(name, top, programs=RATTLE):
     os.makedirs(f"{top}/crates/{name}/proofs", exist_ok=True)
     with open(f"{top}/crates/{name}/proofs/Lib.antt", "w", encoding="utf-8"):
         pass
+
+
+def lay_together(top, names):
+    """Lays crates of the folder's crates.txt once more, as modules of one crate: so what they stand
+    on is read once for all. There each `main` is a test, which may wait and start threads too."""
+    for name in names:
+        for path in glob.glob(f"{top}/crates/{name}/src/*.rt"):
+            with open(path, encoding="utf-8") as file:
+                text = file.read().replace(TACTIC, "").replace("crate::", f"crate::{name}::")
+            is_root = os.path.basename(path) in ("main.rt", "lib.rt")
+            made = f"{top}/crates/{TOGETHER}/src/{name}" + (
+                ".rt" if is_root else f"/{os.path.basename(path)}")
+            os.makedirs(os.path.dirname(made), exist_ok=True)
+            with open(made, "w", encoding="utf-8") as file:
+                file.write(text.replace("\nfn main(", "\n#[test]\nfn main("))
+    with open(f"{top}/crates/{TOGETHER}/src/lib.rt", "w", encoding="utf-8") as file:
+        file.writelines([TACTIC, *(f"mod {name};\n" for name in names)])
+    crates = crates_in(f"{top}/crates.txt")
+    below = dict.fromkeys(it for name in names for it in crates[name])
+    with open(f"{top}/crates.txt", "a", encoding="utf-8") as file:
+        file.write(f"{TOGETHER}: {' '.join(below)}\n")
 
 
 def lay(top, names, parts=PARTS):
