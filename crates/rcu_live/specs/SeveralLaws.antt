@@ -394,7 +394,8 @@ module _ {C D : Type 0} (first : List ℕ → Views C → Type 0) (second : List
           told = each_set IsTold xs id x h.told (h.told id (cpu, section, c) at);
         };
     deals = λ words xs id who section c cpu h at.
-        let x : ClientView (BothKnown C D) = (cpu, None, of_both idle_first idle_second c) in record {
+        let x : ClientView (BothKnown C D) =
+        (cpu, None, of_both idle_first idle_second c) in record {
           one = subst (first (take split words)) (sym (map-append shown_first xs (x ∷ [])))
               (one.deals (take split words) (map shown_first xs) id who section c.first cpu h.one
               (at_map shown_first xs id (who, section, c) at));
