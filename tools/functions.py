@@ -58,7 +58,7 @@ def block_name(head, counts):
     bare = without_arguments(head)
     trait, _, kind = bare.removeprefix("impl").strip().rpartition(" for ")
     kind = re.findall(r"\w+", kind)[-1]
-    own = re.match(r"impl<((?:[^<>]|<[^<>]*>)*)>", head)
+    own = re.match(r"impl<((?:[^<>]|<(?:[^<>]|<[^<>]*>)*>)*)>", head)
     parameters = re.findall(r"(\w+)(?=\s*[:,]|$)", own[1]) if own else []
     arguments = re.findall(r"\w+", head.rpartition(kind)[2])
     # (arguments that are no parameters of the impl are a part of the name)
