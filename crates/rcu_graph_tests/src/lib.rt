@@ -11,3 +11,5 @@ mod map;
 mod nodes;
 #[cfg(test)]
 mod seats;
+#[cfg(test)]
+mod several;

@@ -3,7 +3,7 @@
 mod large;
 mod next;
 mod reuse;
-mod route;
+pub(crate) mod route;
 mod scene;
 mod script;
 mod steps;
