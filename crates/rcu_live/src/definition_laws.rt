@@ -19,6 +19,8 @@ ghost use Rattle.rcu_live.specs.Opening.{engine_at_first};
 ghost use Rattle.rcu_live.specs.Runs.{Call, IsNew, IsRun, Makes, MayCall, after_call};
 ghost use Rattle.rcu_live.specs.Runs.{engine_after, queued_as, queued_before_barrier};
 ghost use Rattle.rcu_live.specs.Runs.{times_handed_out, turns_since};
+ghost use Rattle.rcu_live.specs.Several.{HoldsBoth, IsLens, IsPart, IsWordOf, of_both, whole};
+ghost use Rattle.rcu_live.specs.declared.both_known.BothKnown.{BothKnown};
 
 use crate::client::Client;
 
@@ -189,4 +191,29 @@ pub fn what_is_due_has_waited<T: Drop>()
         length calls ≤ most }
     ensures word { (number most : ℕ) (calls : List (Queued T)) → AreDue number most calls →
         is_number_word number ≡ true }
+{}
+
+/// A pair of clients holds where each one's rule holds of its own words, the second's behind the
+/// first's, and each seat knows how many the first has.
+pub fn a_pair_holds_where_each_does()
+    ensures both { HoldsBoth {C = ℕ} {D = ℕ} (λ words _. words ≡ 1 ∷ []) (λ words _. words ≡ 2 ∷ [])
+        1 (1 ∷ 2 ∷ []) [] }
+    ensures other_way { HoldsBoth {C = ℕ} {D = ℕ} (λ words _. words ≡ 1 ∷ [])
+        (λ words _. words ≡ 2 ∷ []) 1 (2 ∷ 1 ∷ []) [] → ⊥ }
+    ensures told { (words : List ℕ) → HoldsBoth {C = ℕ} {D = ℕ} (λ _ _. Unit {0})
+        (λ _ _. Unit {0}) 1 words ((None, None, record { first = 0; second = 0; split = 2 }) ∷ [])
+        → ⊥ }
+    ensures idle { (known : BothKnown ℕ ℕ) →
+        (of_both (λ _. 0) (λ n. n) known).second ≡ known.second }
+{}
+
+/// What sets nothing is no part of what a seat knows, and a part begins at its own first word.
+pub fn a_part_is_set_and_has_its_place()
+    ensures set { IsLens {D = ℕ} {C = ℕ}
+        (record { get = λ c. c; set = λ d _. d; begins = λ base _. base })
+        (λ c. c) (λ c. c) (λ c. c) (λ c. c) → ⊥ }
+    ensures place { IsPart {D = ℕ} {C = ℕ} whole (λ words _. words ≡ 0 ∷ [])
+        (λ words _. words ≡ 0 ∷ []) (λ words. words) 1 (λ c. c) (λ c. c) → ⊥ }
+    ensures word { IsWordOf {C = ℕ} (λ words _. words ≡ 0 ∷ []) 0 }
+    ensures no_word { IsWordOf {C = ℕ} (λ words _. words ≡ 0 ∷ []) 1 → ⊥ }
 {}
