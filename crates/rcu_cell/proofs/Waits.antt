@@ -14,7 +14,7 @@ use Rattle.rcu_cell.specs.Waits.{UpdatedInTime}
 use Rattle.rcu_cell.specs.declared.keeper.Retired.{Retired}
 
 -- no slot was free, and then one was: the shown slot is the same
-pub updated_later : (seat now : Seated Planned) (before looked : Watching Planned)
+pub updated_later : {C : Type 0} (seat now : Seated C) (before looked : Watching Planned)
     (words : List ℕ) (retired : Retired) (after : Watching Planned)
     → seat.depth ≡ 0
     → AreAllUsed (nodes_in before.view.client.known)

@@ -1,13 +1,13 @@
 -- What a section reads of a cell.
 use Rattle.std.specs.Prelude.{◌≡◌, ◌<◌, ℕ, zero, suc, List, [], ◌∷◌, length}
 use Rattle.rcu_live.specs.Board.{Object}
-use Rattle.rcu_live.specs.CpuSeat.{IsSeatOf, Seated, after_word_step}
+use Rattle.rcu_live.specs.CpuSeat.{Seated, after_word_step}
+use Rattle.rcu_live.specs.InPart.{seat_part}
+use Rattle.rcu_live.specs.Several.{Lens}
 use Rattle.rcu_graph.specs.Graph.{IsWalking}
 use Rattle.rcu_graph.specs.Nodes.{hops_in}
-use Rattle.rcu_graph.specs.Planned.{of_plan}
 use Rattle.rcu_graph.specs.declared.known.Hop.{Hop}
 use Rattle.rcu_graph.specs.declared.known.Known.{Known}
-use Rattle.rcu_graph.specs.declared.known.Known.TheVariants.{Idle}
 use Rattle.rcu_graph.specs.declared.known.Planned.{Planned}
 use Rattle.rcu_graph.specs.declared.plan.Plan.{Plan}
 
@@ -60,14 +60,10 @@ pub record ReadsSlot (cell : Object Plan) (seat : Seated Planned) (slot : ℕ) :
   pub sized : 0 < latest_to (hops_in seat.view.client.known)
       → length (latest_words (hops_in seat.view.client.known)) ≡ cell.plan.words
 
--- a processor's seat of the cell, with no section open
-pub record IsOutside (cell : Object Plan) (seat : Seated Planned) : Type 0 where
-  pub seat_of : IsSeatOf cell seat
-  pub outside : seat.depth ≡ 0
-  pub idle : seat.view.client ≡ of_plan cell.plan Idle
-
--- the open section reads a version from now on, and nothing else of its seat changed
-pub record ReadsOn (cell : Object Plan) (before after : Seated Planned) : Type 0 where
-  pub state : after ≡ after_word_step before after.view.client
-  pub walking : IsWalking cell after
-  pub loaded : 0 < length (hops_in after.view.client.known)
+-- the open section reads a version of the cell from now on, and nothing else of its seat changed
+pub record ReadsOn {D : Type 0} (lens : Lens D Planned) (cell : Object Plan)
+    (before after : Seated D) : Type 0 where
+  pub state : after ≡ after_word_step before
+      (lens.set before.view.client (lens.get after.view.client))
+  pub walking : IsWalking cell (seat_part lens after)
+  pub loaded : 0 < length (hops_in (lens.get after.view.client).known)

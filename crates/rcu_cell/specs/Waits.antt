@@ -12,16 +12,16 @@ use Rattle.rcu_cell.specs.Versions.{shown_in}
 use Rattle.rcu_cell.specs.declared.keeper.Retired.{Retired}
 
 -- the keeper waited until a slot was free, and then published the words in one
-pub record UpdatedLater (seat now : Seated Planned) (before : Watching Planned) (words : List ℕ)
-    (retired : Retired) (after : Watching Planned) : Type 0 where
+pub record UpdatedLater {C : Type 0} (seat now : Seated C) (before : Watching Planned)
+    (words : List ℕ) (retired : Retired) (after : Watching Planned) : Type 0 where
   pub looked : Watching Planned
   pub waited : HasMadeRoom seat now before looked
   pub updated : Updated looked words retired after
 
 -- an update of a caller with this seat, which is outside of sections, replaced the shown slot: at
 -- once where a slot was free, and else as soon as one was
-pub record UpdatedInTime (seat now : Seated Planned) (before : Watching Planned) (words : List ℕ)
-    (retired : Retired) (after : Watching Planned) : Type 0 where
+pub record UpdatedInTime {C : Type 0} (seat now : Seated C) (before : Watching Planned)
+    (words : List ℕ) (retired : Retired) (after : Watching Planned) : Type 0 where
   pub outside : seat.depth ≡ 0
   pub replaced : retired.slot ≡ shown_in (nodes_in before.view.client.known)
   pub no_wait : (slot : ℕ) → IsFreeNode (nodes_in before.view.client.known) slot → now ≡ seat

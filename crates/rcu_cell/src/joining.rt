@@ -1,12 +1,13 @@
 //! A cell that is one of several clients of its engine.
-ghost use Rattle.std.specs.Prelude.{◌≡◌, ◌<◌, ◌+◌, IfErr, IfOk, OnErr, OnOk};
+ghost use Rattle.std.specs.Prelude.{◌≡◌, ◌<◌, IfErr, IfOk, OnErr, OnOk};
 ghost use Rattle.std.specs.Arc.{arc_value};
 ghost use Rattle.rcu_live.specs.InPart.{engine_part, watcher_part};
-ghost use Rattle.rcu_live.specs.Watcher.{IsWatcherOf, after_word_step};
+ghost use Rattle.rcu_live.specs.Watcher.{after_word_step};
+ghost use Rattle.rcu_graph.specs.Joining.{CanJoin};
 ghost use Rattle.rcu_graph.specs.Keeper.{IsKeeperOf};
 ghost use Rattle.rcu_graph.specs.Opening.{AreWhole, IsSized, claimed_first};
 ghost use Rattle.rcu_graph.specs.Planned.{of_plan};
-ghost use Rattle.rcu_graph.specs.declared.known.Known.TheVariants.{Idle, Owner};
+ghost use Rattle.rcu_graph.specs.declared.known.Known.TheVariants.{Idle};
 ghost use Rattle.rcu_graph.specs.declared.not_opened.NotOpened.{NotOpened};
 ghost use Rattle.rcu_cell.specs.Opening.{HasSizes, plan_of_cell};
 
@@ -26,13 +27,8 @@ impl<F: Version<W>, const W: usize, P: Within<CellRule<F, W>>> Cell<F, W, P> {
         own: &mut CellWatcher<F, W, P>,
         plan: <P::Whole as Client>::Plan,
     ) -> Result<(Cell<F, W, P>, CellWatcher<F, W, P>), AllocError>
-        requires plan { (arc_value board.now).plan ≡ plan }
-        requires suits { P.Whole.suits plan }
-        requires words { (arc_value board.now).table.words
-            ≡ (arc_value board.now).base + P.Whole.size plan }
-        requires own { IsWatcherOf (engine_part P.own_plan P.begins (arc_value board.now))
-            (watcher_part P.lens own.old) }
-        requires first { P.lens.get own.old.view.client ≡ of_plan (P.own_plan plan) Owner }
+        requires can { CanJoin P.lens P.own_plan P.begins P.Whole.suits P.Whole.size plan
+            (arc_value board.now) own.old }
         requires root { (P.own_plan plan).roots ≡ 1 }
         requires one { (P.own_plan plan).links ≡ 1 }
         requires version { (P.own_plan plan).words ≡ W }

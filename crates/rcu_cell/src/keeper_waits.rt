@@ -1,6 +1,7 @@
 //! Updates that wait until a slot is free.
 ghost use Rattle.std.specs.Prelude.{◌≡◌, ◌<◌, IfErr, IfOk, OnErr, OnOk};
 ghost use Rattle.rcu_seq.specs.declared.fault.Fault.{Fault};
+ghost use Rattle.rcu_live.specs.InPart.{engine_part, seat_part};
 ghost use Rattle.rcu_live.specs.Waits.{HasRested, wait_fault};
 ghost use Rattle.rcu_graph.specs.Waits.{AreOf, CanWait, HasGivenUp, HasMadeRoom, HasStayed};
 ghost use Rattle.rcu_cell.specs.Waits.{UpdatedInTime};
@@ -8,20 +9,22 @@ ghost use Rattle.rcu_cell.specs.Waits.{UpdatedInTime};
 use crate::keeper::{Keeper, Retired};
 use crate::shape::{CellRule, CellSeat, Version};
 use rcu_graph::Value;
-use rcu_live::Live;
+use rcu_live::{Live, Within};
 use rcu_seq::Fault;
 use std::sync::Wait;
 
-impl<F: Version<W>, const W: usize> Keeper<F, W> {
+impl<F: Version<W>, const W: usize, P: Within<CellRule<F, W>>> Keeper<F, W, P> {
     /// Looks at the number, and drives the engine, until a slot is free.
     fn wait_until_free<const LEAF: u32, const FAN: u32, T: Drop>(
         &mut self,
         rt: &impl Wait,
-        live: &Live<LEAF, FAN, T, CellRule<F, W>>,
-        seat: &mut CellSeat<F, W>,
+        live: &Live<LEAF, FAN, T, P::Whole>,
+        seat: &mut CellSeat<F, W, P>,
     ) -> Result<(), Fault>
-        requires { CanWait live.now seat.old self.old }
-        ensures of_cell { AreOf live.now self.new seat.new }
+        requires { CanWait (engine_part P.own_plan P.begins live.now) (seat_part P.lens seat.old)
+            self.old }
+        ensures of_cell { AreOf (engine_part P.own_plan P.begins live.now) self.new
+            (seat_part P.lens seat.new) }
         ensures rested { HasRested seat.old seat.new }
         ensures waited { OnOk result (HasMadeRoom seat.old seat.new self.old self.new) }
         ensures fault { IfErr result (λ fault. fault ≡ Fault.Exhausted) }
@@ -43,13 +46,15 @@ impl<F: Version<W>, const W: usize> Keeper<F, W> {
     pub fn update_or_wait<const LEAF: u32, const FAN: u32, T: Drop>(
         &mut self,
         rt: &impl Wait,
-        live: &Live<LEAF, FAN, T, CellRule<F, W>>,
-        seat: &mut CellSeat<F, W>,
+        live: &Live<LEAF, FAN, T, P::Whole>,
+        seat: &mut CellSeat<F, W, P>,
         words: &[u64; W],
     ) -> Result<Retired, Fault>
-        requires of_cell { AreOf live.now self.old seat.old }
+        requires of_cell { AreOf (engine_part P.own_plan P.begins live.now) self.old
+            (seat_part P.lens seat.old) }
         requires whole { F.holds words.now }
-        ensures of_cell { AreOf live.now self.new seat.new }
+        ensures of_cell { AreOf (engine_part P.own_plan P.begins live.now) self.new
+            (seat_part P.lens seat.new) }
         ensures rested { HasRested seat.old seat.new }
         ensures updated { IfOk result (λ retired.
             UpdatedInTime seat.old seat.new self.old words.now retired self.new) }
@@ -72,18 +77,20 @@ impl<F: Version<W>, const W: usize> Keeper<F, W> {
     }
 }
 
-impl<F: Value<W> + Version<W>, const W: usize> Keeper<F, W> {
+impl<F: Value<W> + Version<W>, const W: usize, P: Within<CellRule<F, W>>> Keeper<F, W, P> {
     /// Publishes a value, as [`update_or_wait`](Self::update_or_wait) does its words.
     pub fn update_value_or_wait<const LEAF: u32, const FAN: u32, T: Drop>(
         &mut self,
         rt: &impl Wait,
-        live: &Live<LEAF, FAN, T, CellRule<F, W>>,
-        seat: &mut CellSeat<F, W>,
+        live: &Live<LEAF, FAN, T, P::Whole>,
+        seat: &mut CellSeat<F, W, P>,
         value: F,
     ) -> Result<Retired, Fault>
-        requires of_cell { AreOf live.now self.old seat.old }
+        requires of_cell { AreOf (engine_part P.own_plan P.begins live.now) self.old
+            (seat_part P.lens seat.old) }
         requires sound { F.valid value }
-        ensures of_cell { AreOf live.now self.new seat.new }
+        ensures of_cell { AreOf (engine_part P.own_plan P.begins live.now) self.new
+            (seat_part P.lens seat.new) }
         ensures rested { HasRested seat.old seat.new }
         ensures updated { IfOk result (λ retired.
             UpdatedInTime seat.old seat.new self.old (F.in_words value) retired

@@ -2,26 +2,27 @@
 ghost use Rattle.std.specs.Prelude.{◌≡◌, IfOk, OnErr, OnOk};
 ghost use Rattle.std.specs.Result.{result_err};
 ghost use Rattle.rcu_live.specs.CpuSeat.{AcceptedAt, enter_refusal};
-ghost use Rattle.rcu_graph.specs.Graph.{IsWalking};
+ghost use Rattle.rcu_live.specs.InPart.{seat_part};
+ghost use Rattle.rcu_graph.specs.Graph.{IsOutside, IsWalking};
 ghost use Rattle.rcu_graph.specs.Sections.{after_section};
-ghost use Rattle.rcu_cell.specs.Cell.{IsLoaded, IsOutside, ReadsOn, version_in};
+ghost use Rattle.rcu_cell.specs.Cell.{IsLoaded, ReadsOn, version_in};
 ghost use Rattle.rcu_cell.specs.Lent.{IsLentBy, lent};
 
 use crate::cell::Cell;
 use crate::shape::{CellRule, CellSeat, Version};
 use crate::version_guard::VersionGuard;
 use rcu_graph::Value;
-use rcu_live::Shared;
+use rcu_live::{Shared, Within};
 use rcu_seq::Fault;
 
-impl<F: Version<W>, const W: usize> Cell<F, W> {
+impl<F: Version<W>, const W: usize, P: Within<CellRule<F, W>>> Cell<F, W, P> {
     /// Loads the shown version, as [`load`](Self::load) does, and lends it the seat: the section
     /// stays open, and reads this version, until it is let go.
-    pub fn loaded<'a>(&'a self, seat: &'a mut CellSeat<F, W>) -> VersionGuard<'a, F, W>
-        requires { IsWalking self.now seat.old }
-        ensures lent { IsLentBy self.now seat.old seat.entry.ghost_name (lent result) }
-        ensures loaded { IsLoaded F.holds F.first W seat.old.view.client.known (lent result).slot
-            (lent result).seat.view.client.known }
+    pub fn loaded<'a>(&'a self, seat: &'a mut CellSeat<F, W, P>) -> VersionGuard<'a, F, W, P>
+        requires { IsWalking self.now (seat_part P.lens seat.old) }
+        ensures lent { IsLentBy P.lens self.now seat.old seat.entry.ghost_name (lent result) }
+        ensures loaded { IsLoaded F.holds F.first W (P.lens.get seat.old.view.client).known
+            (lent result).slot (P.lens.get (lent result).seat.view.client).known }
     {
         let slot = self.load(seat);
         VersionGuard {
@@ -33,15 +34,30 @@ impl<F: Version<W>, const W: usize> Cell<F, W> {
 
     /// All words of the version that is shown: one load, and one a word. They are of one version,
     /// which the section reads from now on.
-    pub fn snapshot(&self, seat: &mut CellSeat<F, W>) -> [u64; W]
-        requires { IsWalking self.now seat.old }
-        ensures state { ReadsOn self.now seat.old seat.new }
-        ensures words { result ≡ version_in F.first seat.new.view.client.known }
+    pub fn snapshot(&self, seat: &mut CellSeat<F, W, P>) -> [u64; W]
+        requires { IsWalking self.now (seat_part P.lens seat.old) }
+        ensures state { ReadsOn P.lens self.now seat.old seat.new }
+        ensures words { result ≡ version_in F.first (P.lens.get seat.new.view.client).known }
         ensures whole { F.holds result }
     {
         self.loaded(seat).snapshot()
     }
+}
 
+impl<F: Value<W> + Version<W>, const W: usize, P: Within<CellRule<F, W>>> Cell<F, W, P> {
+    /// The value that is shown, by one load, and one a word, in an open section.
+    pub fn value(&self, seat: &mut CellSeat<F, W, P>) -> F
+        requires { IsWalking self.now (seat_part P.lens seat.old) }
+        ensures state { ReadsOn P.lens self.now seat.old seat.new }
+        ensures told { result
+            ≡ F.decode (version_in F.first (P.lens.get seat.new.view.client).known) }
+        ensures sound { F.valid result }
+    {
+        self.loaded(seat).value()
+    }
+}
+
+impl<F: Version<W>, const W: usize> Cell<F, W> {
     /// Reads the current version in a section of its own, by three loads and one a word. It takes
     /// no lock and waits for nobody.
     ///
@@ -70,16 +86,6 @@ impl<F: Version<W>, const W: usize> Cell<F, W> {
 }
 
 impl<F: Value<W> + Version<W>, const W: usize> Cell<F, W> {
-    /// The value that is shown, by one load, and one a word, in an open section.
-    pub fn value(&self, seat: &mut CellSeat<F, W>) -> F
-        requires { IsWalking self.now seat.old }
-        ensures state { ReadsOn self.now seat.old seat.new }
-        ensures told { result ≡ F.decode (version_in F.first seat.new.view.client.known) }
-        ensures sound { F.valid result }
-    {
-        self.loaded(seat).value()
-    }
-
     /// Reads the current value in a section of its own, as [`read_section`](Self::read_section)
     /// does its words.
     ///

@@ -2,16 +2,17 @@
 ghost use Rattle.std.specs.Prelude.{◌≡◌, ◌<◌, slice_index};
 ghost use Rattle.rcu_cell.specs.Lent.{lent, version_lent};
 
-use crate::shape::Version;
+use crate::shape::{CellRule, Version};
 use crate::version_guard::VersionGuard;
 use rcu_graph::Value;
+use rcu_live::Within;
 
-impl<'a, F: Version<W>, const W: usize> VersionGuard<'a, F, W> {
+impl<'a, F: Version<W>, const W: usize, P: Within<CellRule<F, W>>> VersionGuard<'a, F, W, P> {
     /// A word of the version, by one load: the one that it had when it was loaded.
     pub fn read(&mut self, word: usize) -> u64
         requires { word < W }
         ensures unchanged { lent self.new ≡ lent self.old }
-        ensures word { result ≡ slice_index (version_lent F.first (lent self.old)) word }
+        ensures word { result ≡ slice_index (version_lent P.lens F.first (lent self.old)) word }
     {
         self.cell.read(self.seat, self.slot, word)
     }
@@ -19,7 +20,7 @@ impl<'a, F: Version<W>, const W: usize> VersionGuard<'a, F, W> {
     /// All words of the version, by a load each.
     pub fn snapshot(&mut self) -> [u64; W]
         ensures unchanged { lent self.new ≡ lent self.old }
-        ensures words { result ≡ version_lent F.first (lent self.old) }
+        ensures words { result ≡ version_lent P.lens F.first (lent self.old) }
     {
         // A borrow of a field shows the prover what the type keeps: that a version has `W` words.
         let cell = self.cell;
@@ -32,12 +33,17 @@ impl<'a, F: Version<W>, const W: usize> VersionGuard<'a, F, W> {
     }
 }
 
-impl<'a, F: Value<W> + Version<W>, const W: usize> VersionGuard<'a, F, W> {
+impl<'a, F: Value<W> + Version<W>, const W: usize, P: Within<CellRule<F, W>>> VersionGuard<
+    'a,
+    F,
+    W,
+    P,
+> {
     /// The version as a value of the user's type, by a load a word.
     pub fn value(&mut self) -> F
-        requires whole { F.holds (version_lent F.first (lent self.old)) }
+        requires whole { F.holds (version_lent P.lens F.first (lent self.old)) }
         ensures unchanged { lent self.new ≡ lent self.old }
-        ensures told { result ≡ F.decode (version_lent F.first (lent self.old)) }
+        ensures told { result ≡ F.decode (version_lent P.lens F.first (lent self.old)) }
         ensures sound { F.valid result }
     {
         F::of_words(&self.snapshot())

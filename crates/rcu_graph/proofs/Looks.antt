@@ -115,7 +115,7 @@ pub aged_nodes : (k m : Watching Planned) → HasAged k m
 aged_nodes k m aged = looks_as_live (suc aged.more) k m aged.looks
 
 -- whatever a wait came to, the keeper looked
-pub looked_by : {E : Type 0} (seat now : Seated Planned) (k m : Watching Planned)
+pub looked_by : {C E : Type 0} (seat now : Seated C) (k m : Watching Planned)
     (r : Result (Unit {0}) E)
     → OnOk r (HasMadeRoom seat now k m) → OnErr r (HasGivenUp seat now k m) → HasAged k m
 looked_by seat now k m (Ok _) room up = room.looked

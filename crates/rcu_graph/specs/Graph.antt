@@ -6,6 +6,8 @@ use Rattle.rcu_live.specs.CpuSeat as cpu_seat
 use Rattle.rcu_live.specs.Watcher.{Watching}
 use Rattle.rcu_live.specs.Watcher as watcher
 use Rattle.rcu_graph.specs.Nodes.{IsOn, IsReader}
+use Rattle.rcu_graph.specs.Planned.{of_plan}
+use Rattle.rcu_graph.specs.declared.known.Known.TheVariants.{Idle}
 use Rattle.rcu_graph.specs.declared.known.Planned.{Planned}
 use Rattle.rcu_graph.specs.declared.plan.Plan.{Plan}
 
@@ -18,6 +20,12 @@ word_to (Some node) = suc node
 pub record IsSeatOf (graph : Object Plan) (seat : Seated Planned) : Type 0 where
   pub engine : cpu_seat.IsSeatOf graph seat
   pub planned : seat.view.client.plan ≡ graph.plan
+
+-- one with no section open
+pub record IsOutside (graph : Object Plan) (seat : Seated Planned) : Type 0 where
+  pub seat_of : IsSeatOf graph seat
+  pub outside : seat.depth ≡ 0
+  pub idle : seat.view.client ≡ of_plan graph.plan Idle
 
 -- one whose open section may walk it
 pub record IsWalking (graph : Object Plan) (seat : Seated Planned) : Type 0 where

@@ -4,6 +4,7 @@ pub mod Counts
 pub mod Cycle
 pub mod Filling
 pub mod Graph
+pub mod Joining
 pub mod Keeper
 pub mod Mirror
 pub mod Nodes

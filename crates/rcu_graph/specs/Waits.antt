@@ -47,19 +47,22 @@ pub record CanWait (graph : Object Plan) (seat : Seated Planned) (keeper : Watch
 -- from one state of the keeper to the other it looked at the number until a node was free; from one
 -- state of the caller's seat to the other it passed quiescent states, one less than there were
 -- looks, or two less where the last number was found to be reached before the last look
-pub record HasMadeRoom (seat now : Seated Planned) (before after : Watching Planned) : Type 0 where
-  pub looked : HasAged before after
-  pub free : ¬ AreAllUsed (nodes_in after.view.client.known)
-  pub rounds : AreRounds 1 seat now before after ⊎ AreRounds 2 seat now before after
+pub record HasMadeRoom {C : Type 0} (seat now : Seated C) (before after : Watching Planned) : Type 0
+  where
+    pub looked : HasAged before after
+    pub free : ¬ AreAllUsed (nodes_in after.view.client.known)
+    pub rounds : AreRounds 1 seat now before after ⊎ AreRounds 2 seat now before after
 
 -- a wait was given up: no node became free at any look, of which there was one more after the last
 -- number was found to be reached
-pub record HasGivenUp (seat now : Seated Planned) (before after : Watching Planned) : Type 0 where
-  pub looked : HasAged before after
-  pub full : AreAllUsed (nodes_in after.view.client.known)
-  pub rounds : AreRounds 2 seat now before after
+pub record HasGivenUp {C : Type 0} (seat now : Seated C) (before after : Watching Planned) : Type 0
+  where
+    pub looked : HasAged before after
+    pub full : AreAllUsed (nodes_in after.view.client.known)
+    pub rounds : AreRounds 2 seat now before after
 
 -- nothing happened to the caller's seat and to the keeper
-pub record HasStayed (seat now : Seated Planned) (before after : Watching Planned) : Type 0 where
-  pub seat_stays : now ≡ seat
-  pub keeper_stays : after ≡ before
+pub record HasStayed {C : Type 0} (seat now : Seated C) (before after : Watching Planned) : Type 0
+  where
+    pub seat_stays : now ≡ seat
+    pub keeper_stays : after ≡ before

@@ -1,12 +1,13 @@
 //! A graph that is one of several of its engine.
-ghost use Rattle.std.specs.Prelude.{◌≡◌, ◌+◌, IfOk, OnErr, OnOk};
+ghost use Rattle.std.specs.Prelude.{◌≡◌, IfOk, OnErr, OnOk};
 ghost use Rattle.std.specs.Arc.{arc_value};
 ghost use Rattle.rcu_live.specs.InPart.{engine_part, watcher_part};
-ghost use Rattle.rcu_live.specs.Watcher.{IsWatcherOf, after_word_step, watcher_at_first};
+ghost use Rattle.rcu_live.specs.Watcher.{after_word_step, watcher_at_first};
+ghost use Rattle.rcu_graph.specs.Joining.{CanJoin};
 ghost use Rattle.rcu_graph.specs.Keeper.{IsKeeperOf};
 ghost use Rattle.rcu_graph.specs.Opening.{claimed_first};
 ghost use Rattle.rcu_graph.specs.Planned.{of_plan};
-ghost use Rattle.rcu_graph.specs.declared.known.Known.TheVariants.{Idle, Owner};
+ghost use Rattle.rcu_graph.specs.declared.known.Known.TheVariants.{Idle};
 
 use crate::graph::Graph;
 use crate::rule::{GraphRule, GraphWatcher, Shape};
@@ -23,13 +24,8 @@ impl<F: Shape, P: Within<GraphRule<F>>> Graph<F, P> {
         own: &mut GraphWatcher<F, P>,
         plan: <P::Whole as Client>::Plan,
     ) -> Result<(Graph<F, P>, GraphWatcher<F, P>), AllocError>
-        requires plan { (arc_value board.now).plan ≡ plan }
-        requires suits { P.Whole.suits plan }
-        requires words { (arc_value board.now).table.words
-            ≡ (arc_value board.now).base + P.Whole.size plan }
-        requires own { IsWatcherOf (engine_part P.own_plan P.begins (arc_value board.now))
-            (watcher_part P.lens own.old) }
-        requires first { P.lens.get own.old.view.client ≡ of_plan (P.own_plan plan) Owner }
+        requires { CanJoin P.lens P.own_plan P.begins P.Whole.suits P.Whole.size plan
+            (arc_value board.now) own.old }
         ensures graph { IfOk result (λ joined.
             joined.0 ≡ engine_part P.own_plan P.begins (arc_value board.now)) }
         ensures keeper { IfOk result (λ joined.

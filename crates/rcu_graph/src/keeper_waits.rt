@@ -1,15 +1,17 @@
 //! A keeper that waits until a node is free.
 ghost use Rattle.std.specs.Prelude.{◌≡◌, IfErr, OnErr, OnOk};
 ghost use Rattle.rcu_seq.specs.declared.fault.Fault.{Fault};
+ghost use Rattle.rcu_live.specs.InPart.{engine_part, seat_part};
 ghost use Rattle.rcu_live.specs.Waits.{HasRested};
 ghost use Rattle.rcu_graph.specs.Waits.{AreOf, CanWait, HasGivenUp, HasMadeRoom};
 
 use crate::keeper::Keeper;
-use crate::rule::{GraphEngine, GraphSeat, Shape};
+use crate::rule::{GraphEngine, GraphRule, GraphSeat, Shape};
+use rcu_live::Within;
 use rcu_seq::{Cookie, Fault, Tag};
 use std::sync::Wait;
 
-impl<F: Shape> Keeper<F> {
+impl<F: Shape, P: Within<GraphRule<F>>> Keeper<F, P> {
     /// Looks at the number, and drives the engine, until a node is free, where none is. The
     /// caller's processor passes quiescent states meanwhile, unless it is offline or idle.
     ///
@@ -21,11 +23,13 @@ impl<F: Shape> Keeper<F> {
     pub fn wait_until_free<const LEAF: u32, const FAN: u32, T: Drop>(
         &mut self,
         rt: &impl Wait,
-        live: &GraphEngine<LEAF, FAN, T, F>,
-        seat: &mut GraphSeat<F>,
+        live: &GraphEngine<LEAF, FAN, T, F, P>,
+        seat: &mut GraphSeat<F, P>,
     ) -> Result<(), Fault>
-        requires { CanWait live.now seat.old self.old }
-        ensures of_graph { AreOf live.now self.new seat.new }
+        requires { CanWait (engine_part P.own_plan P.begins live.now) (seat_part P.lens seat.old)
+            self.old }
+        ensures of_graph { AreOf (engine_part P.own_plan P.begins live.now) self.new
+            (seat_part P.lens seat.new) }
         ensures rested { HasRested seat.old seat.new }
         ensures waited { OnOk result (HasMadeRoom seat.old seat.new self.old self.new) }
         ensures fault { IfErr result (λ fault. fault ≡ Fault.Exhausted) }

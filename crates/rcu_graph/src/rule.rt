@@ -74,14 +74,19 @@ impl<F: Shape> Client for GraphRule<F> {
         plan.nodes) };
 }
 
-/// The engine of a graph, which threads share.
-pub type GraphEngine<const LEAF: u32, const FAN: u32, T, F> = Live<LEAF, FAN, T, GraphRule<F>>;
+/// The engine of a graph, which threads share: the graph is its only client, or one of several, at
+/// this place.
+pub type GraphEngine<const LEAF: u32, const FAN: u32, T, F, P = Alone> = Live<
+    LEAF,
+    FAN,
+    T,
+    <P as Within<GraphRule<F>>>::Whole,
+>;
 
-/// A processor's seat of a graph's engine: the graph is its only client, or one of several, at this
-/// place.
+/// A processor's seat of such an engine.
 pub type GraphSeat<F, P = Alone> = CpuSeat<<P as Within<GraphRule<F>>>::Whole>;
 
-/// A watcher's seat of a graph's engine.
+/// A watcher's seat of such an engine.
 pub type GraphWatcher<F, P = Alone> = Watcher<<P as Within<GraphRule<F>>>::Whole>;
 
 /// Loads a link of a root, or of a node that the section holds: the section comes to the node that

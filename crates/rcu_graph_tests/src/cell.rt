@@ -1,6 +1,6 @@
 //! A version's slot over one grace period.
 ghost use Rattle.std.specs.Prelude.{◌≡◌};
-ghost use Rattle.rcu_cell.specs.Cell.{IsOutside};
+ghost use Rattle.rcu_graph.specs.Graph.{IsOutside};
 
 mod limits;
 mod parts;

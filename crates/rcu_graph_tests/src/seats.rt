@@ -1,7 +1,6 @@
 //! Processors' seats: the next one that is left, and sections that one opens and closes.
 ghost use Rattle.std.specs.Prelude.{◌≡◌, All};
-ghost use Rattle.rcu_graph.specs.Graph.{IsWalking};
-ghost use Rattle.rcu_cell.specs.Cell.{IsOutside};
+ghost use Rattle.rcu_graph.specs.Graph.{IsOutside, IsWalking};
 
 use crate::compare::compare;
 use rcu_graph::{GraphEngine, GraphSeat, Shape};

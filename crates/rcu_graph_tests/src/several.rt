@@ -1,15 +1,25 @@
 //! Several clients of one engine: two maps, which a thread reads by one seat.
+ghost use Rattle.std.specs.Prelude.{◌≡◌, ◌<◌};
+ghost use Rattle.std.specs.Arc.{arc_value};
 ghost use Rattle.rcu_live.specs.CpuSeat.{after_word_step};
-ghost use Rattle.rcu_live.specs.InPart.{seat_part};
+ghost use Rattle.rcu_live.specs.InPart.{engine_part, seat_part, watcher_part};
 ghost use Rattle.rcu_live.specs.Several.{in_first, in_second, whole};
+ghost use Rattle.rcu_live.specs.Watcher as watcher;
 ghost use Rattle.rcu_graph.specs.Graph.{IsWalking};
-ghost use Rattle.std.specs.Prelude.{◌≡◌};
+ghost use Rattle.rcu_graph.specs.Joining.{CanJoin};
+ghost use Rattle.rcu_graph.specs.Keeper.{IsKeeperOf};
+ghost use Rattle.rcu_graph.specs.Opening.{claimed_first};
+ghost use Rattle.rcu_graph.specs.Planned.{of_plan};
+ghost use Rattle.rcu_graph.specs.declared.known.Known.TheVariants.{Idle};
+ghost use Rattle.rcu_map.specs.Keys.{root_words};
 
 use crate::compare::compare;
 use crate::map::route::Route;
-use rcu_live::{Alone, Both, CpuSeat, First, Live, Parts, Second, Within};
-use rcu_map::{Map, MapKeeper, MapRule, MapSeat};
+use rcu_live::{Alone, Board, Both, Client, CpuSeat, First, Live, Second, Within};
+use rcu_map::{Map, MapKeeper, MapRule, MapSeat, MapWatcher};
+use std::alloc::Global;
 use std::process::Abort;
+use std::sync::Arc;
 
 /// The rule of each map.
 type Rule = MapRule<Route, 2>;
@@ -22,6 +32,31 @@ type Routes = Map<Route, 2, First<Alone, Rule>>;
 
 /// The second one.
 type Exits = Map<Route, 2, Second<Rule, Alone>>;
+
+/// Joins a map. Where it is refused memory, the same call is made again.
+fn joins<R: Abort, P: Within<Rule>>(
+    rt: &R,
+    board: &Arc<Board<P::Whole>, Global>,
+    own: &mut MapWatcher<Route, 2, P>,
+    plan: <P::Whole as Client>::Plan,
+) -> (Map<Route, 2, P>, MapWatcher<Route, 2, P>)
+    requires can { CanJoin P.lens P.own_plan P.begins P.Whole.suits P.Whole.size plan
+        (arc_value board.now) own.old }
+    requires buckets { 0 < (P.own_plan plan).roots }
+    requires one { (P.own_plan plan).links ≡ 1 }
+    requires entries { (P.own_plan plan).words ≡ 2 }
+    ensures map { result.0 ≡ engine_part P.own_plan P.begins (arc_value board.now) }
+    ensures keeper { IsKeeperOf result.0 (watcher_part P.lens result.1) }
+    ensures claimed { P.lens.get result.1.view.client
+        ≡ claimed_first (root_words (P.own_plan plan).words) (P.own_plan plan) }
+    ensures left { own.new ≡ watcher.after_word_step own.old
+        (P.lens.set own.old.view.client (of_plan (P.own_plan plan) Idle)) }
+{
+    if let Ok(joined) = Map::join(board, own, plan) {
+        return joined;
+    }
+    Map::join(board, own, plan).expect(rt, "a map joins")
+}
 
 /// Looks a network up in an open section, and compares the port.
 fn finds<R: Abort, P: Within<Rule>>(
@@ -73,24 +108,15 @@ fn a_map_stands_behind_another(rt: HostRuntime) {
     let Some(plans) = Pair::plan(plan, plan) else {
         return;
     };
-    let Ok(opened) = Parts::<4, 4, u64, Pair>::open_for(alloc, 1, 4_000, 64, plans) else {
+    let Ok(opened) = Live::<4, 4, u64, Pair>::open_for(alloc, 1, 4_000, 64, plans) else {
         return;
     };
-    let Parts {
-        board,
-        engine,
-        mut seats,
-        mut own,
-        ..
-    } = opened;
-    let Ok((exits, watcher)) = Exits::join(&board, &mut own, plans) else {
-        return;
-    };
+    let (live, mut seats, _, mut own) = opened;
+    let (exits, watcher): (Exits, _) = joins(&rt, live.words(), &mut own, plans);
     let Ok(mut keeper) = MapKeeper::new(alloc, &exits, watcher) else {
         return;
     };
     puts(&rt, &mut keeper, 20);
-    let live = Live::new(board, engine);
     if let Some(mut seat) = seats.pop() {
         compare(&rt, "enter", seat.enter(&live), Ok(1));
         finds(&rt, &exits, &mut seat, (1, Some(20)));
@@ -107,23 +133,12 @@ fn one_seat_reads_two_maps(rt: HostRuntime) {
     let Some(plans) = Pair::plan(plan, plan) else {
         return;
     };
-    let Ok(opened) = Parts::<4, 4, u64, Pair>::open_for(alloc, 1, 4_000, 64, plans) else {
+    let Ok(opened) = Live::<4, 4, u64, Pair>::open_for(alloc, 1, 4_000, 64, plans) else {
         return;
     };
-    let Parts {
-        board,
-        engine,
-        mut seats,
-        mut own,
-        ..
-    } = opened;
-    let Ok((routes, _)) = Routes::join(&board, &mut own, plans) else {
-        return;
-    };
-    let Ok((exits, _)) = Exits::join(&board, &mut own, plans) else {
-        return;
-    };
-    let live = Live::new(board, engine);
+    let (live, mut seats, _, mut own) = opened;
+    let (routes, _): (Routes, _) = joins(&rt, live.words(), &mut own, plans);
+    let (exits, _): (Exits, _) = joins(&rt, live.words(), &mut own, plans);
     if let Some(mut seat) = seats.pop() {
         compare(&rt, "enter", seat.enter(&live), Ok(1));
         reads_both(&rt, &live, (&routes, &exits), &mut seat);

@@ -1,5 +1,5 @@
 -- After a step of a part, the seat as the part sees it is what the part's step leaves of that.
-use Rattle.std.proofs.Common.{◌≡◌, ℕ, ap, ◌∙◌}
+use Rattle.std.proofs.Common.{◌≡◌, ℕ, ap, ◌∙◌, subst, sym}
 use Rattle.rcu_seq.specs.Numbers.{Number}
 use Rattle.rcu_live.specs.CpuSeat.{Seated}
 use Rattle.rcu_live.specs.CpuSeat as cpu_seat
@@ -74,3 +74,11 @@ seat_again {D} lens again start old new was hop =
     cpu_seat.after_word_step s (lens.set s.view.client (lens.get new.view.client))) was
     ∙ ap (cpu_seat.after_word_step start)
     (again start.view.client (lens.get old.view.client) (lens.get new.view.client))
+
+-- and a seat that is as one behind such a step
+pub seat_same : {D C : Type 0} (lens : Lens D C) (start old new : Seated D) → new ≡ old
+    → old ≡ cpu_seat.after_word_step start (lens.set start.view.client (lens.get old.view.client))
+    → new ≡ cpu_seat.after_word_step start (lens.set start.view.client (lens.get new.view.client))
+seat_same {D} lens start old new same was = subst (λ (s : Seated D).
+    s ≡ cpu_seat.after_word_step start (lens.set start.view.client (lens.get s.view.client)))
+    (sym same) was

@@ -5,8 +5,11 @@ use Rattle.std.proofs.Common.{inr}
 use Rattle.std.proofs.lemmas.Bool.{cases_Bool}
 use Rattle.rcu_seq.specs.Numbers.{Number}
 use Rattle.rcu_seq.specs.declared.fault.Fault.{Fault}
-use Rattle.rcu_live.specs.CpuSeat.{AcceptedAt, Seated}
+use Rattle.rcu_live.specs.Board.{Object}
+use Rattle.rcu_live.specs.CpuSeat.{AcceptedAt, IsSeatOf, Seated}
+use Rattle.rcu_live.specs.InPart.{seat_part}
 use Rattle.rcu_live.specs.Numbers.{may_open}
+use Rattle.rcu_live.specs.Several.{Lens}
 use Rattle.rcu_live.specs.Waits.{AreRounds, HasLooked, HasRested, after_rests}
 use Rattle.rcu_live.specs.Watcher.{Watching, after_watch}
 
@@ -92,6 +95,26 @@ module _ {C : Type 0} where
     | inr asleep ↦ subst (HasRested s) (sym (new ∙ asleep_rests t 1 u.view.seen asleep)) r
   ]
 
+  -- quiescent states leave what is known of the client, and where its words begin
+  rests_know : {A : Type 0} (f : ℕ → C → A) (s : Seated C) (times : ℕ) (n : Number)
+      → f (after_rests s times n).view.base (after_rests s times n).view.client
+      ≡ f s.view.base s.view.client
+  rests_know f s zero n = refl
+  rests_know f s (suc times) n = elim (cases_Bool (may_open s.view.own_word)) [
+    | inl awake ↦ ap (λ (t : Seated C). f t.view.base t.view.client) (awake_rests s times n awake)
+    | inr asleep ↦
+        ap (λ (t : Seated C). f t.view.base t.view.client) (asleep_rests s (suc times) n asleep)
+  ]
+
+  -- so a seat that rested is, as a part sees it, of the engine that it was of
+  pub rested_in_part : {B P : Type 0} (lens : Lens C B) (engine : Object P) (s t : Seated C)
+      → HasRested s t → IsSeatOf engine (seat_part lens s) → IsSeatOf engine (seat_part lens t)
+  rested_in_part lens engine s t r of_engine = (
+    r.table ∙ of_engine.0,
+    ap (λ (u : Seated C). lens.begins u.view.base u.view.client) r.state
+        ∙ rests_know lens.begins s r.times t.view.seen ∙ of_engine.1,
+  )
+
   -- a look more
   pub looked_none : (w : Watching C) → HasLooked w w
   looked_none w = record { table = refl; later = omega arith; more = omega arith; state = refl }
@@ -116,10 +139,11 @@ module _ {C : Type 0} where
       }
 
   -- no round yet, one round more (a quiescent state and a look), and a look more
-  pub rounds_none : (s : Seated C) (w : Watching C) → AreRounds 0 s s w w
+  pub rounds_none : {D : Type 0} (s : Seated C) (w : Watching D) → AreRounds 0 s s w w
   rounds_none s w outside awake = omega arith
 
-  pub rounds_more : (more : ℕ) (s t u : Seated C) (w v x : Watching C) → AreRounds more s t w v
+  pub rounds_more : {D : Type 0} (more : ℕ) (s t u : Seated C) (w v x : Watching D)
+      → AreRounds more s t w v
       → u ≡ after_rests t 1 u.view.seen → x.view.loads ≡ v.view.loads + 1 → AreRounds more s u w x
   rounds_more more s t u w v x before new looks outside awake =
       elim (cases_Bool (may_open t.view.own_word)) [
@@ -134,7 +158,7 @@ module _ {C : Type 0} where
             absurd (cc)
       ]
 
-  pub rounds_then_look : (more next : ℕ) (s t : Seated C) (w v x : Watching C)
+  pub rounds_then_look : {D : Type 0} (more next : ℕ) (s t : Seated C) (w v x : Watching D)
       → next ≡ more + 1 → AreRounds more s t w v → x.view.loads ≡ v.view.loads + 1
       → AreRounds next s t w x
   rounds_then_look more next s t w v x is before looks outside awake =
@@ -150,7 +174,7 @@ rested_round (Ok _) s t u rested state same = rested_more s t u rested state.lat
 rested_round (Err _) s t u rested state same = subst (HasRested s) (sym same) rested
 
 -- and the looks beside it
-pub rounds_round : {C T : Type 0} (r : Result T Fault) (s t u : Seated C) (w v x : Watching C)
+pub rounds_round : {C D T : Type 0} (r : Result T Fault) (s t u : Seated C) (w v x : Watching D)
     → AreRounds 1 s t w v
     → OnOk r (AcceptedAt (λ (y : Seated C) (n : Number). after_rests y 1 n) t u.view.seen u)
     → OnErr r (u ≡ t)
@@ -164,7 +188,7 @@ rounds_round (Err _) s t u w v x rounds state same looks =
     let next = rounds_then_look 1 2 s t w v x (omega arith) rounds looks in
     (tt, subst (λ (y : Seated _). AreRounds 2 s y w x) (sym same) next)
 
-pub rounds_at_end : {C T : Type 0} (r : Result T Fault) (s t : Seated C) (w v x : Watching C)
+pub rounds_at_end : {C D T : Type 0} (r : Result T Fault) (s t : Seated C) (w v x : Watching D)
     → OnOk r (AreRounds 1 s t w v) → OnErr r (AreRounds 2 s t w v) → x.view.loads ≡ v.view.loads
     → AreRounds 1 s t w x ⊎ AreRounds 2 s t w x
 rounds_at_end (Ok _) s t w v x rounds last same =

@@ -45,16 +45,16 @@ module _ {C : Type 0} where
     pub more : w.view.loads ≤ v.view.loads
     pub state : v ≡ record w { view = record w.view { seen = v.view.seen; loads = v.view.loads } }
 
-  -- the rounds of a wait outside of sections, where the processor is awake: the watcher made this
-  -- many looks more than the processor passed quiescent states
-  abbrev pub AreRounds : ℕ → Seated C → Seated C → Watching C → Watching C → Type 0
-  AreRounds more s t w v = s.depth ≡ 0 → may_open t.view.own_word ≡ true
-      → v.view.loads + s.view.loads ≡ w.view.loads + t.view.loads + more
-
   -- where a section of the caller was open, nothing happened to its seat and its watcher
   pub record HasStayedInside (s t : Seated C) (w v : Watching C) : Type 0 where
     pub seat : 0 < s.depth → t ≡ s
     pub watcher : 0 < s.depth → v ≡ w
+
+-- the rounds of a wait outside of sections, where the processor is awake: the watcher made this
+-- many looks more than the processor passed quiescent states
+abbrev pub AreRounds : {C D : Type 0} → ℕ → Seated C → Seated C → Watching D → Watching D → Type 0
+AreRounds more s t w v = s.depth ≡ 0 → may_open t.view.own_word ≡ true
+    → v.view.loads + s.view.loads ≡ w.view.loads + t.view.loads + more
 
 -- a full grace period has passed: the cookie of a number that was seen, which is at least `before`,
 -- is done at `now`

@@ -1,7 +1,6 @@
 //! Two clients of one engine, as one client.
 ghost use Rattle.std.specs.Prelude.{◌≡◌, ◌≤◌, ◌<◌, ◌+◌, ◌^◌, IfNone, IfSome};
 ghost use Rattle.rcu_live.specs.Several.{HoldsBoth, of_both};
-ghost use Rattle.std.specs.Prelude.{◌≡◌, ◌≤◌, ◌<◌, ◌+◌, ◌^◌, IfNone, IfSome};
 ghost use Rattle.rcu_live.specs.SeveralLaws.{both_are_stable};
 
 use crate::both_known::BothKnown;
@@ -72,7 +71,7 @@ impl<A: Client, B: Client> Both<A, B> {
         requires second { B.suits second }
         ensures plan { IfSome result (λ plan. plan
             ≡ record { first = first; second = second; split = A.size first }) }
-        ensures small { IfSome result (λ _. A.size first + B.size second < 2 ^ 64) }
+        ensures suits { IfSome result ⟦<Both<A, B> as Client>⟧.suits }
         ensures none { IfNone result (2 ^ 64 ≤ A.size first + B.size second) }
     {
         let split = A::count(first);

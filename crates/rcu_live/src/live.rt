@@ -57,6 +57,13 @@ impl<const LEAF: u32, const FAN: u32, T: Drop, P: Client> Live<LEAF, FAN, T, P> 
         }
     }
 
+    /// Its words, for the clients that stand in them ([`Within`](crate::Within)).
+    pub fn words(&self) -> &Arc<Board<P>, Global>
+        ensures { arc_value result.now ≡ self.now }
+    {
+        &self.board
+    }
+
     /// The watcher loads the number, and then the processor's seat does. It returns none where the
     /// watcher saw more than the seat, or less than the number at which the section began. No
     /// section is open on an idle processor.

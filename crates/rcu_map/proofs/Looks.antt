@@ -28,14 +28,14 @@ key_kept buckets A B key same (node, one) =
     (h.node, record { entry = h.entry; is = ap key_in h.is ∙ one.is })
 
 -- what comes of a wait for a free node: no entry changed
-pub made_room : {E : Type 0} (seat now : Seated Planned) (k m : Watching Planned)
+pub made_room : {C E : Type 0} (seat now : Seated C) (k m : Watching Planned)
     (r : Result (Unit {0}) E) → OnOk r (graph.HasMadeRoom seat now k m)
     → OnOk r (HasMadeRoom (buckets_in k) seat now k m)
 made_room seat now k m (Ok _) made =
     record { made = made; entries = aged_entries _ _ _ (aged_nodes k m made.looked) }
 made_room seat now k m (Err _) made = tt
 
-pub gave_up : {E : Type 0} (seat now : Seated Planned) (k m : Watching Planned)
+pub gave_up : {C E : Type 0} (seat now : Seated C) (k m : Watching Planned)
     (r : Result (Unit {0}) E) → OnErr r (graph.HasGivenUp seat now k m)
     → OnErr r (HasGivenUp (buckets_in k) seat now k m)
 gave_up seat now k m (Ok _) up = tt
@@ -43,8 +43,8 @@ gave_up seat now k m (Err _) up =
     record { gave_up = up; entries = aged_entries _ _ _ (aged_nodes k m up.looked) }
 
 -- an error of a wait is that each node is live, just where each is
-pub why_full : (buckets : ℕ) (seat now : Seated Planned) (before : Watching Planned) (why : NotPut)
-    (after : Watching Planned)
+pub why_full : {C : Type 0} (buckets : ℕ) (seat now : Seated C) (before : Watching Planned)
+    (why : NotPut) (after : Watching Planned)
     → WaitedFor buckets seat now before (Err why) after
     → (why ≡ Full → AreAllLive (nodes_in before.view.client.known))
     × (AreAllLive (nodes_in before.view.client.known) → why ≡ Full)

@@ -27,7 +27,7 @@ takes_a_node buckets words true before after put full =
 takes_a_node buckets words false before after put full =
     full put.node put.was_free.inside put.was_free.free
 
-module _ (buckets : ℕ) (words : List ℕ) (there : Bool) (seat : Seated Planned)
+module _ {C : Type 0} (buckets : ℕ) (words : List ℕ) (there : Bool) (seat : Seated C)
     (before after : Watching Planned) (outside : seat.depth ≡ 0) where
   -- at once
   pub put_at_once : (puts : Bool) → HasPutIn buckets words there puts before after
@@ -42,7 +42,7 @@ module _ (buckets : ℕ) (words : List ℕ) (there : Bool) (seat : Seated Planne
   put_at_once false same = (outside, record { seat_stays = refl; keeper_stays = same })
 
   -- and after a wait
-  pub put_later : (now : Seated Planned) (looked : Watching Planned)
+  pub put_later : (now : Seated C) (looked : Watching Planned)
       → AreAllUsed (nodes_in before.view.client.known)
       → HasMadeRoom buckets seat now before looked
       → (puts : Bool)

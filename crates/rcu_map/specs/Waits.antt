@@ -21,14 +21,14 @@ abbrev pub AreAllLive : List Node → Type 0
 AreAllLive nodes = (i : ℕ) → i < length nodes → state_at nodes i ≡ Live
 
 -- the keeper waited until a node was free, and no entry changed
-pub record HasMadeRoom (buckets : ℕ) (seat now : Seated Planned)
+pub record HasMadeRoom {C : Type 0} (buckets : ℕ) (seat now : Seated C)
     (before after : Watching Planned) : Type 0 where
   pub made : graph.HasMadeRoom seat now before after
   pub entries : AreSameEntries buckets (nodes_in before.view.client.known)
       (nodes_in after.view.client.known)
 
 -- it gave the wait up, and no entry changed
-pub record HasGivenUp (buckets : ℕ) (seat now : Seated Planned)
+pub record HasGivenUp {C : Type 0} (buckets : ℕ) (seat now : Seated C)
     (before after : Watching Planned) : Type 0 where
   pub gave_up : graph.HasGivenUp seat now before after
   pub entries : AreSameEntries buckets (nodes_in before.view.client.known)
@@ -36,10 +36,8 @@ pub record HasGivenUp (buckets : ℕ) (seat now : Seated Planned)
 
 -- what a wait for a free node comes to, outside of sections: each node is live, and nothing
 -- happened; or some node is not, and then one is free, or the wait was given up
-abbrev pub WaitedFor : ℕ
-    → Seated Planned → Seated Planned → Watching Planned → Result (Unit {0}) NotPut → Watching
-    Planned
-    → Type 0
+abbrev pub WaitedFor : {C : Type 0} → ℕ → Seated C → Seated C → Watching Planned
+    → Result (Unit {0}) NotPut → Watching Planned → Type 0
 WaitedFor buckets seat now before (Ok _) after =
     (¬ AreAllLive (nodes_in before.view.client.known)) × HasMadeRoom buckets seat now before after
 WaitedFor buckets seat now before (Err Full) after =
@@ -50,16 +48,16 @@ WaitedFor buckets seat now before (Err (Fault fault)) after =
     × HasGivenUp buckets seat now before after
 
 -- the keeper waited for a free node, and then made this change
-pub record HasChangedLater (change : List Node → List Node → Type 0) (buckets : ℕ)
-    (seat now : Seated Planned) (before after : Watching Planned) : Type 0 where
+pub record HasChangedLater {C : Type 0} (change : List Node → List Node → Type 0) (buckets : ℕ)
+    (seat now : Seated C) (before after : Watching Planned) : Type 0 where
   pub looked : Watching Planned
   pub waited : HasMadeRoom buckets seat now before looked
   pub changed : HasChanged change looked after
 
 -- the keeper of a caller with this seat, which is outside of sections, made this change: at once
 -- where a node was free, and else as soon as one was
-pub record HasChangedInTime (change : List Node → List Node → Type 0) (buckets : ℕ)
-    (seat now : Seated Planned) (before after : Watching Planned) : Type 0 where
+pub record HasChangedInTime {C : Type 0} (change : List Node → List Node → Type 0) (buckets : ℕ)
+    (seat now : Seated C) (before after : Watching Planned) : Type 0 where
   pub outside : seat.depth ≡ 0
   pub no_wait : (node : ℕ) → IsFreeNode (nodes_in before.view.client.known) node → now ≡ seat
   pub at_once : (node : ℕ) → IsFreeNode (nodes_in before.view.client.known) node
@@ -69,9 +67,8 @@ pub record HasChangedInTime (change : List Node → List Node → Type 0) (bucke
 
 -- the keeper of such a caller put the entry of these words in so, one of its key being there or
 -- none; or nothing happened
-abbrev pub HasPutInTime : ℕ
-    → List ℕ → Bool → Bool → Seated Planned → Seated Planned → Watching Planned → Watching Planned →
-    Type 0
+abbrev pub HasPutInTime : {C : Type 0} → ℕ → List ℕ → Bool → Bool → Seated C → Seated C
+    → Watching Planned → Watching Planned → Type 0
 HasPutInTime buckets words there true seat now before after =
     HasChangedInTime (IsPutIn buckets words there) buckets seat now before after
 HasPutInTime buckets words there false seat now before after =

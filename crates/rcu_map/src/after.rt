@@ -2,6 +2,7 @@
 //! that a caller keeps.
 ghost use Rattle.std.specs.Prelude.{◌≡◌, ◌<◌, IfSome};
 ghost use Rattle.rcu_live.specs.CpuSeat.{after_word_step};
+ghost use Rattle.rcu_live.specs.InPart.{seat_part};
 ghost use Rattle.rcu_graph.specs.Graph.{IsWalking};
 ghost use Rattle.rcu_map.specs.After.{IsBehind, IsNextAfter};
 
@@ -9,21 +10,24 @@ use crate::bucket::bucket_of;
 use crate::cursor::Cursor;
 use crate::entry::Entry;
 use crate::map::Map;
-use crate::shape::MapSeat;
+use crate::shape::{MapRule, MapSeat};
+use rcu_live::Within;
 
-impl<E: Entry<W>, const W: usize> Map<E, W> {
+impl<E: Entry<W>, const W: usize, P: Within<MapRule<E, W>>> Map<E, W, P> {
     /// The next entry behind a key, in the order of [`entries`](Self::entries): bucket by bucket,
     /// and in each by key. Behind the key 0 that is the first one. The key need not be in the map,
     /// so whoever goes over the entries keeps the last key, and no cursor.
     ///
     /// It takes two loads for each node of the chains from the key's bucket up to there, and one
     /// for each word of the entry but the key. It ends, whatever the keeper does meanwhile.
-    pub fn next_after(&self, seat: &mut MapSeat<E, W>, key: u64) -> Option<E>
-        requires walking { IsWalking self.now seat.old }
-        ensures same { seat.new ≡ after_word_step seat.old seat.new.view.client }
-        ensures walking { IsWalking self.now seat.new }
+    pub fn next_after(&self, seat: &mut MapSeat<E, W, P>, key: u64) -> Option<E>
+        requires walking { IsWalking self.now (seat_part P.lens seat.old) }
+        ensures same { seat.new ≡ after_word_step seat.old
+            (P.lens.set seat.old.view.client (P.lens.get seat.new.view.client)) }
+        ensures walking { IsWalking self.now (seat_part P.lens seat.new) }
         ensures next { IsNextAfter E.holds E.decode self.now.plan.roots self.now.plan.seed key
-            seat.old.view.client.known result seat.new.view.client.known }
+            (P.lens.get seat.old.view.client).known result
+            (P.lens.get seat.new.view.client).known }
         ensures behind { IfSome result (λ entry.
             IsBehind self.now.plan.roots self.now.plan.seed key (E.key_of entry)) }
         ensures keyed { IfSome result (λ entry. 0 < E.key_of entry) }

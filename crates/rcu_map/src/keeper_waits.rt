@@ -2,6 +2,7 @@
 ghost use Rattle.std.specs.Prelude.{◌≡◌, ◌≢◌, ◌↔◌, ◌<◌, Err, IfErr, IfOk, IsTrue, MatchResult};
 ghost use Rattle.std.specs.Prelude.{OnErr, OnOk, is_some};
 ghost use Rattle.rcu_seq.specs.declared.fault.Fault.{Fault};
+ghost use Rattle.rcu_live.specs.InPart.{engine_part, seat_part};
 ghost use Rattle.rcu_live.specs.Waits.{HasRested, wait_fault};
 ghost use Rattle.rcu_graph.specs.Nodes.{nodes_in};
 ghost use Rattle.rcu_map.specs.Chains.{buckets_in};
@@ -15,12 +16,12 @@ use crate::entry::Entry;
 use crate::keeper::MapKeeper;
 use crate::put::{NotPut, Put};
 use crate::shape::{MapRule, MapSeat};
-use rcu_live::Live;
+use rcu_live::{Client, CpuSeat, Live, Within};
 use rcu_seq::Fault;
 use std::sync::Wait;
 
 /// Refuses a seat with an open section, which its caller would wait for.
-pub(crate) fn check_outside<E: Entry<W>, const W: usize>(seat: &MapSeat<E, W>) -> Result<(), Fault>
+pub(crate) fn check_outside<C: Client>(seat: &CpuSeat<C>) -> Result<(), Fault>
     ensures { MatchResult result (λ _. seat.now.depth ≡ 0)
         (λ fault. (fault ≡ Fault.InSection) × (0 < seat.now.depth)) }
 {
@@ -30,7 +31,7 @@ pub(crate) fn check_outside<E: Entry<W>, const W: usize>(seat: &MapSeat<E, W>) -
     Ok(())
 }
 
-impl<E: Entry<W>, const W: usize> MapKeeper<E, W> {
+impl<E: Entry<W>, const W: usize, P: Within<MapRule<E, W>>> MapKeeper<E, W, P> {
     /// Whether each node is live: the root of a bucket, or an entry's.
     pub(crate) fn is_all_live(&self) -> bool
         ensures { IsTrue result ↔ AreAllLive (nodes_in self.now.view.client.known) }
@@ -43,11 +44,13 @@ impl<E: Entry<W>, const W: usize> MapKeeper<E, W> {
     fn wait_until_free<const LEAF: u32, const FAN: u32, T: Drop>(
         &mut self,
         rt: &impl Wait,
-        live: &Live<LEAF, FAN, T, MapRule<E, W>>,
-        seat: &mut MapSeat<E, W>,
+        live: &Live<LEAF, FAN, T, P::Whole>,
+        seat: &mut MapSeat<E, W, P>,
     ) -> Result<(), Fault>
-        requires { CanWait live.now seat.old self.old }
-        ensures of_map { AreOf live.now self.new seat.new }
+        requires { CanWait (engine_part P.own_plan P.begins live.now) (seat_part P.lens seat.old)
+            self.old }
+        ensures of_map { AreOf (engine_part P.own_plan P.begins live.now) self.new
+            (seat_part P.lens seat.new) }
         ensures rested { HasRested seat.old seat.new }
         ensures waited { OnOk result (HasMadeRoom (buckets_in self.old) seat.old seat.new self.old
             self.new) }
@@ -64,11 +67,13 @@ impl<E: Entry<W>, const W: usize> MapKeeper<E, W> {
     fn wait_for_node<const LEAF: u32, const FAN: u32, T: Drop>(
         &mut self,
         rt: &impl Wait,
-        live: &Live<LEAF, FAN, T, MapRule<E, W>>,
-        seat: &mut MapSeat<E, W>,
+        live: &Live<LEAF, FAN, T, P::Whole>,
+        seat: &mut MapSeat<E, W, P>,
     ) -> Result<(), NotPut>
-        requires { CanWait live.now seat.old self.old }
-        ensures of_map { AreOf live.now self.new seat.new }
+        requires { CanWait (engine_part P.own_plan P.begins live.now) (seat_part P.lens seat.old)
+            self.old }
+        ensures of_map { AreOf (engine_part P.own_plan P.begins live.now) self.new
+            (seat_part P.lens seat.new) }
         ensures rested { HasRested seat.old seat.new }
         ensures end { WaitedFor (buckets_in self.old) seat.old seat.new self.old result self.new }
     {
@@ -94,14 +99,16 @@ impl<E: Entry<W>, const W: usize> MapKeeper<E, W> {
     pub fn put_or_wait<const LEAF: u32, const FAN: u32, T: Drop>(
         &mut self,
         rt: &impl Wait,
-        live: &Live<LEAF, FAN, T, MapRule<E, W>>,
-        seat: &mut MapSeat<E, W>,
+        live: &Live<LEAF, FAN, T, P::Whole>,
+        seat: &mut MapSeat<E, W, P>,
         how: Put,
         entry: E,
     ) -> Result<Option<E>, NotPut>
-        requires of_map { AreOf live.now self.old seat.old }
+        requires of_map { AreOf (engine_part P.own_plan P.begins live.now) self.old
+            (seat_part P.lens seat.old) }
         requires sound { E.valid entry }
-        ensures of_map { AreOf live.now self.new seat.new }
+        ensures of_map { AreOf (engine_part P.own_plan P.begins live.now) self.new
+            (seat_part P.lens seat.new) }
         ensures rested { HasRested seat.old seat.new }
         ensures old { IfOk result (λ old. Holds E.decode E.valid E.key_of (buckets_in self.old)
             (nodes_in self.old.view.client.known) (E.key_of entry) old) }

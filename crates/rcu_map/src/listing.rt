@@ -1,5 +1,7 @@
 //! Going over the entries of a map, in an open section.
 ghost use Rattle.std.specs.Prelude.{◌≡◌, ◌<◌, List, ℕ};
+ghost use Rattle.rcu_live.specs.CpuSeat.{after_word_step};
+ghost use Rattle.rcu_live.specs.InPart.{seat_part};
 ghost use Rattle.rcu_graph.specs.Graph.{IsWalking};
 ghost use Rattle.rcu_graph.specs.Nodes.{IsHeld};
 ghost use Rattle.rcu_map.specs.Cursors.{HasListed, HasStepped, IsOnEntry, MayGoOn};
@@ -11,15 +13,19 @@ use crate::cursor::Cursor;
 use crate::entries::Entries;
 use crate::entry::{Entry, words_are_two};
 use crate::map::Map;
-use crate::shape::MapSeat;
+use crate::shape::{MapRule, MapSeat};
+use rcu_live::Within;
 
-impl<E: Entry<W>, const W: usize> Map<E, W> {
+impl<E: Entry<W>, const W: usize, P: Within<MapRule<E, W>>> Map<E, W, P> {
     /// Goes on from a cursor by one hop, and returns where that led: to a node, or to the root of
     /// the next bucket, where it led nowhere.
-    pub(crate) fn step(&self, seat: &mut MapSeat<E, W>, at: Cursor) -> Cursor
-        requires may { MayGoOn self.now seat.old at }
+    pub(crate) fn step(&self, seat: &mut MapSeat<E, W, P>, at: Cursor) -> Cursor
+        requires may { MayGoOn self.now (seat_part P.lens seat.old) at }
         requires inside { at.bucket < self.now.plan.roots }
-        ensures { HasStepped E.holds self.now seat.old at seat.new result }
+        ensures stepped { HasStepped E.holds self.now (seat_part P.lens seat.old) at
+            (seat_part P.lens seat.new) result }
+        ensures others { seat.new ≡ after_word_step seat.old
+            (P.lens.set seat.old.view.client (P.lens.get seat.new.view.client)) }
     {
         words_are_two::<E, W>();
         self.plan();
@@ -35,10 +41,11 @@ impl<E: Entry<W>, const W: usize> Map<E, W> {
     }
 
     /// The entry that a node has, by a load a word.
-    pub(crate) fn entry_at(&self, seat: &mut MapSeat<E, W>, node: usize, key: u64) -> E
-        requires { IsOnEntry E.holds self.now seat.old node key }
+    pub(crate) fn entry_at(&self, seat: &mut MapSeat<E, W, P>, node: usize, key: u64) -> E
+        requires { IsOnEntry E.holds self.now (seat_part P.lens seat.old) node key }
         ensures same { seat.new ≡ seat.old }
-        ensures told { (words : List ℕ) → IsHeld seat.old.view.client.known node words →
+        ensures told { (words : List ℕ) →
+            IsHeld (P.lens.get seat.old.view.client).known node words →
             IsWhole E.holds self.now.plan.words words → key_in words ≡ key →
             result ≡ E.decode words }
         ensures sound { E.valid result }
@@ -47,10 +54,12 @@ impl<E: Entry<W>, const W: usize> Map<E, W> {
     }
 
     /// Goes on from a cursor to the next entry. None tells that no bucket has a further one.
-    fn next_entry(&self, seat: &mut MapSeat<E, W>, start: Cursor) -> (Cursor, Option<E>)
-        requires { MayGoOn self.now seat.old start }
-        ensures { HasListed E.holds E.decode E.valid E.key_of self.now seat.old start
-            seat.new result.0 result.1 }
+    fn next_entry(&self, seat: &mut MapSeat<E, W, P>, start: Cursor) -> (Cursor, Option<E>)
+        requires { MayGoOn self.now (seat_part P.lens seat.old) start }
+        ensures listed { HasListed E.holds E.decode E.valid E.key_of self.now
+            (seat_part P.lens seat.old) start (seat_part P.lens seat.new) result.0 result.1 }
+        ensures others { seat.new ≡ after_word_step seat.old
+            (P.lens.set seat.old.view.client (P.lens.get seat.new.view.client)) }
     {
         let mut at = start;
         let buckets = self.plan().roots;
@@ -64,8 +73,8 @@ impl<E: Entry<W>, const W: usize> Map<E, W> {
     }
 
     /// Lends the seat to an iterator over all entries, in an open section. Nothing is loaded yet.
-    pub fn entries<'a>(&'a self, seat: &'a mut MapSeat<E, W>) -> Entries<'a, E, W>
-        requires { IsWalking self.now seat.old }
+    pub fn entries<'a>(&'a self, seat: &'a mut MapSeat<E, W, P>) -> Entries<'a, E, W, P>
+        requires { IsWalking self.now (seat_part P.lens seat.old) }
         ensures map { (listing result).map ≡ self.now }
         ensures seat { (listing result).seat ≡ seat.old }
         ensures name { (listing result).name ≡ seat.entry.ghost_name }
@@ -80,13 +89,13 @@ impl<E: Entry<W>, const W: usize> Map<E, W> {
     }
 }
 
-impl<'a, E: Entry<W>, const W: usize> Iterator for Entries<'a, E, W> {
+impl<'a, E: Entry<W>, const W: usize, P: Within<MapRule<E, W>>> Iterator for Entries<'a, E, W, P> {
     ghost use Rattle.std.specs.Iterator.{at_most};
 
     type Item = E;
 
     ghost next_gives = { λ old result new.
-        Listed E.holds E.decode E.valid E.key_of (listing old) result (listing new) };
+        Listed P.lens E.holds E.decode E.valid E.key_of (listing old) result (listing new) };
 
     ghost remaining = { λ s. at_most (left_from (listing s).map.plan.roots (listing s).at) };
 

@@ -12,11 +12,11 @@ use crate::put::{NotPut, Put};
 use crate::shape::{MapRule, MapSeat};
 use crate::updater::Updater;
 use rcu_graph::Full;
-use rcu_live::Live;
+use rcu_live::{Live, Within};
 use rcu_seq::{Cookie, Tag};
 use std::sync::Wait;
 
-impl<E: Entry<W>, const W: usize> Updater<E, W> {
+impl<E: Entry<W>, const W: usize, P: Within<MapRule<E, W>>> Updater<E, W, P> {
     /// Looks at the number, and puts an entry in, if that needs no node or one is free. Where a
     /// later number may free one, `Err` is the number.
     fn look_and_put(
@@ -51,8 +51,8 @@ impl<E: Entry<W>, const W: usize> Updater<E, W> {
     pub fn put_or_wait<const LEAF: u32, const FAN: u32, T: Drop>(
         &self,
         rt: &impl Wait,
-        live: &Live<LEAF, FAN, T, MapRule<E, W>>,
-        seat: &mut MapSeat<E, W>,
+        live: &Live<LEAF, FAN, T, P::Whole>,
+        seat: &mut MapSeat<E, W, P>,
         how: Put,
         entry: E,
     ) -> Result<Option<E>, NotPut>

@@ -3,7 +3,7 @@
 ghost use Rattle.std.specs.Prelude.{◌≡◌, All};
 ghost use Rattle.std.specs.Thread.{IsSync};
 ghost use Rattle.rcu_live.specs.CpuSeat.{IsSeatOf};
-ghost use Rattle.rcu_cell.specs.Cell.{IsOutside};
+ghost use Rattle.rcu_graph.specs.Graph.{IsOutside};
 
 use crate::cell::parts::drive;
 use crate::compare::compare;

@@ -1,6 +1,6 @@
 //! A version that a section has loaded, while the keeper shows others.
 ghost use Rattle.std.specs.Prelude.{◌≡◌, ◌≤◌};
-ghost use Rattle.rcu_cell.specs.Cell.{IsOutside};
+ghost use Rattle.rcu_graph.specs.Graph.{IsOutside};
 
 use crate::cell::limits::{Limits, Shared, SharedEngine};
 use crate::cell::{Any, Engine, Pairs, reads, shows};

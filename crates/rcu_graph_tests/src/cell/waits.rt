@@ -1,8 +1,7 @@
 //! Updates that wait for a free slot: on one thread, and beside a slow reader.
 ghost use Rattle.std.specs.Prelude.{◌≡◌, ◌≤◌};
 ghost use Rattle.rcu_live.specs.CpuSeat.{IsSeatOf};
-ghost use Rattle.rcu_cell.specs.Cell.{IsOutside};
-ghost use Rattle.rcu_graph.specs.Graph.{IsWatcherOf};
+ghost use Rattle.rcu_graph.specs.Graph.{IsOutside, IsWatcherOf};
 
 use crate::cell::limits::{Limits, Shared, SharedEngine};
 use crate::cell::{Any, Engine, Pairs};

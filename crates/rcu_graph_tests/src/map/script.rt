@@ -4,6 +4,7 @@ mod caller;
 
 ghost use Rattle.std.specs.Prelude.{◌≡◌};
 ghost use Rattle.rcu_live.specs.CpuSeat.{IsSeatOf, after_word_step};
+ghost use Rattle.rcu_live.specs.Several.{whole};
 ghost use Rattle.rcu_map.specs.Listed.{after_hops, known_in, listing};
 ghost use Rattle.rcu_graph.specs.Graph.{IsWalking, IsWatcherOf};
 ghost use Rattle.rcu_graph.specs.Planned.{of_plan};
@@ -109,8 +110,8 @@ struct Scene<'a, C: Caller + Drop> {
 
 /// Compares the next entry that a section goes over with this one.
 fn goes_on_to<'a, R: Abort>(rt: &R, entries: &mut Listing<'a>, wanted: Option<Route>)
-    ensures { listing entries.new ≡ after_hops (listing entries.old)
-        (known_in (listing entries.new)) (listing entries.new).at }
+    ensures { listing entries.new ≡ after_hops whole (listing entries.old)
+        (known_in whole (listing entries.new)) (listing entries.new).at }
 {
     compare(rt, "next", entries.next(), wanted);
 }

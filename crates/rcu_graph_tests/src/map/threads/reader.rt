@@ -1,6 +1,7 @@
 //! A thread that looks routes up and goes over all of them, beside those who change them.
 ghost use Rattle.std.specs.Prelude.{◌≡◌};
 ghost use Rattle.rcu_live.specs.CpuSeat.{IsSeatOf, after_word_step};
+ghost use Rattle.rcu_live.specs.Several.{whole};
 ghost use Rattle.rcu_map.specs.Listed.{after_hops, known_in, listing};
 ghost use Rattle.rcu_graph.specs.Graph.{IsWalking};
 ghost use Rattle.rcu_graph.specs.Planned.{of_plan};
@@ -55,8 +56,8 @@ impl Listed {
 
 /// Goes on to the next route.
 fn note_next(entries: &mut Listing<'_>, listed: &mut Listed)
-    ensures { listing entries.new ≡ after_hops (listing entries.old)
-        (known_in (listing entries.new)) (listing entries.new).at }
+    ensures { listing entries.new ≡ after_hops whole (listing entries.old)
+        (known_in whole (listing entries.new)) (listing entries.new).at }
 {
     listed.note(entries.next());
 }

@@ -8,4 +8,4 @@ invariant-loop-word g l =
     (lent l.self ≡ lent l.initial.self)
     × (length l.words ≡ length l.initial.words)
     × ((j : ℕ) → j < l.word → slice_index l.words j
-    ≡ slice_index (version_lent g.F.Version.first (lent l.initial.self)) j)
+    ≡ slice_index (version_lent g.P.Within.lens g.F.Version.first (lent l.initial.self)) j)

@@ -13,7 +13,7 @@ use Rattle.rcu_graph.proofs.graph.Graph.join.Goals as goal
 
 pub base-requires : goal.base-requires
 base-requires g c =
-    let room = g.met.P.Within.has_room c.args.plan c.requires.suits in
+    let room = g.met.P.Within.has_room c.args.plan c.requires.suited in
     let words = ap (λ (o : Object g.row.P-Whole-Plan.Denot). o.table.words) c.deref-words.ensures in
     omega (arith, room.1, c.requires.words, c.fits.ensures, words)
 
@@ -23,7 +23,7 @@ invariant_of-graph g c =
     let engine = arc_value c.args.board.now in
     let plan = c.args.plan in
     let clone = c.in_ok-try_clone.ensures in
-    let room = g.met.P.Within.has_room plan r.suits in
+    let room = g.met.P.Within.has_room plan r.suited in
     let words = ap (λ (o : Object g.row.P-Whole-Plan.Denot). o.table.words) c.deref-words.ensures in
     let behind = begins_behind g.P.Within.lens _ _ _ _ g.met.P.Within.is_lens
     (λ base. g.P.Within.begins base plan) _ (g.met.P.Within.is_first plan).1 engine.base in
@@ -35,16 +35,16 @@ invariant_of-graph g c =
     omega (arith, room.1, r.words, behind) in
     record {
       planned = ap (λ (o : Object g.row.P-Whole-Plan.Denot). g.P.Within.own_plan o.plan) clone
-          ∙ ap g.P.Within.own_plan r.plan ∙ is;
+          ∙ ap g.P.Within.own_plan r.planned ∙ is;
       base = c.base.ensures ∙ ap (g.P.Within.begins 0)
-          (sym (ap (λ (o : Object g.row.P-Whole-Plan.Denot). o.plan) clone ∙ r.plan));
+          (sym (ap (λ (o : Object g.row.P-Whole-Plan.Denot). o.plan) clone ∙ r.planned));
       room = subst (λ (y : Object g.row.P-Whole-Plan.Denot × Plan).
           g.P.Within.begins y.0.base y.0.plan
           + (first_place + (y.1.links + y.1.words) * y.1.nodes) ≤ y.0.table.words)
           (λ i. (sym clone i, is i))
           (subst (λ (q : g.row.P-Whole-Plan.Denot). g.P.Within.begins engine.base q
           + (first_place + (own.links + own.words) * own.nodes) ≤ engine.table.words)
-          (sym r.plan) here);
+          (sym r.planned) here);
       small = subst (λ (p : Plan). first_place + (p.links + p.words) * p.nodes < 2 ^ 64) is
           (omega (arith, room.1, r.words, c.fits.ensures, words));
       row = subst (λ (p : Plan). p.links + p.words < 2 ^ 64) is (omega (arith, sized.row));
@@ -55,14 +55,14 @@ invariant_of-graph g c =
 pub returns-clause-keeper : goal.returns-clause-keeper
 returns-clause-keeper g c =
     let clone = c.in_ok-try_clone.ensures in
-    let plan = ap (λ (o : Object g.row.P-Whole-Plan.Denot). o.plan) clone ∙ c.requires.plan in
+    let plan = ap (λ (o : Object g.row.P-Whole-Plan.Denot). o.plan) clone ∙ c.requires.planned in
     joins g.P.Within.lens _ _ _ _ g.met.P.Within.is_lens g.P.Within.own_plan g.P.Within.begins
     (arc_value c.in_ok-try_clone.field-0) c.args.own.now c.hand_over-keeper.result
     c.claim.new.seat (g.F.Shape.first _)
     (subst (λ (o : Object g.row.P-Whole-Plan.Denot).
     IsWatcherOf (engine_part g.P.Within.own_plan g.P.Within.begins o)
     (watcher_part g.P.Within.lens c.args.own.now))
-    (sym clone) c.requires.own)
+    (sym clone) c.requires.of_engine)
     (c.requires.first ∙ ap (λ (q : g.row.P-Whole-Plan.Denot). of_plan (g.P.Within.own_plan q) Owner)
     (sym plan))
     c.hand_over-keeper.ensures.new c.claim.ensures
@@ -70,7 +70,7 @@ returns-clause-keeper g c =
 pub returns-clause-new : goal.returns-clause-new
 returns-clause-new g c =
     let clone = c.in_ok-try_clone.ensures in
-    let plan = ap (λ (o : Object g.row.P-Whole-Plan.Denot). o.plan) clone ∙ c.requires.plan in
+    let plan = ap (λ (o : Object g.row.P-Whole-Plan.Denot). o.plan) clone ∙ c.requires.planned in
     joined_as g.P.Within.lens _ _ _ _ g.met.P.Within.is_lens g.P.Within.own_plan g.P.Within.begins
     c.args.own.now c.hand_over-keeper.result c.claim.new.seat
     (g.F.Shape.first (g.P.Within.own_plan c.args.plan)) (g.P.Within.own_plan c.args.plan)
@@ -86,7 +86,7 @@ returns-clause-new g c =
 pub returns-clause-claimed : goal.returns-clause-claimed
 returns-clause-claimed g c =
     let clone = c.in_ok-try_clone.ensures in
-    let plan = ap (λ (o : Object g.row.P-Whole-Plan.Denot). o.plan) clone ∙ c.requires.plan in
+    let plan = ap (λ (o : Object g.row.P-Whole-Plan.Denot). o.plan) clone ∙ c.requires.planned in
     let first = g.F.Shape.first (g.P.Within.own_plan c.args.plan) in
     ap (λ (w : Watching g.row.P-Whole-Known.Denot). g.P.Within.lens.get w.view.client)
     (joined_as g.P.Within.lens _ _ _ _ g.met.P.Within.is_lens g.P.Within.own_plan

@@ -1,0 +1,27 @@
+use Rattle.std.proofs.Common.{sym, ap, ◌∙◌, subst, inr, arith}
+use Rattle.rcu_map.proofs.map.Map.entry_at.Goals as goal
+
+pub words_at-requires : goal.words_at-requires
+words_at-requires g c =
+    let r = c.requires in
+    let small = g.met.E.Value.small in (
+      omega arith,
+      (
+        omega (arith, small),
+        record { walking = r.walking; words = r.words; on = inr r.held; inside = r.inside },
+      ),
+    )
+
+pub of_words-requires : goal.of_words-requires
+of_words-requires g c =
+    let r = c.requires in
+    let small = g.met.E.Value.small in (
+      omega (arith, small),
+      subst g.E.Invariant.holds (sym (c.words_at.ensures.told r.words (inr r.held) r.whole r.is))
+          (r.whole.entry (let is = r.is in omega (arith, is, r.keyed))),
+    )
+
+pub returns-clause-told : goal.returns-clause-told
+returns-clause-told g c = λ words held whole is.
+    c.of_words.ensures.told
+    ∙ ap g.E.Value.decode (c.words_at.ensures.told words (inr held) whole is)
