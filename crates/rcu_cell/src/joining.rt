@@ -5,7 +5,7 @@ ghost use Rattle.rcu_live.specs.InPart.{engine_part, watcher_part};
 ghost use Rattle.rcu_live.specs.Watcher.{after_word_step};
 ghost use Rattle.rcu_graph.specs.Joining.{CanJoin};
 ghost use Rattle.rcu_graph.specs.Keeper.{IsKeeperOf};
-ghost use Rattle.rcu_graph.specs.Opening.{AreWhole, IsSized, claimed_first};
+ghost use Rattle.rcu_graph.specs.Opening.{claimed_first};
 ghost use Rattle.rcu_graph.specs.Planned.{of_plan};
 ghost use Rattle.rcu_graph.specs.declared.known.Known.TheVariants.{Idle};
 ghost use Rattle.rcu_graph.specs.declared.not_opened.NotOpened.{NotOpened};
@@ -54,8 +54,7 @@ impl<F: Version<W>, const W: usize> Cell<F, W> {
     pub fn sized(slots: usize) -> Result<Plan, NotOpened>
         ensures plan { IfOk result (λ plan. plan ≡ plan_of_cell W slots) }
         ensures several { IfOk result (λ plan. 2 < plan.nodes) }
-        ensures sized { IfOk result (λ plan. IsSized plan) }
-        ensures whole { IfOk result (λ plan. AreWhole F.holds (λ _. F.first) plan) }
+        ensures suits { IfOk result ⟦<CellRule<F, W> as Client>⟧.suits }
         ensures bad_sizes { OnErr result (¬ HasSizes W slots) }
         ensures fault { IfErr result (λ fault. fault ≡ NotOpened.BadSizes) }
     {

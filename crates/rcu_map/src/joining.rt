@@ -5,12 +5,12 @@ ghost use Rattle.rcu_live.specs.InPart.{engine_part, watcher_part};
 ghost use Rattle.rcu_live.specs.Watcher.{after_word_step};
 ghost use Rattle.rcu_graph.specs.Joining.{CanJoin};
 ghost use Rattle.rcu_graph.specs.Keeper.{IsKeeperOf};
-ghost use Rattle.rcu_graph.specs.Opening.{AreWhole, IsSized, claimed_first};
+ghost use Rattle.rcu_graph.specs.Opening.{claimed_first};
 ghost use Rattle.rcu_graph.specs.Planned.{of_plan};
 ghost use Rattle.rcu_graph.specs.declared.known.Known.TheVariants.{Idle};
 ghost use Rattle.rcu_graph.specs.declared.not_opened.NotOpened.{NotOpened};
 ghost use Rattle.rcu_map.specs.Chains.{HasSizes, plan_of_map};
-ghost use Rattle.rcu_map.specs.Keys.{IsWhole, root_words};
+ghost use Rattle.rcu_map.specs.Keys.{root_words};
 
 use crate::entry::Entry;
 use crate::map::Map;
@@ -56,9 +56,7 @@ impl<E: Entry<W>, const W: usize> Map<E, W> {
     pub fn sized(buckets: usize, nodes: usize, seed: u64) -> Result<Plan, NotOpened>
         ensures plan { IfOk result (λ plan. plan ≡ plan_of_map buckets W nodes seed) }
         ensures some { IfOk result (λ plan. 0 < plan.roots) }
-        ensures sized { IfOk result (λ plan. IsSized plan) }
-        ensures whole { IfOk result (λ plan.
-            AreWhole (IsWhole E.holds plan.words) (root_words plan.words) plan) }
+        ensures suits { IfOk result ⟦<MapRule<E, W> as Client>⟧.suits }
         ensures bad_sizes { OnErr result (¬ HasSizes buckets W nodes) }
         ensures fault { IfErr result (λ fault. fault ≡ NotOpened.BadSizes) }
     {
