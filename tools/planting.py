@@ -22,7 +22,7 @@ class Edit:
         self.name = os.path.basename(file).removesuffix(".edit")
         self.is_harmless = os.path.basename(os.path.dirname(file)) != "wrong"
         self.is_alone, self.seconds = False, 0
-        self.changes, self.added, self.is_twin = {}, {}, False
+        self.changes, self.added, self.is_twin, self.is_renamed = {}, {}, False, False
         # The function that it is in, and the one by which it is judged.
         self.of = self.function = None
         texts, self.why = rt.read_edit(file, crate.folder)
@@ -67,6 +67,7 @@ class Edit:
         whole = re.sub(rf"\bfn {name}\b", f"fn {twin}", whole, count=1)
         self.function = self.of.path.removesuffix(name) + twin
         self.added = proofs_of_twin(self.crate, self.of.path, self.function)
+        self.is_renamed = not self.added
         return ending, ending, f"\n\n{with_clauses(whole, labels) if labels else whole}"
 
     def against_the_rule(self, labels):
