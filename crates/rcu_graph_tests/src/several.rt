@@ -1,4 +1,6 @@
 //! Several clients of one engine: two maps, which a thread reads by one seat.
+mod behind;
+
 ghost use Rattle.std.specs.Prelude.{◌≡◌, ◌<◌};
 ghost use Rattle.std.specs.Arc.{arc_value};
 ghost use Rattle.rcu_live.specs.CpuSeat.{after_word_step};
@@ -75,13 +77,6 @@ fn finds<R: Abort, P: Within<Rule>>(
     compare(rt, network, found.map(|route| route.port), port);
 }
 
-/// Puts a route in where its network has none.
-fn puts<R: Abort, P: Within<Rule>>(rt: &R, keeper: &mut MapKeeper<Route, 2, P>, port: u32) {
-    if let Some(route) = Route::to(1, port) {
-        compare(rt, port, keeper.insert(route), Ok(None));
-    }
-}
-
 /// Looks a network up in each map in one section: neither has it.
 fn reads_both<R: Abort>(
     rt: &R,
@@ -97,31 +92,6 @@ fn reads_both<R: Abort>(
     finds(rt, maps.1, seat, (1, None));
     finds(rt, maps.0, seat, (2, None));
     compare(rt, "exit", seat.exit(live), Ok(0));
-}
-
-#[test]
-fn a_map_stands_behind_another(rt: HostRuntime) {
-    let alloc = rt.alloc();
-    let Ok(plan) = Map::<Route, 2>::sized(1, 4, 0) else {
-        return;
-    };
-    let Some(plans) = Pair::plan(plan, plan) else {
-        return;
-    };
-    let Ok(opened) = Live::<4, 4, u64, Pair>::open_for(alloc, 1, 4_000, 64, plans) else {
-        return;
-    };
-    let (live, mut seats, _, mut own) = opened;
-    let (exits, watcher): (Exits, _) = joins(&rt, live.words(), &mut own, plans);
-    let Ok(mut keeper) = MapKeeper::new(alloc, &exits, watcher) else {
-        return;
-    };
-    puts(&rt, &mut keeper, 20);
-    if let Some(mut seat) = seats.pop() {
-        compare(&rt, "enter", seat.enter(&live), Ok(1));
-        finds(&rt, &exits, &mut seat, (1, Some(20)));
-        compare(&rt, "exit", seat.exit(&live), Ok(0));
-    }
 }
 
 #[test]
