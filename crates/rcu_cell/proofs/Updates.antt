@@ -14,13 +14,13 @@ use Rattle.rcu_graph.specs.Puts.{HasPut, put}
 use Rattle.rcu_graph.specs.Tended.{AreTended, AreTrimmed}
 use Rattle.rcu_graph.specs.declared.known.Node.{Node}
 use Rattle.rcu_graph.specs.declared.known.Planned.{Planned}
-use Rattle.rcu_graph.specs.declared.node_state.NodeState.{NodeState}
 use Rattle.rcu_graph.specs.declared.node_state.NodeState.TheVariants.{Free, Left, Live}
 use Rattle.rcu_graph.specs.declared.plan.Plan.{Plan}
 use Rattle.rcu_graph.proofs.Counting.{live_inside, other_node, same_node}
 use Rattle.rcu_graph.proofs.PutNodes.{before, elsewhere, few_put, here}
 use Rattle.rcu_graph.proofs.Puts.{not_free}
 use Rattle.rcu_graph.proofs.Tending.{at_here}
+use Rattle.rcu_graph.proofs.States.{not_left}
 use Rattle.rcu_cell.specs.Cell.{slot_of}
 use Rattle.rcu_cell.specs.Keeper.{Updated}
 use Rattle.rcu_cell.specs.Versions.{IsKept, IsOneShown, left_in, shown_in}
@@ -29,9 +29,6 @@ use Rattle.rcu_cell.proofs.Kept.{any, shown_live, tended_along_one}
 same_parts : (v w : Node) → v.state ≡ w.state → v.links ≡ w.links → v.words ≡ w.words → v ≡ w
 same_parts v w state links words =
     λ i. record { state = state i; links = links i; words = words i }
-
-left_or_live : (s : NodeState) → s ≡ Left → s ≡ Live → ⊥
-left_or_live s a b = cc
 
 -- a slot to which the root's link leads is the one that is shown
 shown_is : (A : List Node) (i : ℕ) → next_of A 0 ≡ suc i → i ≡ shown_in A
@@ -107,7 +104,7 @@ module _ (fits : List ℕ → Type 0) (joins : ℕ → List ℕ → List ℕ →
   -- only the slot that was shown is left
   left_is_shown : (i : ℕ) → 1 ≤ i → state_at S i ≡ Live → state_at B i ≡ Left → i ≡ shown_in A
   left_is_shown i past live left = dite (ℕ_discrete i by)
-      (λ (is : i ≡ by). absurd (left_or_live (state_at B i) left (ap (state_at B) is ∙ by_live)))
+      (λ (is : i ≡ by). absurd (not_left (state_at B i) (ap (state_at B) is ∙ by_live) left))
       (λ (nb : i ≢ by).
       let nr : i ≢ 0 = λ e. omega (arith, e, past) in
       ⊎_elim (λ (root : i ≡ 0). absurd (nr root))

@@ -15,8 +15,11 @@ use Rattle.rcu_graph.specs.declared.known.Node.{Node}
 use Rattle.rcu_graph.specs.declared.node_state.NodeState.TheVariants.{Live}
 use Rattle.rcu_graph.proofs.Mirrors.{renewed_twice}
 
-is_below : (i n : ℕ) → i < n → nat_lt i n ≡ true
+pub is_below : (i n : ℕ) → i < n → nat_lt i n ≡ true
 is_below i n e = grind (arith, nat_tests)
+
+pub below : (i n : ℕ) → nat_lt i n ≡ true → i < n
+below i n e = grind (arith, nat_tests)
 
 not_below : (i n : ℕ) → n ≤ i → nat_lt i n ≡ false
 not_below i n e = grind (arith, nat_tests)

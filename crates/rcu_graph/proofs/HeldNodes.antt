@@ -24,6 +24,7 @@ use Rattle.rcu_graph.specs.declared.node_state.NodeState.{NodeState}
 use Rattle.rcu_graph.specs.declared.node_state.NodeState.TheVariants.{Free, Live}
 use Rattle.rcu_graph.proofs.Moves.{knows_held}
 use Rattle.rcu_graph.proofs.States.{live_outlived, not_both}
+use Rattle.rcu_graph.proofs.Tending.{at_here}
 
 not_reader : (known : Known) (n : ℕ) (s : List Node) (b : List (List Node)) → known ≡ Keeper n s b
     → IsReader known → ⊥
@@ -156,11 +157,6 @@ module _ (fits : List ℕ → Type 0) (joins : ℕ → List ℕ → List ℕ →
   on_node ws xs h id i cpu section known words at reads (inr held) =
       let r = holds_it ws xs h id i cpu section known words at reads held in (r.on, r.here)
 
-  is_there : (nodes : List Node) (i : ℕ) (v : Node) → get_elem? nodes i ≡ some v
-      → node_at nodes i ≡ v
-  is_there nodes i v e =
-      some-injective _ _ (sym (at_inside nodes i no_node (inside nodes i v e)) ∙ e)
-
   -- a hop was true of the nodes at its load, which the keeper knows right after it still
   pub hop_true_then : (table later_table : List ℕ)
       (xs ys : Views Known) (keeper id i l latest : ℕ) (who own cpu section : Option ℕ)
@@ -196,7 +192,7 @@ module _ (fits : List ℕ → Type 0) (joins : ℕ → List ℕ → List ℕ →
       h.kept.written i there.0 there.1 l (omega (arith, low))
       ∙ get_or_append_left there.0.links there.0.words 0 l (omega (arith, low, many)) in
       let node : node_at nodes i ≡ there.0 =
-      ap (λ (s : List Node). node_at s i) k.1 ∙ is_there h.nodes i there.0 there.1 in (
+      ap (λ (s : List Node). node_at s i) k.1 ∙ at_here h.nodes i there.0 there.1 in (
         hop,
         ap hops_in f.is,
         refl,
@@ -225,7 +221,7 @@ module _ (fits : List ℕ → Type 0) (joins : ℕ → List ℕ → List ℕ →
           let r : Reading h'.nodes later_section j f.words = holds_it later_table ys h'
           id j later_cpu later_section now f.words then (subst IsReader (sym f.is) tt) held in
           sym (ap (λ (v : Node). v.words)
-          (ap (λ (s : List Node). node_at s j) known.1 ∙ is_there h'.nodes j r.on r.here)
+          (ap (λ (s : List Node). node_at s j) known.1 ∙ at_here h'.nodes j r.on r.here)
           ∙ r.same)
 
   pub hop_true : (table : List ℕ) (xs : Views Known)
@@ -273,7 +269,7 @@ module _ (fits : List ℕ → Type 0) (joins : ℕ → List ℕ → List ℕ →
       let k = h.seats keeper who own (Keeper latest nodes stored) kept in
       let r = h.kept.rooted root low in
       let here : node_at nodes root ≡ r.0 =
-      ap (λ (s : List Node). node_at s root) k.1 ∙ is_there h.nodes root r.0 r.1 in
+      ap (λ (s : List Node). node_at s root) k.1 ∙ at_here h.nodes root r.0 r.1 in
       record {
         rooted = ap (λ (v : Node). v.state) here ∙ r.2;
         own = subst (λ (words : List ℕ). IsTrue (ours words))
@@ -307,7 +303,7 @@ module _ (fits : List ℕ → Type 0) (joins : ℕ → List ℕ → List ℕ →
           let t = live_leads table xs keeper i 0 j latest who own nodes stored
           (node_at nodes i) h
           kept (there i live) live some_link word in
-          let to : node_at nodes j ≡ t.0 = is_there nodes j t.0 t.1 in (
+          let to : node_at nodes j ≡ t.0 = at_here nodes j t.0 t.1 in (
             ap (λ (v : Node). v.state) to ∙ t.2,
             subst (λ (v : Node). joins 0 (node_at nodes i).words v.words) (sym to) t.3,
           )

@@ -3,7 +3,6 @@
 use Rattle.std.proofs.Common.{◌≡◌, ◌≢◌, ℕ, zero, suc, ◌+◌, ◌<◌, ◌≤◌, Bool, true, false, List, []}
 use Rattle.std.proofs.Common.{◌∷◌, length, get_or, replicate, refl, sym, ap, ◌∙◌, arith, subst}
 use Rattle.std.specs.Prelude.{if◌then◌else◌, nat_lt, slice_index}
-use Rattle.std.proofs.lemmas.Bool.Decides.{nat_tests}
 use Rattle.std.proofs.lemmas.List.{get_or-replicate, length-replicate}
 use Rattle.std.proofs.lemmas.List.FromFn.{get_or-map-range_with_len, length-map-range_with_len}
 use Rattle.std.proofs.lemmas.List.Sums.{sum_by-cons}
@@ -20,6 +19,7 @@ use Rattle.rcu_graph.specs.declared.node_state.NodeState.{NodeState}
 use Rattle.rcu_graph.specs.declared.node_state.NodeState.TheVariants.{Free, Left, Live, Retired}
 use Rattle.rcu_graph.proofs.Counting.{found_node, from_others, kept_at, links_to-set, live_inside}
 use Rattle.rcu_graph.proofs.Counting.{other_node}
+use Rattle.rcu_graph.proofs.FirstNodes.{below, is_below}
 use Rattle.rcu_graph.proofs.Puts.{free_or_live}
 use Rattle.rcu_graph.proofs.States.{live_aged}
 use Rattle.rcu_graph.proofs.Tending.{are_whole, here_at}
@@ -173,12 +173,6 @@ module _ (fits : List ℕ → Type 0) (joins : ℕ → List ℕ → List ℕ →
     begin_at : (i : ℕ) → i < count → node_at begin i ≡ first_node links width first roots i
     begin_at i low = get_or-map-range_with_len (first_node links width first roots) 0 count i i
         no_node low (omega arith)
-
-    is_below : (i n : ℕ) → i < n → nat_lt i n ≡ true
-    is_below i n e = grind (arith, nat_tests)
-
-    below : (i n : ℕ) → nat_lt i n ≡ true → i < n
-    below i n e = grind (arith, nat_tests)
 
     root_at : (i : ℕ) → i < roots → node_at begin i ≡ root links (first i)
     root_at i low =

@@ -24,6 +24,7 @@ use Rattle.rcu_graph.specs.Rule.{IsKept, IsLed, Knows}
 use Rattle.rcu_graph.specs.declared.known.Known.{Known}
 use Rattle.rcu_graph.specs.declared.known.Known.TheVariants.{Owner}
 use Rattle.rcu_graph.specs.declared.known.Node.{Node}
+use Rattle.rcu_graph.proofs.FirstNodes.{below, is_below}
 
 at_range : (n i x : ℕ) → get_elem? (range_with_len 0 n) i ≡ some x → (x ≡ i) × (i < n)
 at_range n i x e =
@@ -42,14 +43,8 @@ in_range n i low =
     let same : get_or (range_with_len 0 n) i 0 ≡ i = omega (arith, is) in
     at_inside (range_with_len 0 n) i 0 (omega (arith, size, low)) ∙ ap some same
 
-below : (i n : ℕ) → nat_lt i n ≡ true → i < n
-below i n e = grind (arith, nat_tests)
-
 not_below : (i n : ℕ) → nat_lt i n ≡ false → n ≤ i
 not_below i n e = grind (arith, nat_tests)
-
-is_below : (i n : ℕ) → i < n → nat_lt i n ≡ true
-is_below i n e = grind (arith, nat_tests)
 
 -- a row of zeros and of words, where they stand so
 row_is : (links width row i : ℕ) (behind words : List ℕ)

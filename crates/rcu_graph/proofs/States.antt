@@ -11,6 +11,9 @@ use Rattle.rcu_graph.specs.Nodes.{IsBy, IsUsed, MayRead, Outlives, aged_state}
 use Rattle.rcu_graph.specs.declared.node_state.NodeState.{NodeState}
 use Rattle.rcu_graph.specs.declared.node_state.NodeState.TheVariants.{Free, Live, Left, Retired}
 
+pub not_left : (state : NodeState) → state ≡ Live → state ≡ Left → ⊥
+not_left state a b = cc
+
 pub not_both : (state : NodeState) → state ≡ Live → state ≡ Free → ⊥
 not_both state a b = cc
 

@@ -14,13 +14,12 @@ use Rattle.rcu_graph.specs.Nodes.{aged, aged_node, in_state, linked_to, node_at,
 use Rattle.rcu_graph.specs.Nodes.{renewed, state_at, stored_in, worded}
 use Rattle.rcu_graph.specs.declared.known.Known.{Known}
 use Rattle.rcu_graph.specs.declared.known.Node.{Node}
-use Rattle.rcu_graph.specs.declared.node_state.NodeState.{NodeState}
 use Rattle.rcu_graph.specs.declared.node_state.NodeState.TheVariants.{Free, Left, Live}
 use Rattle.rcu_graph.specs.declared.plan.Plan.{Plan}
 use Rattle.rcu_graph.proofs.Beside.{chained_at}
 use Rattle.rcu_graph.proofs.Chains.{aged_at}
 use Rattle.rcu_graph.proofs.Counting.{kept_at, live_inside, other_node, same_state}
-use Rattle.rcu_graph.proofs.States.{live_aged, not_both}
+use Rattle.rcu_graph.proofs.States.{live_aged, not_both, not_left}
 
 -- what is linked by live nodes is so in all nodes that have the same links and words
 module _ (ours : List ℕ → Bool) (root : ℕ) (A B : List Node) (c : IsChained ours root A)
@@ -54,9 +53,6 @@ record AreQuiet (A B : List Node) : Type 0 where
 -- each live node is on the chain, if it is one of the chain's
 abbrev pub AreAllOn : (List ℕ → Bool) → ℕ → List Node → Type 0
 AreAllOn ours root nodes = (i : ℕ) → state_at nodes i ≡ Live → IsOnIfOurs ours root nodes i
-
-not_left : (state : NodeState) → state ≡ Live → state ≡ Left → ⊥
-not_left state a b = cc
 
 module _ (A : List Node) where
   same_quiet : AreQuiet A A

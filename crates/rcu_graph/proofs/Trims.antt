@@ -16,14 +16,11 @@ use Rattle.rcu_graph.specs.Nodes.{in_state, node_at, renewed, state_at}
 use Rattle.rcu_graph.specs.Tended.{AreHeldUp, IsReachedFrom}
 use Rattle.rcu_graph.specs.Trimming.{IsInside, IsTrimming, owed}
 use Rattle.rcu_graph.specs.declared.known.Node.{Node}
-use Rattle.rcu_graph.specs.declared.node_state.NodeState.{NodeState}
 use Rattle.rcu_graph.specs.declared.node_state.NodeState.TheVariants.{Left, Live}
 use Rattle.rcu_graph.proofs.Counting.{from_live, from_others, leads_counts, links_to-set}
 use Rattle.rcu_graph.proofs.Counting.{live_in-left, live_inside, one_other, one_same, other_node}
 use Rattle.rcu_graph.proofs.Counting.{same_state, state_keeps_links, state_keeps_words}
-
-not_left : (s : NodeState) → s ≡ Live → s ≡ Left → ⊥
-not_left s a b = cc
+use Rattle.rcu_graph.proofs.States.{not_left}
 
 all_tail : (P : ℕ → Type 0) (x : ℕ) (xs : List ℕ) → All P (x ∷ xs) → All P xs
 all_tail P x xs all = λ k d low. all (suc k) d (omega (arith, low))

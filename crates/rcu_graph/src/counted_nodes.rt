@@ -1,14 +1,11 @@
 //! The nodes that a keeper knows, each with a count of the links that lead to it: what a change
 //! leaves, without a walk of the graph.
-ghost use Rattle.std.specs.Prelude.{◌≡◌, ◌≤◌, ◌<◌, ◌+◌, ◌∷◌, ◌^◌, ℕ, [], All, IfOk, List, length};
-ghost use Rattle.std.specs.Prelude.{replicate, slice_index, suc};
-ghost use Rattle.rcu_live.specs.InPart.{watcher_part};
+ghost use Rattle.std.specs.Prelude.{◌≡◌, ◌≤◌, ◌<◌, ◌+◌, ◌∷◌, ◌^◌, ℕ, [], All, List, length};
+ghost use Rattle.std.specs.Prelude.{slice_index, suc};
 ghost use Rattle.rcu_graph.specs.Counts.{counted_up, times_in};
 ghost use Rattle.rcu_graph.specs.Graph.{IsWatcherOf, word_to};
-ghost use Rattle.rcu_graph.specs.Keeper.{IsKeeperOf, after_step};
+ghost use Rattle.rcu_graph.specs.Keeper.{after_step};
 ghost use Rattle.rcu_graph.specs.Nodes.{node_at, nodes_in};
-ghost use Rattle.rcu_graph.specs.Opening.{AreWhole};
-ghost use Rattle.rcu_graph.specs.Steps.{IsClaimed};
 ghost use Rattle.rcu_graph.specs.Tended.{published, relinked};
 ghost use Rattle.rcu_graph.specs.Trimming.{IsInside, IsTrimming};
 ghost use Rattle.rcu_graph.specs.Updates.{HasTrimmed, MayPublish, MayRelink};
@@ -16,9 +13,8 @@ ghost use Rattle.rcu_graph.specs.declared.known.Node.{Node};
 
 use crate::graph::Graph;
 use crate::known_nodes::{KnownNodes, node_of, word_of};
-use crate::rule::{GraphRule, GraphWatcher, Shape};
+use crate::rule::{GraphRule, Shape};
 use rcu_live::Within;
-use std::alloc::{AllocError, Global};
 
 /// Nodes, and how many links of live nodes lead to each.
 #[derive(Drop)]
@@ -30,36 +26,6 @@ pub(crate) struct CountedNodes<F: Shape, P: Within<GraphRule<F>>> {
 }
 
 impl<F: Shape, P: Within<GraphRule<F>>> CountedNodes<F, P> {
-    /// The nodes of a seat, which are as at first.
-    pub(crate) fn new(
-        alloc: Global,
-        graph: &Graph<F, P>,
-        seat: GraphWatcher<F, P>,
-    ) -> Result<Self, AllocError>
-        requires keeper { IsKeeperOf graph.now (watcher_part P.lens seat) }
-        requires nodes { IsClaimed (F.first graph.now.plan) graph.now.plan.roots
-            graph.now.plan.links graph.now.plan.words graph.now.plan.nodes
-            (P.lens.get seat.view.client).known }
-        requires first { AreWhole (F.fits graph.now.plan) (F.first graph.now.plan)
-            graph.now.plan }
-        ensures nodes { IfOk result (λ counted.
-            counted.nodes ≡ watcher_part P.lens seat) }
-        ensures counts { IfOk result (λ counted. counted.counts.items ≡ replicate
-            graph.now.plan.nodes 0) }
-        ensures leaving { IfOk result (λ counted. length counted.leaving.items ≡
-            graph.now.plan.nodes) }
-    {
-        let count = graph.plan().nodes;
-        let nodes = KnownNodes::new(alloc, graph, seat)?;
-        let counts = vec![in alloc; 0usize; count]?;
-        let leaving = vec![in alloc; 0usize; count]?;
-        Ok(CountedNodes {
-            nodes,
-            counts,
-            leaving,
-        })
-    }
-
     /// Counts a link that leads there.
     fn count(&mut self, word: u64)
         requires inside { (i : ℕ) → word ≡ suc i → i < length self.old.counts.items }
@@ -105,7 +71,7 @@ impl<F: Shape, P: Within<GraphRule<F>>> CountedNodes<F, P> {
         if node < plan.roots {
             return left;
         }
-        if !self.nodes.state(node).is_live() {
+        if !self.nodes.mirror().state(node).is_live() {
             return left;
         }
         self.nodes.leave(graph, node);
@@ -135,7 +101,7 @@ impl<F: Shape, P: Within<GraphRule<F>>> CountedNodes<F, P> {
         let plan = self.nodes.plan(graph);
         let mut gone = left;
         for link in 0..plan.links {
-            let word = self.nodes.link_word(node, link);
+            let word = self.nodes.mirror().link(node, link);
             gone = self.let_go(graph, word, gone);
         }
         gone
@@ -177,7 +143,7 @@ impl<F: Shape, P: Within<GraphRule<F>>> CountedNodes<F, P> {
     {
         self.nodes.plan(graph);
         let word = word_of(to);
-        let before = self.nodes.link_word(from, link);
+        let before = self.nodes.mirror().link(from, link);
         self.nodes.link(graph, from, link, word);
         self.count(word);
         self.trim(graph, before);
@@ -202,7 +168,7 @@ impl<F: Shape, P: Within<GraphRule<F>>> CountedNodes<F, P> {
     {
         let plan = self.nodes.plan(graph);
         for link in 0..plan.links {
-            let word = self.nodes.link_word(node, link);
+            let word = self.nodes.mirror().link(node, link);
             self.count(word);
         }
     }
@@ -218,7 +184,7 @@ impl<F: Shape, P: Within<GraphRule<F>>> CountedNodes<F, P> {
             (published (nodes_in self.old.nodes.view.client.known) from link to) }
     {
         self.nodes.plan(graph);
-        let before = self.nodes.link_word(from, link);
+        let before = self.nodes.mirror().link(from, link);
         self.count_links_of(graph, to);
         self.nodes.publish(graph, from, link, to);
         self.count(word_of(Some(to)));

@@ -15,7 +15,7 @@ ghost use Rattle.rcu_graph.specs.declared.node_state.NodeState.TheVariants.{Free
 
 use crate::counted_nodes::CountedNodes;
 use crate::graph::Graph;
-use crate::known_nodes::node_of;
+use crate::known_nodes::{KnownNodes, node_of};
 use crate::plan::Plan;
 use crate::rule::{GraphRule, GraphWatcher, Shape};
 use rcu_live::{Alone, Within};
@@ -72,8 +72,12 @@ impl<F: Shape, P: Within<GraphRule<F>>> Keeper<F, P> {
             graph.now.plan }
         ensures { IfOk result (λ keeper. keeper ≡ watcher_part P.lens seat) }
     {
-        graph.plan();
-        let counted = CountedNodes::new(alloc, graph, seat)?;
+        let count = graph.plan().nodes;
+        let counted = CountedNodes {
+            nodes: KnownNodes::new(alloc, graph, seat)?,
+            counts: vec![in alloc; 0usize; count]?,
+            leaving: vec![in alloc; 0usize; count]?,
+        };
         let graph = graph.try_clone()?;
         Ok(Keeper { graph, counted })
     }
@@ -93,7 +97,7 @@ impl<F: Shape, P: Within<GraphRule<F>>> Keeper<F, P> {
     pub fn plan(&self) -> Plan
         ensures { result ≡ self.now.view.client.plan }
     {
-        self.counted.nodes.seat_plan()
+        self.counted.nodes.mirror().plan()
     }
 
     /// Whether a node is free.
@@ -101,7 +105,7 @@ impl<F: Shape, P: Within<GraphRule<F>>> Keeper<F, P> {
         requires { node < self.now.view.client.plan.nodes }
         ensures { result ≡ is_free (state_at (nodes_in self.now.view.client.known) node) }
     {
-        self.counted.nodes.state(node).is_free()
+        self.counted.nodes.mirror().state(node).is_free()
     }
 
     /// Whether a node is live.
@@ -109,7 +113,7 @@ impl<F: Shape, P: Within<GraphRule<F>>> Keeper<F, P> {
         requires { node < self.now.view.client.plan.nodes }
         ensures { result ≡ is_live (state_at (nodes_in self.now.view.client.known) node) }
     {
-        self.counted.nodes.state(node).is_live()
+        self.counted.nodes.mirror().state(node).is_live()
     }
 
     /// The node to which a link of a node leads.
@@ -119,7 +123,7 @@ impl<F: Shape, P: Within<GraphRule<F>>> Keeper<F, P> {
         ensures { word_to result
             ≡ slice_index (node_at (nodes_in self.now.view.client.known) node).links link }
     {
-        node_of(self.counted.nodes.link_word(node, link))
+        node_of(self.counted.nodes.mirror().link(node, link))
     }
 
     /// A word of a node.
@@ -129,7 +133,7 @@ impl<F: Shape, P: Within<GraphRule<F>>> Keeper<F, P> {
         ensures { result ≡ slice_index (node_at (nodes_in self.now.view.client.known) node).words
             word }
     {
-        self.counted.nodes.word(node, word)
+        self.counted.nodes.mirror().word(node, word)
     }
 
     /// A free node, at a cost that is the same for any number of nodes: the one that was freed
@@ -141,7 +145,7 @@ impl<F: Shape, P: Within<GraphRule<F>>> Keeper<F, P> {
             state_at (nodes_in self.now.view.client.known) node ≡ Free) }
         ensures full { OnErr result (AreAllUsed (nodes_in self.now.view.client.known)) }
     {
-        self.counted.nodes.free_node().ok_or(Full)
+        self.counted.nodes.mirror().free_node().ok_or(Full)
     }
 
     /// Stores all words and all links of a free node. No section sees them: it is free still.

@@ -1,6 +1,6 @@
 //! The seat that keeps the nodes, and beside it what it knows of them at run time.
-ghost use Rattle.std.specs.Prelude.{◌≡◌, ◌≤◌, ◌<◌, ◌+◌, ◌-◌, ◌*◌, ◌^◌, All, IfNone, IfOk, IfSome};
-ghost use Rattle.std.specs.Prelude.{length, map, slice_index};
+ghost use Rattle.std.specs.Prelude.{◌≡◌, ◌≤◌, ◌<◌, ◌+◌, ◌-◌, ◌*◌, ◌^◌, All, IfOk, IfSome};
+ghost use Rattle.std.specs.Prelude.{length, map};
 ghost use Rattle.rcu_live.specs.InPart.{watcher_part};
 ghost use Rattle.rcu_graph.specs.Filling.{CanFill, CanStore, after_links, after_words};
 ghost use Rattle.rcu_graph.specs.Graph.{IsWatcherOf, word_to};
@@ -11,7 +11,7 @@ ghost use Rattle.rcu_graph.specs.Nodes.{IsKeeping, IsTarget, IsUnlinked, node_at
 ghost use Rattle.rcu_graph.specs.Nodes.{state_at};
 ghost use Rattle.rcu_graph.specs.Opening.{AreWhole};
 ghost use Rattle.rcu_graph.specs.Steps.{IsClaimed};
-ghost use Rattle.rcu_graph.specs.Tended.{AreAllUsed, after_fill};
+ghost use Rattle.rcu_graph.specs.Tended.{after_fill};
 ghost use Rattle.rcu_graph.specs.Updates.{CanPublish};
 ghost use Rattle.rcu_graph.specs.declared.node_state.NodeState.TheVariants.{Free, Live};
 
@@ -97,49 +97,12 @@ impl<F: Shape, P: Within<GraphRule<F>>> KnownNodes<F, P> {
         self.mirror.plan()
     }
 
-    /// How large the graph is, as the seat knows.
-    pub(crate) fn seat_plan(&self) -> Plan
-        ensures { result ≡ self.now.view.client.plan }
+    /// The nodes as they are known at run time.
+    pub(crate) fn mirror(&self) -> &Mirror
+        ensures plan { result.now.plan ≡ self.now.view.client.plan }
+        ensures nodes { result.now.nodes ≡ nodes_in self.now.view.client.known }
     {
-        self.mirror.plan()
-    }
-
-    /// The state of a node.
-    pub(crate) fn state(&self, node: usize) -> NodeState
-        requires { node < self.now.view.client.plan.nodes }
-        ensures { result ≡ state_at (nodes_in self.now.view.client.known) node }
-    {
-        self.mirror.state(node)
-    }
-
-    /// A free node, where there is one.
-    pub(crate) fn free_node(&self) -> Option<usize>
-        ensures inside { IfSome result (λ node. node < self.now.view.client.plan.nodes) }
-        ensures free { IfSome result (λ node.
-            state_at (nodes_in self.now.view.client.known) node ≡ Free) }
-        ensures none { IfNone result (AreAllUsed (nodes_in self.now.view.client.known)) }
-    {
-        self.mirror.free_node()
-    }
-
-    /// The word of a link of a node.
-    pub(crate) fn link_word(&self, node: usize, link: usize) -> u64
-        requires node { node < self.now.view.client.plan.nodes }
-        requires link { link < self.now.view.client.plan.links }
-        ensures { result ≡ slice_index (node_at (nodes_in self.now.view.client.known) node).links
-            link }
-    {
-        self.mirror.link(node, link)
-    }
-
-    /// A word of a node.
-    pub(crate) fn word(&self, node: usize, word: usize) -> u64
-        requires node { node < self.now.view.client.plan.nodes }
-        requires word { word < self.now.view.client.plan.words }
-        ensures { result ≡ slice_index (node_at (nodes_in self.now.view.client.known) node).words
-            word }
-    {
-        self.mirror.word(node, word)
+        &self.mirror
     }
 
     /// Stores a word of a free node.

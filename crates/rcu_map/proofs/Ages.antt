@@ -20,7 +20,8 @@ use Rattle.rcu_map.specs.Chains.{AreOfOneBucket, IsKept, IsMap}
 use Rattle.rcu_map.specs.Entries.{AreSameEntries, entries_in}
 use Rattle.rcu_map.specs.Keys.{GoesUp, IsWhole, bucket_in, key_in, root_words}
 use Rattle.rcu_graph.specs.Puts.{AreKept}
-use Rattle.rcu_map.proofs.Buckets.{root_bucket, root_key}
+use Rattle.rcu_map.proofs.Buckets.{root_bucket}
+use Rattle.rcu_map.proofs.Rows.{root_key}
 use Rattle.rcu_map.proofs.Counted.{as_many_entries, no_entries}
 use Rattle.rcu_graph.proofs.Puts.{free_or_live}
 

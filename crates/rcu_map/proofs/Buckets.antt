@@ -5,10 +5,7 @@ use Rattle.std.specs.Prelude.{if◌then◌else◌, slice_index}
 use Rattle.std.proofs.lemmas.Bool.Decides.{nat_tests}
 use Rattle.std.proofs.lemmas.List.{get_or-set_same}
 use Rattle.rcu_map.specs.Keys.{bucket_in, bucket_of, key_in, root_words}
-use Rattle.rcu_map.proofs.Rows.{zeros}
-
-pub root_key : (width bucket : ℕ) → key_in (root_words width bucket) ≡ 0
-root_key width bucket = grind (arith)
+use Rattle.rcu_map.proofs.Rows.{root_key, zeros}
 
 -- a root is of its own bucket
 pub root_bucket : (buckets seed width i : ℕ) → 1 < width → bucket_in buckets seed

@@ -14,7 +14,8 @@ use Rattle.rcu_map.specs.Entries.{HasKey, IsEntry, IsNodeOf}
 use Rattle.rcu_graph.specs.Puts.{IsFreeNode}
 use Rattle.rcu_map.specs.Keys.{GoesUp, IsWhole, bucket_in, bucket_of, key_in}
 use Rattle.rcu_map.specs.Splices.{IsPlace}
-use Rattle.rcu_map.proofs.Buckets.{bucket_inside, entry_bucket, root_bucket, root_key}
+use Rattle.rcu_map.proofs.Buckets.{bucket_inside, entry_bucket, root_bucket}
+use Rattle.rcu_map.proofs.Rows.{root_key}
 
 -- the bucket of the node i
 abbrev pub bucket_at : ℕ → ℕ → List Node → ℕ → ℕ

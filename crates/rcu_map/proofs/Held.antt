@@ -8,17 +8,13 @@ use native.Mathlib.Decide.{ℕ_discrete}
 use Rattle.rcu_graph.specs.Absence.{next_of}
 use Rattle.rcu_graph.specs.Nodes.{node_at, state_at}
 use Rattle.rcu_graph.specs.declared.known.Node.{Node}
-use Rattle.rcu_graph.specs.declared.node_state.NodeState.{NodeState}
-use Rattle.rcu_graph.specs.declared.node_state.NodeState.TheVariants.{Free, Left, Live}
+use Rattle.rcu_graph.specs.declared.node_state.NodeState.TheVariants.{Free, Live}
 use Rattle.rcu_map.specs.Chains.{IsMap}
 use Rattle.rcu_map.specs.Entries.{HasEntry}
 use Rattle.rcu_map.proofs.Chains.{reached}
 use Rattle.rcu_map.proofs.Gaps.{IsPassed, IsPut}
 use Rattle.rcu_graph.proofs.Puts.{not_free}
 use Rattle.rcu_map.proofs.Trimmed.{AreHeld}
-
-pub left_or_live : (s : NodeState) → s ≡ Left → s ≡ Live → ⊥
-left_or_live s a b = cc
 
 -- the entry of the node i is in the map still
 pub still_there : (buckets : ℕ) (A B : List Node) (w : List ℕ) (i : ℕ)

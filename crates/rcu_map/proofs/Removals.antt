@@ -10,6 +10,7 @@ use Rattle.rcu_graph.specs.Tended.{AreTended, AreTrimmed, relinked}
 use Rattle.rcu_graph.specs.declared.known.Node.{Node}
 use Rattle.rcu_graph.specs.declared.node_state.NodeState.TheVariants.{Left, Live}
 use Rattle.rcu_graph.proofs.Counting.{live_inside}
+use Rattle.rcu_graph.proofs.States.{not_left}
 use Rattle.rcu_map.specs.Chains.{IsMap}
 use Rattle.rcu_map.specs.Entries.{IsNodeOf, IsRemoved, entries_in}
 use Rattle.rcu_map.specs.Keys.{GoesUp, IsWhole, key_in}
@@ -17,7 +18,7 @@ use Rattle.rcu_map.specs.Splices.{IsPlace}
 use Rattle.rcu_map.proofs.Chains.{led, one_entry, one_way, there}
 use Rattle.rcu_map.proofs.Counted.{one_entry_more}
 use Rattle.rcu_map.proofs.Gaps.{IsPassed, but, but_other, ordered_past, other_but}
-use Rattle.rcu_map.proofs.Held.{held_past, left_or_live, still_there}
+use Rattle.rcu_map.proofs.Held.{held_past, still_there}
 use Rattle.rcu_map.proofs.Stored.{is_passed}
 use Rattle.rcu_map.proofs.Trimmed.{AreHeld, is_left, map_after, same_state}
 
@@ -92,7 +93,7 @@ module _ (holds : List ℕ → Type 0) (buckets seed width count : ℕ) (A : Lis
 
       kept : (i : ℕ) → state_at B i ≡ Live → but old i ≡ true
       kept i live = other_but old i
-          (λ is. left_or_live (state_at B old) out (ap (λ (n : ℕ). state_at B n) (sym is) ∙ live))
+          (λ is. not_left (state_at B old) (ap (λ (n : ℕ). state_at B n) (sym is) ∙ live) out)
 
       words_same : (i : ℕ) → (node_at B i).words ≡ (node_at A i).words
       words_same i = t.words_stay i ∙ p.same i

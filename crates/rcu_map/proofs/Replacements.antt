@@ -21,8 +21,9 @@ use Rattle.rcu_map.proofs.Chains.{bucket_at, one_way}
 use Rattle.rcu_map.proofs.Counted.{one_entry_more}
 use Rattle.rcu_map.proofs.Gaps.{IsGap, IsPut, but, but_other, ordered_with, other_but}
 use Rattle.rcu_graph.proofs.Puts.{not_free}
+use Rattle.rcu_graph.proofs.States.{not_left}
 use Rattle.rcu_map.proofs.Gaps.{replacement_gap}
-use Rattle.rcu_map.proofs.Held.{held_with, left_or_live, node_behind, still_there}
+use Rattle.rcu_map.proofs.Held.{held_with, node_behind, still_there}
 use Rattle.rcu_map.proofs.Removals.{had, no_ring, not_old, other_key, passes, previous_stays}
 use Rattle.rcu_map.proofs.Stored.{is_put}
 use Rattle.rcu_map.proofs.Trimmed.{AreHeld, is_left, map_after, same_state}
@@ -89,7 +90,7 @@ module _ (holds : List ℕ → Type 0) (buckets seed width count : ℕ) (A : Lis
 
     kept : (i : ℕ) → state_at B i ≡ Live → but old i ≡ true
     kept i live = other_but old i (λ is.
-        left_or_live (state_at B old) passed_out (ap (λ (n : ℕ). state_at B n) (sym is) ∙ live))
+        not_left (state_at B old) (ap (λ (n : ℕ). state_at B n) (sym is) ∙ live) passed_out)
 
     states : (i : ℕ) → i ≢ old → state_at B i ≡ state_at S i
     states i ne = same_state buckets S B t (but old) held i (other_but old i ne)

@@ -4,6 +4,7 @@ use Rattle.std.specs.Prelude.{nat_eq, slice_index}
 use Rattle.rcu_live.specs.Watcher.{Watching}
 use Rattle.rcu_graph.specs.Counts.{one_if}
 use Rattle.rcu_graph.specs.Nodes.{node_at, nodes_in}
+use Rattle.rcu_graph.specs.declared.known.Node.{Node}
 use Rattle.rcu_graph.specs.declared.known.Planned.{Planned}
 use Rattle.rcu_graph.specs.declared.plan.Plan.{Plan}
 use Rattle.rcu_graph.proofs.Cascade.{times_all, times_le, times_more}
@@ -28,13 +29,15 @@ count-requires-clause-inside g c =
     let long = (c.plan-plan.ensures.sized c.args.node c.requires.node).0 in
     let row = ap (λ (q : Plan). q.links) c.plan-plan.ensures.plan in
     let here : l < length links = omega (arith, long, row, c.loop-link-test.true) in
-    let word_is : c.link_word-word.result ≡ get_or links l 0 =
-    c.link_word-word.ensures
+    let word_is : c.link-word.result ≡ get_or links l 0 =
+    c.link-word.ensures
+    ∙ (ap (λ (ns : List Node). slice_index (node_at ns c.args.node).links l)
+    c.mirror.ensures.nodes
     ∙ ap
     (λ (w : Watching Planned). slice_index (node_at (nodes_in w.view.client.known)
     c.args.node).links l)
-    i.nodes in
-    let inside : (k : ℕ) → c.link_word-word.result ≡ suc k → k < c.args.graph.now.plan.nodes =
+    i.nodes) in
+    let inside : (k : ℕ) → c.link-word.result ≡ suc k → k < c.args.graph.now.plan.nodes =
     λ k is. c.requires.inside l 0 here k (sym word_is ∙ is) in
     λ k is. let a = inside k is in omega (arith, a, i.many)
 
@@ -47,13 +50,15 @@ count-requires-clause-few g c =
     let long = (c.plan-plan.ensures.sized c.args.node c.requires.node).0 in
     let row = ap (λ (q : Plan). q.links) c.plan-plan.ensures.plan in
     let here : l < length links = omega (arith, long, row, c.loop-link-test.true) in
-    let word_is : c.link_word-word.result ≡ get_or links l 0 =
-    c.link_word-word.ensures
+    let word_is : c.link-word.result ≡ get_or links l 0 =
+    c.link-word.ensures
+    ∙ (ap (λ (ns : List Node). slice_index (node_at ns c.args.node).links l)
+    c.mirror.ensures.nodes
     ∙ ap
     (λ (w : Watching Planned). slice_index (node_at (nodes_in w.view.client.known)
     c.args.node).links l)
-    i.nodes in
-    let inside : (k : ℕ) → c.link_word-word.result ≡ suc k → k < c.args.graph.now.plan.nodes =
+    i.nodes) in
+    let inside : (k : ℕ) → c.link-word.result ≡ suc k → k < c.args.graph.now.plan.nodes =
     λ k is. c.requires.inside l 0 here k (sym word_is ∙ is) in
     λ k is.
     let low = inside k is in
@@ -70,18 +75,20 @@ loop-link-preserved g c =
     let i = c.loop-link.invariant in
     let l = c.loop-link.link in
     let old : List ℕ = c.loop-link.self.counts.items in
-    let word = c.link_word-word.result in
+    let word = c.link-word.result in
     let links : List ℕ = (node_at (nodes_in c.args.self.now.nodes.view.client.known)
     c.args.node).links in
     let long = (c.plan-plan.ensures.sized c.args.node c.requires.node).0 in
     let row = ap (λ (q : Plan). q.links) c.plan-plan.ensures.plan in
     let here : l < length links = omega (arith, long, row, c.loop-link-test.true) in
     let word_is : word ≡ get_or links l 0 =
-    c.link_word-word.ensures
+    c.link-word.ensures
+    ∙ (ap (λ (ns : List Node). slice_index (node_at ns c.args.node).links l)
+    c.mirror.ensures.nodes
     ∙ ap
     (λ (w : Watching Planned). slice_index (node_at (nodes_in w.view.client.known)
     c.args.node).links l)
-    i.nodes in
+    i.nodes) in
     let inside : (k : ℕ) → word ≡ suc k → k < length old =
     λ k is. let a = c.requires.inside l 0 here k (sym word_is ∙ is) in omega (arith, a, i.many) in
     record {

@@ -104,7 +104,8 @@ state-requires g c =
     let leaving : List ℕ = c.args.self.now.leaving.items in
     let low = led_inside p.nodes p.roots p.links r.0 nodes counts leaving r.1 c.args.left r.2
     c.in-Some.node c.args.word c.in-Some.ensures r.3 in
-    subst (λ (q : Plan). c.in-Some.node < q.nodes) (sym c.requires.graph.planned) low
+    subst (λ (q : Plan). c.in-Some.node < q.nodes)
+    (sym (c.mirror.ensures.plan ∙ c.requires.graph.planned)) low
 
 pub returns-then-not-is_live-clause-trimming : goal.returns-then-not-is_live-clause-trimming
 returns-then-not-is_live-clause-trimming g c = λ stored from words t.
@@ -124,7 +125,8 @@ returns-then-not-is_live-clause-trimming g c = λ stored from words t.
     c.in-Some.node c.args.word c.in-Some.ensures t (c.index.result.now - 1)
     (omega (arith, some, value))
     (λ live past. absurd (false≢true
-    (sym c.if-not-is_live.true ∙ (c.is_live.ensures ∙ ap is_live (c.state.ensures ∙ live)))))
+    (sym c.if-not-is_live.true ∙ (c.is_live.ensures ∙ ap is_live (c.state.ensures
+    ∙ (ap (λ (ns : List Node). state_at ns c.in-Some.node) c.mirror.ensures.nodes ∙ live))))))
 
 pub leave-requires : goal.leave-requires
 leave-requires g c =
@@ -141,7 +143,9 @@ leave-requires g c =
     get_or_read counts c.in-Some.node _ low c.index.ensures 0 in
     let live : state_at nodes c.in-Some.node ≡ Live =
     test_live (state_at nodes c.in-Some.node)
-    (sym (c.is_live.ensures ∙ ap is_live c.state.ensures) ∙ c.if-not-is_live.false) in
+    (sym (c.is_live.ensures ∙ ap is_live (c.state.ensures
+    ∙ ap (λ (ns : List Node). state_at ns c.in-Some.node) c.mirror.ensures.nodes))
+    ∙ c.if-not-is_live.false) in
     let no_root : p.roots ≤ c.in-Some.node =
     (let roots = ap (λ (q : Plan). q.roots) c.plan-plan.ensures.plan in
     omega (arith, roots, c.if-node-plan.false)) in
@@ -162,7 +166,9 @@ index_mut-requires-2 g c =
     let nodes : List Node = nodes_in c.args.self.now.nodes.view.client.known in
     let live : state_at nodes c.in-Some.node ≡ Live =
     test_live (state_at nodes c.in-Some.node)
-    (sym (c.is_live.ensures ∙ ap is_live c.state.ensures) ∙ c.if-not-is_live.false) in
+    (sym (c.is_live.ensures ∙ ap is_live (c.state.ensures
+    ∙ ap (λ (ns : List Node). state_at ns c.in-Some.node) c.mirror.ensures.nodes))
+    ∙ c.if-not-is_live.false) in
     let room = room_left c.args.graph.now.plan.nodes c.args.graph.now.plan.roots
     c.args.graph.now.plan.links r.0 nodes c.args.self.now.counts.items
     c.args.self.now.leaving.items r.1 c.args.left (c.args.word ∷ r.2) c.in-Some.node r.3 live in
@@ -174,7 +180,9 @@ overflow_add-result g c =
     let nodes : List Node = nodes_in c.args.self.now.nodes.view.client.known in
     let live : state_at nodes c.in-Some.node ≡ Live =
     test_live (state_at nodes c.in-Some.node)
-    (sym (c.is_live.ensures ∙ ap is_live c.state.ensures) ∙ c.if-not-is_live.false) in
+    (sym (c.is_live.ensures ∙ ap is_live (c.state.ensures
+    ∙ ap (λ (ns : List Node). state_at ns c.in-Some.node) c.mirror.ensures.nodes))
+    ∙ c.if-not-is_live.false) in
     let room = room_left c.args.graph.now.plan.nodes c.args.graph.now.plan.roots
     c.args.graph.now.plan.links r.0 nodes c.args.self.now.counts.items
     c.args.self.now.leaving.items r.1 c.args.left (c.args.word ∷ r.2) c.in-Some.node r.3 live in
@@ -196,7 +204,9 @@ returns-clause-trimming g c = λ stored from words t.
     get_or_read counts c.in-Some.node _ low c.index.ensures 0 in
     let live : state_at nodes c.in-Some.node ≡ Live =
     test_live (state_at nodes c.in-Some.node)
-    (sym (c.is_live.ensures ∙ ap is_live c.state.ensures) ∙ c.if-not-is_live.false) in
+    (sym (c.is_live.ensures ∙ ap is_live (c.state.ensures
+    ∙ ap (λ (ns : List Node). state_at ns c.in-Some.node) c.mirror.ensures.nodes))
+    ∙ c.if-not-is_live.false) in
     subst (λ (l : List Node). IsTrimming c.args.graph.now.plan.nodes c.args.graph.now.plan.roots
     c.args.graph.now.plan.links stored l
     (set counts c.in-Some.node (c.index.result.now - 1)) (set leaving c.args.left c.in-Some.node)

@@ -1,4 +1,5 @@
-use Rattle.std.proofs.Common.{◌≡◌, ◌+◌, ◌<◌, ◌∷◌, ℕ, List, ap, arith, drop, subst, sym}
+use Rattle.std.proofs.Common.{◌≡◌, ◌∙◌, ◌+◌, ◌<◌, ◌∷◌, ℕ, List, ap, arith, drop, subst, sym}
+use Rattle.std.specs.Prelude.{slice_index}
 use Rattle.rcu_graph.specs.Nodes.{node_at, nodes_in}
 use Rattle.rcu_graph.specs.Trimming.{IsTrimming}
 use Rattle.rcu_graph.specs.declared.known.Node.{Node}
@@ -32,7 +33,9 @@ let_go-gone-requires g c =
         subst (λ (w : ℕ). IsTrimming p.nodes p.roots p.links t.0 nodes
             c.loop-link.self.counts.items c.loop-link.self.leaving.items t.1 c.loop-link.gone
             (w ∷ rest))
-            (sym c.link_word-word.ensures)
+            (sym (c.link-word.ensures
+            ∙ ap (λ (ns : List Node). slice_index (node_at ns c.args.node).links l)
+            c.mirror.ensures.nodes))
             (next_link p.nodes p.roots p.links t.0 nodes c.loop-link.self.counts.items
             c.loop-link.self.leaving.items t.1 c.loop-link.gone c.args.node c.requires.node l low
             (i.trimming t.0 t.1 t.2)),
@@ -55,7 +58,9 @@ loop-link-preserved g c =
           c.args.graph.now.plan.links stored nodes
           c.loop-link.self.counts.items c.loop-link.self.leaving.items from c.loop-link.gone
           (w ∷ rest))
-          (sym c.link_word-word.ensures)
+          (sym (c.link-word.ensures
+          ∙ ap (λ (ns : List Node). slice_index (node_at ns c.args.node).links l)
+          c.mirror.ensures.nodes))
           (next_link c.args.graph.now.plan.nodes c.args.graph.now.plan.roots
           c.args.graph.now.plan.links stored nodes c.loop-link.self.counts.items
           c.loop-link.self.leaving.items from c.loop-link.gone c.args.node c.requires.node l

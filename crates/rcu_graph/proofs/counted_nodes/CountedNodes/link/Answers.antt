@@ -88,9 +88,11 @@ trim-requires g c =
           c.args.graph.now.plan.links (nodes_in now.view.client.known) stored
           (nodes_in now.view.client.known) stored c.count.new.self.counts.items
           (counted_up counts x)
-          c.count.new.self.leaving.items leaving 0 0 (c.link_word-before.result ∷ [])
+          c.count.new.self.leaving.items leaving 0 0 (c.link-before.result ∷ [])
           (slice_index (node_at nodes c.args.from).links c.args.link ∷ []) nodes_is nodes_is
-          counts_is leaving_is (ap (λ (w : ℕ). w ∷ []) c.link_word-before.ensures)
+          counts_is leaving_is (ap (λ (w : ℕ). w ∷ []) (c.link-before.ensures
+          ∙ ap (λ (ns : List Node). slice_index (node_at ns c.args.from).links c.args.link)
+          c.mirror.ensures.nodes))
           (relinked_starts (g.F.Shape.fits c.args.graph.now.plan)
           (g.F.Shape.joins c.args.graph.now.plan) c.args.graph.now.plan.nodes
           c.args.graph.now.plan.roots c.args.graph.now.plan.links c.args.graph.now.plan.words
