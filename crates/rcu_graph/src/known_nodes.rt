@@ -17,7 +17,6 @@ ghost use Rattle.rcu_graph.specs.declared.node_state.NodeState.TheVariants.{Free
 
 use crate::graph::Graph;
 use crate::mirror::Mirror;
-use crate::node_state::NodeState;
 use crate::plan::Plan;
 use crate::rule::{GraphRule, GraphWatcher, Shape};
 use rcu_live::Within;
