@@ -5,8 +5,10 @@ ghost use Rattle.std.specs.Prelude.{◌≡◌, ◌<◌};
 ghost use Rattle.std.specs.Arc.{arc_value};
 ghost use Rattle.rcu_live.specs.CpuSeat.{after_word_step};
 ghost use Rattle.rcu_live.specs.InPart.{engine_part, seat_part, watcher_part};
+ghost use Rattle.rcu_live.specs.Opening.{AreDealt};
 ghost use Rattle.rcu_live.specs.Several.{in_first, in_second, whole};
 ghost use Rattle.rcu_live.specs.Watcher as watcher;
+ghost use Rattle.rcu_live.specs.Words.{base_of};
 ghost use Rattle.rcu_graph.specs.Graph.{IsWalking};
 ghost use Rattle.rcu_graph.specs.Joining.{CanJoin};
 ghost use Rattle.rcu_graph.specs.Keeper.{IsKeeperOf};
@@ -17,7 +19,7 @@ ghost use Rattle.rcu_map.specs.Keys.{root_words};
 
 use crate::compare::compare;
 use crate::map::route::Route;
-use rcu_live::{Alone, Board, Both, Client, CpuSeat, First, Live, Second, Within};
+use rcu_live::{Alone, Board, Both, Client, CpuSeat, First, Live, Second, Watcher, Within};
 use rcu_map::{Map, MapKeeper, MapRule, MapSeat, MapWatcher};
 use std::alloc::Global;
 use std::process::Abort;
@@ -28,6 +30,9 @@ type Rule = MapRule<Route, 2>;
 
 /// Two maps.
 type Pair = Both<Rule, Rule>;
+
+/// The engine of both.
+type Shared = Live<4, 4, u64, Pair>;
 
 /// The first one.
 type Routes = Map<Route, 2, First<Alone, Rule>>;
@@ -60,6 +65,32 @@ fn joins<R: Abort, P: Within<Rule>>(
     Map::join(board, own, plan).expect(rt, "a map joins")
 }
 
+/// Opens an engine of one processor for these maps. Where it is refused memory, the same call is
+/// made again.
+fn opens<R: Abort>(
+    rt: &R,
+    alloc: Global,
+    plans: <Pair as Client>::Plan,
+) -> (
+    Shared,
+    Vec<CpuSeat<Pair>>,
+    Vec<Watcher<Pair>>,
+    Watcher<Pair>,
+)
+    requires { ⟦<Pair as Client>⟧.suits plans }
+    ensures dealt { AreDealt 1 4000 64 (⟦<Pair as Client>⟧.size plans)
+        (⟦<Pair as Client>⟧.idle (⟦<Pair as Client>⟧.first plans)) result.0 result.1.items
+        result.2.items }
+    ensures plan { result.0.plan ≡ plans }
+    ensures own { result.3
+        ≡ watcher.watcher_at_first result.0.table (base_of 1) (⟦<Pair as Client>⟧.first plans) }
+{
+    if let Ok(opened) = Live::open_for(alloc, 1, 4_000, 64, plans) {
+        return opened;
+    }
+    Live::open_for(alloc, 1, 4_000, 64, plans).expect(rt, "an engine opens")
+}
+
 /// Looks a network up in an open section, and compares the port.
 fn finds<R: Abort, P: Within<Rule>>(
     rt: &R,
@@ -78,12 +109,7 @@ fn finds<R: Abort, P: Within<Rule>>(
 }
 
 /// Looks a network up in each map in one section: neither has it.
-fn reads_both<R: Abort>(
-    rt: &R,
-    live: &Live<4, 4, u64, Pair>,
-    maps: (&Routes, &Exits),
-    seat: &mut CpuSeat<Pair>,
-)
+fn reads_both<R: Abort>(rt: &R, live: &Shared, maps: (&Routes, &Exits), seat: &mut CpuSeat<Pair>)
     requires table { seat.old.table ≡ live.now.table }
     requires routes { IsWalking maps.0.now (seat_part (in_first whole) seat.old) }
     requires exits { IsWalking maps.1.now (seat_part (in_second whole) seat.old) }
@@ -103,10 +129,7 @@ fn one_seat_reads_two_maps(rt: HostRuntime) {
     let Some(plans) = Pair::plan(plan, plan) else {
         return;
     };
-    let Ok(opened) = Live::<4, 4, u64, Pair>::open_for(alloc, 1, 4_000, 64, plans) else {
-        return;
-    };
-    let (live, mut seats, _, mut own) = opened;
+    let (live, mut seats, _, mut own) = opens(&rt, alloc, plans);
     let (routes, _): (Routes, _) = joins(&rt, live.words(), &mut own, plans);
     let (exits, _): (Exits, _) = joins(&rt, live.words(), &mut own, plans);
     if let Some(mut seat) = seats.pop() {

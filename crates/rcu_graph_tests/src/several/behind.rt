@@ -5,7 +5,7 @@ ghost use Rattle.rcu_live.specs.InPart.{engine_part, seat_part};
 ghost use Rattle.rcu_graph.specs.Graph.{IsWalking};
 ghost use Rattle.rcu_graph.specs.Waits.{AreOf};
 
-use super::{Exits, Pair, Rule, finds, joins};
+use super::{Exits, Pair, Rule, finds, joins, opens};
 use crate::compare::compare;
 use crate::map::route::Route;
 use rcu_live::{Live, Within};
@@ -67,10 +67,7 @@ fn a_section_reads_a_map_behind_another(rt: HostRuntime) {
     let Some(plans) = Pair::plan(plan, plan) else {
         return;
     };
-    let Ok(opened) = Live::<4, 4, u64, Pair>::open_for(alloc, 1, 4_000, 64, plans) else {
-        return;
-    };
-    let (live, mut seats, _, mut own) = opened;
+    let (live, mut seats, _, mut own) = opens(&rt, alloc, plans);
     let (exits, watcher): (Exits, _) = joins(&rt, live.words(), &mut own, plans);
     let Ok(mut keeper) = MapKeeper::new(alloc, &exits, watcher) else {
         return;
@@ -119,10 +116,7 @@ fn a_map_behind_another_waits_for_a_node(rt: HostRuntime) {
     let Some(plans) = Pair::plan(plan, plan) else {
         return;
     };
-    let Ok(opened) = Live::<4, 4, u64, Pair>::open_for(alloc, 1, 4_000, 64, plans) else {
-        return;
-    };
-    let (live, mut seats, _, mut own) = opened;
+    let (live, mut seats, _, mut own) = opens(&rt, alloc, plans);
     let (exits, watcher): (Exits, _) = joins(&rt, live.words(), &mut own, plans);
     let (Ok(keeper), Some(seat)) = (MapKeeper::new(alloc, &exits, watcher), seats.pop()) else {
         return;
