@@ -92,9 +92,10 @@ enum rcu_fault {
     RCU_OTHER_ENGINE = 26,   /* the seat is of another engine */
     RCU_CLOSED = 27,         /* the handle is closed, or was never opened */
     RCU_OTHER_KIND = 28,     /* the handle is of another kind */
-    RCU_BAD_SIZES = 29,      /* a map can't have so many buckets and nodes */
+    RCU_BAD_SIZES = 29,      /* a map can't have so many buckets, words an entry and nodes */
     RCU_BAD_KEY = 30,        /* an entry has the key 0 */
-    RCU_MAP_FULL = 31        /* no node of the map is free */
+    RCU_MAP_FULL = 31,       /* no node of the map is free */
+    RCU_BAD_WORDS = 32       /* an entry of the map has another number of words */
 };
 
 /* A sentence for a fault, without a full stop. At 0 it says that there is none. */
@@ -125,9 +126,10 @@ static inline const char *rcu_fault_text(uint32_t fault) {
     case RCU_OTHER_ENGINE: return "the seat is of another engine";
     case RCU_CLOSED: return "the handle is closed, or was never opened";
     case RCU_OTHER_KIND: return "the handle is of another kind";
-    case RCU_BAD_SIZES: return "a map can't have so many buckets and nodes";
+    case RCU_BAD_SIZES: return "a map can't have so many buckets, words an entry and nodes";
     case RCU_BAD_KEY: return "an entry has the key 0";
     case RCU_MAP_FULL: return "no node of the map is free";
+    case RCU_BAD_WORDS: return "an entry of the map has another number of words";
     default: return "no fault has this number";
     }
 }
@@ -193,12 +195,6 @@ typedef struct rcu_replica {
     unsigned char *at;
 } rcu_replica_t;
 
-/* An entry of a map. Key 0 stands for no entry. */
-typedef struct rcu_entry {
-    uint64_t key;   /* 1 or more */
-    uint64_t value; /* the caller's: a number, or the place of more */
-} rcu_entry_t;
-
 /* The sizes of the map of an engine. */
 typedef struct rcu_map_sizes {
     uint64_t buckets; /* how many chains the entries are in, 1 or more */
@@ -207,6 +203,8 @@ typedef struct rcu_map_sizes {
                        * grace period is over */
     uint64_t seed;    /* what decides which bucket a key is in: draw it at random where others
                        * choose the keys */
+    uint64_t words;   /* how many words an entry has, 2 or more, of which word 0 is its key. 0
+                       * stands for 2: a key and a value */
 } rcu_map_sizes_t;
 
 /* <<< */
@@ -270,10 +268,11 @@ void __tsan_acquire(void *place);
  * Faults: 17 for no processor or more than 4,096; 19 where `last` is no such number; 16. */
 uint32_t rcu_open_as(uint32_t cpus, uint64_t last, rcu_identity_t identity, rcu_t *rcu);
 
-/* Opens an engine as rcu_open_as, with a map of so many buckets and nodes, which is empty. Each of
- * its seats reads it. Needs: `rcu` is closed.
- * Faults: 29 where there is no bucket, fewer nodes than buckets, or more than 2^32 words in all,
- * three a node; 17 for no processor or more than 4,096; 19 where `last` is no such number; 16. */
+/* Opens an engine as rcu_open_as, with a map of these sizes, which is empty. Each of its seats
+ * reads it. Needs: `rcu` is closed.
+ * Faults: 29 where there is no bucket, an entry has one word, there are fewer nodes than buckets,
+ * or more than 2^32 words in all, an entry's and one more a node; 17 for no processor or more than
+ * 4,096; 19 where `last` is no such number; 16. */
 uint32_t rcu_open_map_as(uint32_t cpus, uint64_t last, rcu_identity_t identity,
                          const rcu_map_sizes_t *sizes, rcu_t *rcu);
 
@@ -850,57 +849,66 @@ uint32_t rcu_seat_wakes(rcu_seat_t *seat, uint32_t *wakes);
 /* ---- the map of an engine, as a seat's section reads it: with no lock, beside all calls on other
  * handles. What a section found stays as it is until the section ends. */
 
-/* Looks a key up in the open section, and writes its entry, or one of key 0 where it finds none. A
- * key that is in the map from the section's beginning on is found, also where its entry is replaced
- * meanwhile; what is found was there at some moment of the section. It costs two loads for each
- * entry of the key's bucket up to there, and one more.
+/* Looks a key up in the open section, and writes the words of its entry, or the key 0 where it
+ * finds none: then the others stay. A key that is in the map from the section's beginning on is
+ * found, also where its entry is replaced meanwhile; what is found was there at some moment of the
+ * section. It costs two loads for each entry of the key's bucket up to there, and one for each
+ * further word.
  * Where it finds an entry, what the thread did before that put it in comes before what follows this
  * call.
- * Fault 5: no section is open. */
-uint32_t rcu_map_get(rcu_seat_t *seat, uint64_t key, rcu_entry_t *entry);
+ * Faults: 5 where no section is open; 32 where an entry has another number of words. */
+uint32_t rcu_map_get(rcu_seat_t *seat, uint64_t key, uint64_t *entry, size_t room);
 
-/* Goes on from a key to the entry behind it, in the open section, and writes that entry, or one of
- * key 0 where there is none any more. Behind the key 0 stands the first one. The entries are in the
- * order of their buckets, and in each of their keys; the key need not be in the map. So calls from
- * the key 0 on, each with the key that the one before wrote, write each key that is in the map as
- * long as the section lasts. It costs two loads for each entry of the key's bucket up to there, and
- * one for each bucket with no further entry.
+/* Goes on from a key to the entry behind it, in the open section, and writes the words of that, or
+ * the key 0 where there is none any more. Behind the key 0 stands the first one. The entries are in
+ * the order of their buckets, and in each of their keys; the key need not be in the map. So calls
+ * from the key 0 on, each with the key that the one before wrote, write each key that is in the map
+ * as long as the section lasts. It costs two loads for each entry of the key's bucket up to there,
+ * one for each bucket with no further entry, and one for each further word.
  * It orders what rcu_map_get orders.
- * Fault 5: no section is open. */
-uint32_t rcu_map_next(rcu_seat_t *seat, uint64_t key, rcu_entry_t *entry);
+ * Faults: 5 where no section is open; 32 where an entry has another number of words. */
+uint32_t rcu_map_next(rcu_seat_t *seat, uint64_t key, uint64_t *entry, size_t room);
 
 /* ---- what is put into the map of an engine and taken out: `rcu` is under the caller's lock.
  * Sections read the map meanwhile, and see the entries as they were before a call or as they are
  * after it. */
 
-/* Puts an entry in, by one store, where none has its key. Writes the entry that has it: then
- * nothing else happened. It costs a step for each entry of the key's bucket up to there.
+/* Puts an entry of these words in, by one store, where none has its key. Writes the words of the
+ * one that has it: then nothing else happened. Else it writes the key 0. It costs a step for each
+ * entry of the key's bucket up to there, and for each word.
  * What the thread did before comes before what follows a section's rcu_map_get that finds the
  * entry.
- * Faults: 30 where the key is 0; 31 where no entry has the key, and no node is free. */
-uint32_t rcu_map_insert(rcu_t *rcu, uint64_t key, uint64_t value, rcu_entry_t *old);
+ * Faults: 32 where an entry has another number of words than `entry` or `old`; 30 where the key is
+ * 0; 31 where no entry has the key, and no node is free. */
+uint32_t rcu_map_insert(rcu_t *rcu, const uint64_t *entry, size_t length, uint64_t *old,
+                        size_t room);
 
 /* Puts an entry in the place of the one that has its key, by one store, and writes that: a section
- * finds the old one or the new one. Where none has the key, nothing happens. Costs and orders as
- * rcu_map_insert.
- * The old value may be freed when a full grace period has passed, as by rcu_queue or
- * rcu_defer_link.
- * Faults: 30 where the key is 0; 31 where an entry has the key, and no node is free. */
-uint32_t rcu_map_replace(rcu_t *rcu, uint64_t key, uint64_t value, rcu_entry_t *old);
+ * finds the old one or the new one. Where none has the key, it writes the key 0, and nothing else
+ * happens. Costs and orders as rcu_map_insert.
+ * What words of the old entry lead to may be freed when a full grace period has passed, as by
+ * rcu_queue or rcu_defer_link.
+ * Faults: 32 as of rcu_map_insert; 30 where the key is 0; 31 where an entry has the key, and no
+ * node is free. */
+uint32_t rcu_map_replace(rcu_t *rcu, const uint64_t *entry, size_t length, uint64_t *old,
+                         size_t room);
 
 /* Puts an entry in, by one store, in the place of the one that has its key, as rcu_map_replace, or
- * where none has it, as rcu_map_insert. Writes the one that had it.
- * Faults: 30 where the key is 0; 31 where no node is free. */
-uint32_t rcu_map_put(rcu_t *rcu, uint64_t key, uint64_t value, rcu_entry_t *old);
+ * where none has it, as rcu_map_insert. Writes the one that had it, or the key 0.
+ * Faults: 32 as of rcu_map_insert; 30 where the key is 0; 31 where no node is free. */
+uint32_t rcu_map_put(rcu_t *rcu, const uint64_t *entry, size_t length, uint64_t *old, size_t room);
 
-/* Takes the entry of a key out, by one store, and writes it. Its node is free again once a call of
- * rcu_map_age has found it removed, and a later one a full grace period gone by since. The value
- * may be freed when a full grace period has passed. */
-uint32_t rcu_map_remove(rcu_t *rcu, uint64_t key, rcu_entry_t *old);
+/* Takes the entry of a key out, by one store, and writes its words, or the key 0 where there is
+ * none. Its node is free again once a call of rcu_map_age has found it removed, and a later one a
+ * full grace period gone by since. What its words lead to may be freed when a full grace period has
+ * passed.
+ * Fault 32: an entry has another number of words. */
+uint32_t rcu_map_remove(rcu_t *rcu, uint64_t key, uint64_t *old, size_t room);
 
-/* Writes the entry of a key as it is now: under the lock no change is missed, as it may be by a
- * section. */
-uint32_t rcu_map_find(rcu_t *rcu, uint64_t key, rcu_entry_t *entry);
+/* Writes the words of the entry of a key as it is now, or the key 0: under the lock no change is
+ * missed, as it may be by a section.
+ * Fault 32: an entry has another number of words. */
+uint32_t rcu_map_find(rcu_t *rcu, uint64_t key, uint64_t *entry, size_t room);
 
 /* How many entries the map has. 0 where `rcu` is no open engine's. */
 uint64_t rcu_map_len(rcu_t *rcu);

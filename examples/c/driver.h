@@ -228,16 +228,18 @@ static inline void driver_barrier(struct place *place) {
     }
 }
 
-/* Puts an entry into the map by rcu_map_insert, rcu_map_replace or rcu_map_put. Where no node is
- * free, but one will be, it waits for that: the caller's own place is idle or offline. */
-static inline uint32_t driver_map_put(uint32_t (*put)(rcu_t *, uint64_t, uint64_t, rcu_entry_t *),
-                                      uint64_t key, uint64_t value, rcu_entry_t *old) {
+/* Puts an entry of so many words into the map by rcu_map_insert, rcu_map_replace or rcu_map_put.
+ * Where no node is free, but one will be, it waits for that: the caller's own place is idle or
+ * offline. */
+static inline uint32_t driver_map_put(uint32_t (*put)(rcu_t *, const uint64_t *, size_t, uint64_t *,
+                                                      size_t),
+                                      const uint64_t *entry, uint64_t *old, size_t words) {
     uint64_t cookie;
     uint32_t fault;
     pthread_mutex_lock(&lock);
     for (;;) {
         must("age", rcu_map_age(&rcu, &cookie));
-        fault = put(&rcu, key, value, old);
+        fault = put(&rcu, entry, words, old, words);
         if (fault != RCU_MAP_FULL || rcu_map_len(&rcu) == most_entries) break;
         wait_for(cookie);
     }

@@ -11,13 +11,13 @@ static struct {
     uint64_t number, other, values[2];
     uint32_t found, depth, cpus[2];
     rcu_turn_t turn;
-    rcu_entry_t entry;
 } out, kept;
 
 /* An engine with a seat that is dealt, both open. */
 static rcu_t rcu;
 static rcu_seat_t seat;
 static unsigned tried;
+static const uint64_t entry[2] = {7, 8};
 
 static void must(const char *call, uint64_t answer, uint64_t wanted) {
     if (answer != wanted || memcmp(&out, &kept, sizeof out) != 0) {
@@ -63,11 +63,11 @@ static void refuse_engine(rcu_t *none, uint32_t fault) {
     must("rcu_barrier_visit", rcu_barrier_visit(none, 0, &out.found), fault);
     must("rcu_barrier_test", rcu_barrier_test(none, &out.number), fault);
     must("rcu_barrier_wait", rcu_barrier_wait(none, &out.number), fault);
-    must("rcu_map_insert", rcu_map_insert(none, 7, 8, &out.entry), fault);
-    must("rcu_map_replace", rcu_map_replace(none, 7, 8, &out.entry), fault);
-    must("rcu_map_put", rcu_map_put(none, 7, 8, &out.entry), fault);
-    must("rcu_map_remove", rcu_map_remove(none, 7, &out.entry), fault);
-    must("rcu_map_find", rcu_map_find(none, 7, &out.entry), fault);
+    must("rcu_map_insert", rcu_map_insert(none, entry, 2, out.values, 2), fault);
+    must("rcu_map_replace", rcu_map_replace(none, entry, 2, out.values, 2), fault);
+    must("rcu_map_put", rcu_map_put(none, entry, 2, out.values, 2), fault);
+    must("rcu_map_remove", rcu_map_remove(none, 7, out.values, 2), fault);
+    must("rcu_map_find", rcu_map_find(none, 7, out.values, 2), fault);
     must("rcu_map_len", rcu_map_len(none), 0);
     must("rcu_map_age", rcu_map_age(none, &out.number), fault);
     rcu_close(none);
@@ -110,8 +110,8 @@ static void refuse_seat(rcu_seat_t *none, uint32_t fault) {
     must("rcu_links_pop", rcu_links_pop(none, 7), false);
     must("rcu_defer_link", rcu_defer_link(none, &link), fault);
     must("rcu_defer_take", rcu_defer_take(none) != 0 || link.next != &link, false);
-    must("rcu_map_get", rcu_map_get(none, 7, &out.entry), fault);
-    must("rcu_map_next", rcu_map_next(none, 7, &out.entry), fault);
+    must("rcu_map_get", rcu_map_get(none, 7, out.values, 2), fault);
+    must("rcu_map_next", rcu_map_next(none, 7, out.values, 2), fault);
     rcu_seat_close(none);
     must("rcu_seat_close", none->at == at, true);
 }

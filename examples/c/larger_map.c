@@ -10,6 +10,9 @@
 #include <stdio.h>
 #include <stdlib.h>
 
+/* An entry's words. */
+enum { KEY, VALUE, WORDS };
+
 enum { READERS = 2, CPUS = 1 + READERS, BUCKETS = 64, FIRST = 100, ALL = 2 * FIRST, TABLES = 2 };
 
 /* An engine with its map, the lock that it lies under, and a seat for each thread: 0 is main's. */
@@ -49,12 +52,12 @@ static void depart(struct table *table, uint32_t cpu) {
 static void look_up(rcu_seat_t *seat) {
     uint32_t depth;
     uint64_t seen;
-    rcu_entry_t entry;
+    uint64_t entry[WORDS];
     unsigned filled = atomic_load_explicit(&entries, memory_order_acquire);
     must("enter", rcu_seat_enter(seat, &depth));
     for (uint64_t key = 1; key <= filled; key++) {
-        must("get", rcu_map_get(seat, key, &entry));
-        if (entry.key != key || entry.value != 3 * key) atomic_fetch_add(&wrong, 1);
+        must("get", rcu_map_get(seat, key, entry, WORDS));
+        if (entry[KEY] != key || entry[VALUE] != 3 * key) atomic_fetch_add(&wrong, 1);
     }
     must("exit", rcu_seat_exit(seat, &depth));
     must("quiesce", rcu_seat_quiesce(seat, &seen));
@@ -91,10 +94,10 @@ static void close_table(struct table *table) {
     rcu_close(&table->rcu);
 }
 
-static uint32_t insert(struct table *table, uint64_t key, uint64_t value) {
-    rcu_entry_t old;
+static uint32_t insert(struct table *table, const uint64_t *entry) {
+    uint64_t old[WORDS];
     pthread_mutex_lock(&table->lock);
-    uint32_t fault = rcu_map_insert(&table->rcu, key, value, &old);
+    uint32_t fault = rcu_map_insert(&table->rcu, entry, WORDS, old, WORDS);
     pthread_mutex_unlock(&table->lock);
     return fault;
 }
@@ -102,7 +105,8 @@ static uint32_t insert(struct table *table, uint64_t key, uint64_t value) {
 /* Inserts keys until the map is full. Returns the one for which there was no room. */
 static uint64_t fill(struct table *table, uint64_t key) {
     for (; key <= ALL; key++) {
-        uint32_t fault = insert(table, key, 3 * key);
+        const uint64_t entry[WORDS] = {key, 3 * key};
+        uint32_t fault = insert(table, entry);
         if (fault == RCU_MAP_FULL) break;
         must("insert", fault);
         atomic_store_explicit(&entries, (unsigned)key, memory_order_release);
@@ -114,12 +118,12 @@ static uint64_t fill(struct table *table, uint64_t key) {
 static uint64_t copy(struct table *from, struct table *to) {
     uint32_t depth;
     uint64_t copied = 0;
-    rcu_entry_t entry = {0, 0};
+    uint64_t entry[WORDS] = {0};
     must("enter", rcu_seat_enter(&from->seats[0], &depth));
     for (;;) {
-        must("next", rcu_map_next(&from->seats[0], entry.key, &entry));
-        if (entry.key == 0) break;
-        must("insert", insert(to, entry.key, entry.value));
+        must("next", rcu_map_next(&from->seats[0], entry[KEY], entry, WORDS));
+        if (entry[KEY] == 0) break;
+        must("insert", insert(to, entry));
         copied++;
     }
     must("exit", rcu_seat_exit(&from->seats[0], &depth));

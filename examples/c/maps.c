@@ -1,7 +1,7 @@
 /* Three threads read a table, key by key and entry by entry, while one updates it, with a driver
- * that sleeps (driver.h). Its values are records: one is freed once no section can have found it.
- * A key that stays is found at each look, also while its record is replaced. Then what a map
- * refuses. */
+ * that sleeps (driver.h). An entry leads to a record, which is freed once no section can have found
+ * it. A key that stays is found at each look, also while its entry is replaced, and never with the
+ * words of two. Then what a map refuses. */
 #define _POSIX_C_SOURCE 200809L
 enum { READERS = 3, CPUS = 1 + READERS, STAY = 16, KEYS = 64, SPARE = 8, UPDATES = 2000 };
 
@@ -9,7 +9,10 @@ enum { READERS = 3, CPUS = 1 + READERS, STAY = 16, KEYS = 64, SPARE = 8, UPDATES
 #include <inttypes.h>
 #include <stdatomic.h>
 
-/* What a value is the place of. Keys 1 to STAY are there at any time, those up to KEYS come and
+/* An entry's words: its key, the place of its record, and what the record counts. */
+enum { KEY, PLACE, COUNT, WORDS };
+
+/* What an entry leads to. Keys 1 to STAY are there at any time, those up to KEYS come and
  * go. */
 struct record {
     rcu_link_t link; /* at first */
@@ -27,18 +30,23 @@ static void count_wrong(void) {
 
 /* ---- who reads */
 
+static struct record *record_of(const uint64_t *entry) {
+    return (struct record *)(uintptr_t)entry[PLACE];
+}
+
 /* Whether an entry leads to its record. The thread sanitizer does not see what the map orders. */
-static bool is_whole(const rcu_entry_t *entry) {
-    struct record *record = (struct record *)(uintptr_t)entry->value;
+static bool is_whole(const uint64_t *entry) {
+    struct record *record = record_of(entry);
     RCU_SANITIZER_ACQUIRE(record);
-    return record->key == entry->key && record->twice == 2 * record->count;
+    return record->key == entry[KEY] && record->count == entry[COUNT]
+        && record->twice == 2 * record->count;
 }
 
 static void look_up(rcu_seat_t *seat) {
-    rcu_entry_t entry;
+    uint64_t entry[WORDS];
     for (uint64_t key = 1; key <= KEYS; key++) {
-        must("get", rcu_map_get(seat, key, &entry));
-        if (entry.key == 0 ? key <= STAY : entry.key != key || !is_whole(&entry)) count_wrong();
+        must("get", rcu_map_get(seat, key, entry, WORDS));
+        if (entry[KEY] == 0 ? key <= STAY : entry[KEY] != key || !is_whole(entry)) count_wrong();
     }
 }
 
@@ -46,12 +54,12 @@ static void look_up(rcu_seat_t *seat) {
 static void list_all(rcu_seat_t *seat) {
     const uint64_t stay = (UINT64_C(1) << STAY) - 1;
     uint64_t listed = 0;
-    rcu_entry_t entry = {0, 0};
+    uint64_t entry[WORDS] = {0};
     for (;;) {
-        must("next", rcu_map_next(seat, entry.key, &entry));
-        if (entry.key == 0) break;
-        uint64_t its = UINT64_C(1) << (entry.key - 1);
-        if ((listed & its) != 0 || !is_whole(&entry)) count_wrong();
+        must("next", rcu_map_next(seat, entry[KEY], entry, WORDS));
+        if (entry[KEY] == 0) break;
+        uint64_t its = UINT64_C(1) << (entry[KEY] - 1);
+        if ((listed & its) != 0 || !is_whole(entry)) count_wrong();
         listed |= its;
     }
     if ((listed & stay) != stay) count_wrong();
@@ -75,14 +83,15 @@ static void *read_table(void *it) {
 
 /* ---- who updates: the main thread, by place 0, which is idle */
 
-static struct record *new_record(uint64_t key) {
+/* Makes a record, and the entry that leads to it. */
+static void make_record(uint64_t key, uint64_t *entry) {
     struct record *record = malloc(sizeof *record);
     if (!record) abort();
-    record->key = key;
-    record->count = ++made;
+    record->key = entry[KEY] = key;
+    record->count = entry[COUNT] = ++made;
     record->twice = 2 * record->count;
+    entry[PLACE] = (uintptr_t)record;
     RCU_SANITIZER_RELEASE(record);
-    return record;
 }
 
 static void free_record(rcu_link_t *link) {
@@ -92,42 +101,42 @@ static void free_record(rcu_link_t *link) {
     freed++;
 }
 
-static void free_later(const rcu_entry_t *old) {
-    driver_defer(&places[0], &((struct record *)(uintptr_t)old->value)->link, free_record);
+static void free_later(const uint64_t *old) {
+    driver_defer(&places[0], &record_of(old)->link, free_record);
 }
 
-/* Replaces the record of a key that is there. */
+/* Replaces the entry of a key that is there. */
 static void replace(uint64_t key) {
-    rcu_entry_t old;
-    struct record *record = new_record(key);
-    must("replace", driver_map_put(rcu_map_replace, key, (uintptr_t)record, &old));
-    if (old.key != key) count_wrong();
-    free_later(&old);
+    uint64_t entry[WORDS], old[WORDS];
+    make_record(key, entry);
+    must("replace", driver_map_put(rcu_map_replace, entry, old, WORDS));
+    if (old[KEY] != key) count_wrong();
+    free_later(old);
 }
 
-/* Puts a record in, be the key there or not. */
+/* Puts an entry in, be the key there or not. */
 static void put(uint64_t key) {
-    rcu_entry_t old;
-    struct record *record = new_record(key);
-    must("put", driver_map_put(rcu_map_put, key, (uintptr_t)record, &old));
-    if (old.key) free_later(&old);
+    uint64_t entry[WORDS], old[WORDS];
+    make_record(key, entry);
+    must("put", driver_map_put(rcu_map_put, entry, old, WORDS));
+    if (old[KEY]) free_later(old);
 }
 
 static void take_out(uint64_t key) {
-    rcu_entry_t old;
+    uint64_t old[WORDS];
     pthread_mutex_lock(&lock);
-    must("remove", rcu_map_remove(&rcu, key, &old));
+    must("remove", rcu_map_remove(&rcu, key, old, WORDS));
     pthread_mutex_unlock(&lock);
-    if (old.key) free_later(&old);
+    if (old[KEY]) free_later(old);
 }
 
-/* Puts a record in where the key is not there, and takes the one out that is. */
+/* Puts an entry in where the key is not there, and takes the one out that is. */
 static void come_or_go(uint64_t key) {
-    rcu_entry_t old;
-    struct record *record = new_record(key);
-    must("insert", driver_map_put(rcu_map_insert, key, (uintptr_t)record, &old));
-    if (!old.key) return;
-    free_record(&record->link);
+    uint64_t entry[WORDS], old[WORDS];
+    make_record(key, entry);
+    must("insert", driver_map_put(rcu_map_insert, entry, old, WORDS));
+    if (!old[KEY]) return;
+    free_record(&record_of(entry)->link);
     take_out(key);
 }
 
@@ -140,7 +149,7 @@ static uint64_t count_entries(void) {
 
 static void update_table(void) {
     pthread_t readers[READERS];
-    rcu_map_sizes_t sizes = {.buckets = 8, .nodes = 8 + KEYS + SPARE, .seed = 1};
+    rcu_map_sizes_t sizes = {.buckets = 8, .nodes = 8 + KEYS + SPARE, .seed = 1, .words = WORDS};
     pthread_barrier_init(&start, 0, READERS + 1);
     driver_open_map(&sizes);
     for (uint64_t key = 1; key <= STAY; key++) come_or_go(key);
@@ -170,25 +179,32 @@ static void tell(const char *what, uint32_t fault) { printf("%s: %" PRIu32 "\n",
 static void refuse_sizes(void) {
     rcu_t none = {0};
     static const rcu_map_sizes_t bad[] = {
-        {0, 8, 0}, {8, 7, 0}, {8, UINT64_C(1) << 32, 0}, {UINT64_MAX, UINT64_MAX, 0}};
+        {.buckets = 0, .nodes = 8}, {.buckets = 8, .nodes = 7}, {.buckets = 8, .nodes = 8, .words = 1},
+        {.buckets = 8, .nodes = UINT64_C(1) << 32}, {.buckets = 8, .nodes = 8, .words = UINT64_MAX},
+        {.buckets = UINT64_MAX, .nodes = UINT64_MAX}};
     printf("bad sizes:");
     for (unsigned i = 0; i < sizeof bad / sizeof *bad; i++)
         printf(" %" PRIu32, rcu_open_map(0, 3, &bad[i], &none));
     printf("\n");
-    rcu_map_sizes_t sizes = {8, 8, 0};
+    rcu_map_sizes_t sizes = {.buckets = 8, .nodes = 8};
     tell("no processor", rcu_open_map(0, 3, &sizes, &none));
     tell("a bad last number", rcu_open_map_as(1, 3, rcu_new_identity(), &sizes, &none));
 }
 
-/* What each call returns on these handles, for this key. */
-static void tell_all(const char *handles, rcu_t *engine, rcu_seat_t *seat, uint64_t key) {
-    rcu_entry_t entry;
-    uint64_t cookie;
+/* What each call returns on these handles, for this key and so many words. */
+static void tell_all(const char *handles, rcu_t *engine, rcu_seat_t *seat, uint64_t key,
+                     size_t words) {
+    const uint64_t entry[WORDS] = {key};
+    uint64_t old[WORDS], cookie;
     const uint32_t told[] = {
-        rcu_map_insert(engine, key, 7, &entry), rcu_map_replace(engine, key, 7, &entry),
-        rcu_map_put(engine, key, 7, &entry),    rcu_map_remove(engine, key, &entry),
-        rcu_map_find(engine, key, &entry),      rcu_map_age(engine, &cookie),
-        rcu_map_get(seat, key, &entry),         rcu_map_next(seat, key, &entry)};
+        rcu_map_insert(engine, entry, words, old, words),
+        rcu_map_replace(engine, entry, words, old, words),
+        rcu_map_put(engine, entry, words, old, words),
+        rcu_map_remove(engine, key, old, words),
+        rcu_map_find(engine, key, old, words),
+        rcu_map_age(engine, &cookie),
+        rcu_map_get(seat, key, old, words),
+        rcu_map_next(seat, key, old, words)};
     printf("%s:", handles);
     for (unsigned i = 0; i < sizeof told / sizeof *told; i++) printf(" %" PRIu32, told[i]);
     printf("; entries: %" PRIu64 "\n", rcu_map_len(engine));
@@ -200,50 +216,62 @@ static void pass_grace_periods(rcu_t *engine, uint64_t cookie) {
     while (!rcu_poll(engine, cookie)) must("drive", rcu_drive_for(engine, cookie, &turn));
 }
 
-/* A map with room for two entries. */
+typedef uint32_t (*put_call)(rcu_t *, const uint64_t *, size_t, uint64_t *, size_t);
+
+/* Puts an entry of two words in, and writes the one that had its key to `old`. */
+static uint32_t put_two(put_call call, rcu_t *engine, uint64_t key, uint64_t value, uint64_t *old) {
+    const uint64_t entry[] = {key, value};
+    return call(engine, entry, 2, old, 2);
+}
+
+/* A map with room for two entries, of two words. */
 static void fill(rcu_t *engine, rcu_seat_t *seat) {
-    rcu_entry_t old;
-    uint64_t cookie;
+    uint64_t old[2], cookie;
     uint32_t depth;
-    must("insert", rcu_map_insert(engine, 1, 10, &old));
-    must("insert", rcu_map_insert(engine, 2, 20, &old));
-    tell("full, an insertion", rcu_map_insert(engine, 3, 30, &old));
-    tell("a replacement", rcu_map_replace(engine, 1, 11, &old));
-    tell("either", rcu_map_put(engine, 1, 11, &old));
-    tell("an insertion of a key that is there", rcu_map_insert(engine, 1, 11, &old));
-    printf("it has %" PRIu64 "\n", old.value);
-    tell("a replacement of a key that is not there", rcu_map_replace(engine, 3, 30, &old));
-    must("remove", rcu_map_remove(engine, 2, &old));
-    tell("behind a removal", rcu_map_insert(engine, 3, 30, &old));
+    must("insert", put_two(rcu_map_insert, engine, 1, 10, old));
+    must("insert", put_two(rcu_map_insert, engine, 2, 20, old));
+    tell("full, an insertion", put_two(rcu_map_insert, engine, 3, 30, old));
+    tell("a replacement", put_two(rcu_map_replace, engine, 1, 11, old));
+    tell("either", put_two(rcu_map_put, engine, 1, 11, old));
+    tell("an insertion of a key that is there", put_two(rcu_map_insert, engine, 1, 11, old));
+    printf("it has %" PRIu64 "\n", old[1]);
+    tell("a replacement of a key that is not there", put_two(rcu_map_replace, engine, 3, 30, old));
+    printf("it had the key %" PRIu64 "\n", old[0]);
+    must("remove", rcu_map_remove(engine, 2, old, 2));
+    printf("removed %" PRIu64 "\n", old[1]);
+    tell("behind a removal", put_two(rcu_map_insert, engine, 3, 30, old));
     must("age", rcu_map_age(engine, &cookie));
-    tell("once the node waits", rcu_map_insert(engine, 3, 30, &old));
+    tell("once the node waits", put_two(rcu_map_insert, engine, 3, 30, old));
     pass_grace_periods(engine, cookie);
     must("age", rcu_map_age(engine, &cookie));
-    tell("a grace period later", rcu_map_insert(engine, 3, 30, &old));
-    tell("a look in no section", rcu_map_get(seat, 3, &old));
-    tell("a next one in no section", rcu_map_next(seat, 0, &old));
+    tell("a grace period later", put_two(rcu_map_insert, engine, 3, 30, old));
+    tell("a look in no section", rcu_map_get(seat, 3, old, 2));
+    tell("a next one in no section", rcu_map_next(seat, 0, old, 2));
     must("pin", rcu_seat_pin(seat, &depth));
-    must("get", rcu_map_get(seat, 3, &old));
-    printf("a section finds %" PRIu64 "\n", old.value);
+    must("get", rcu_map_get(seat, 3, old, 2));
+    printf("a section finds %" PRIu64 "\n", old[1]);
+    must("get", rcu_map_get(seat, 2, old, 2));
+    printf("then the key %" PRIu64 ", and %" PRIu64 " stays\n", old[0], old[1]);
     printf("insert, replace, put, remove, find, age, get, next:\n");
-    tell_all("key 0", engine, seat, 0);
+    tell_all("key 0", engine, seat, 0, 2);
+    tell_all("three words", engine, seat, 3, 3);
     must("unpin", rcu_seat_unpin(seat, &depth));
 }
 
 static void refuse_calls(void) {
-    rcu_map_sizes_t sizes = {.buckets = 1, .nodes = 3, .seed = 0};
+    rcu_map_sizes_t sizes = {.buckets = 1, .nodes = 3};
     rcu_t engine = {0}, closed = {0};
     rcu_seat_t seat = {0}, no_seat = {0};
     must("open", rcu_open_map(1, 8, &sizes, &engine));
     must("seat", rcu_seat_open(&engine, 0, &seat));
     must("idle", rcu_seat_idle(&seat));
     fill(&engine, &seat);
-    tell_all("closed", &closed, &no_seat, 3);
-    tell_all("of the other kind", (rcu_t *)&seat, (rcu_seat_t *)&engine, 3);
+    tell_all("closed", &closed, &no_seat, 3, 2);
+    tell_all("of the other kind", (rcu_t *)&seat, (rcu_seat_t *)&engine, 3, 2);
     rcu_seat_close(&seat);
     rcu_close(&engine);
     must("open", rcu_open(1, 8, &engine));
-    tell_all("a map of no entry, a closed seat", &engine, &seat, 3);
+    tell_all("a map of no entry, a closed seat", &engine, &seat, 3, 2);
     rcu_close(&engine);
 }
 

@@ -106,11 +106,10 @@ static void shrink(void) {
 
 /* No call of an open map takes memory. */
 static void use_map(void) {
-    rcu_entry_t old;
-    uint64_t cookie;
+    uint64_t entry[] = {0, 7}, old[2], cookie;
     granted = 0;
-    for (uint64_t key = 1; key <= 4; key++) must("put", rcu_map_put(&rcu, key, 7, &old));
-    must("remove", rcu_map_remove(&rcu, 4, &old));
+    while (++entry[0] <= 4) must("put", rcu_map_put(&rcu, entry, 2, old, 2));
+    must("remove", rcu_map_remove(&rcu, 4, old, 2));
     must("age", rcu_map_age(&rcu, &cookie));
     granted = -1;
     printf("entries: %" PRIu64 "\n", rcu_map_len(&rcu));

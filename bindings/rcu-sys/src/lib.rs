@@ -55,16 +55,6 @@ pub struct rcu_replica_t {
     pub at: *mut u8,
 }
 
-/// An entry of a map. Key 0 stands for no entry.
-#[repr(C)]
-#[derive(Clone, Copy, Debug, Default, PartialEq, Eq)]
-pub struct rcu_entry_t {
-    /// 1 or more.
-    pub key: u64,
-    /// The caller's: a number, or the place of more.
-    pub value: u64,
-}
-
 /// The sizes of the map of an engine.
 #[repr(C)]
 #[derive(Clone, Copy, Debug, Default, PartialEq, Eq)]
@@ -76,6 +66,9 @@ pub struct rcu_map_sizes_t {
     pub nodes: u64,
     /// What decides which bucket a key is in: draw it at random where others choose the keys.
     pub seed: u64,
+    /// How many words an entry has, 2 or more, of which word 0 is its key. 0 stands for 2: a key
+    /// and a value.
+    pub words: u64,
 }
 
 // Why a call is refused.
@@ -127,12 +120,14 @@ pub const RCU_OTHER_ENGINE: u32 = 26;
 pub const RCU_CLOSED: u32 = 27;
 /// The handle is of another kind.
 pub const RCU_OTHER_KIND: u32 = 28;
-/// A map can't have so many buckets and nodes.
+/// A map can't have so many buckets, words an entry and nodes.
 pub const RCU_BAD_SIZES: u32 = 29;
 /// An entry has the key 0.
 pub const RCU_BAD_KEY: u32 = 30;
 /// No node of the map is free.
 pub const RCU_MAP_FULL: u32 = 31;
+/// An entry of the map has another number of words.
+pub const RCU_BAD_WORDS: u32 = 32;
 
 // What a collection found.
 /// No grace period runs.
@@ -223,12 +218,12 @@ extern "C" {
     ///
     /// Faults: 17 for no processor or more than 4,096; 19 where `last` is no such number; 16.
     pub fn rcu_open_as(cpus: u32, last: u64, identity: rcu_identity_t, rcu: *mut rcu_t) -> u32;
-    /// Opens an engine as `rcu_open_as`, with a map of so many buckets and nodes, which is empty.
-    /// Each of its seats reads it. Needs: `rcu` is closed.
+    /// Opens an engine as `rcu_open_as`, with a map of these sizes, which is empty. Each of its
+    /// seats reads it. Needs: `rcu` is closed.
     ///
-    /// Faults: 29 where there is no bucket, fewer nodes than buckets, or more than 2^32 words in
-    /// all, three a node; 17 for no processor or more than 4,096; 19 where `last` is no such
-    /// number; 16.
+    /// Faults: 29 where there is no bucket, an entry has one word, there are fewer nodes than
+    /// buckets, or more than 2^32 words in all, an entry's and one more a node; 17 for no processor
+    /// or more than 4,096; 19 where `last` is no such number; 16.
     pub fn rcu_open_map_as(
         cpus: u32,
         last: u64,
@@ -718,56 +713,85 @@ extern "C" {
     /// no grace period runs. Writes 1 where the caller has to wake who drives, under the lock. Else
     /// 0. It costs a load.
     pub fn rcu_seat_wakes(seat: *mut rcu_seat_t, wakes: *mut u32) -> u32;
-    /// Looks a key up in the open section, and writes its entry, or one of key 0 where it finds
-    /// none. A key that is in the map from the section's beginning on is found, also where its
-    /// entry is replaced meanwhile; what is found was there at some moment of the section. It costs
-    /// two loads for each entry of the key's bucket up to there, and one more.
+    /// Looks a key up in the open section, and writes the words of its entry, or the key 0 where it
+    /// finds none: then the others stay. A key that is in the map from the section's beginning on
+    /// is found, also where its entry is replaced meanwhile; what is found was there at some moment
+    /// of the section. It costs two loads for each entry of the key's bucket up to there, and one
+    /// for each further word.
     ///
     /// Where it finds an entry, what the thread did before that put it in comes before what follows
     /// this call.
     ///
-    /// Fault 5: no section is open.
-    pub fn rcu_map_get(seat: *mut rcu_seat_t, key: u64, entry: *mut rcu_entry_t) -> u32;
-    /// Goes on from a key to the entry behind it, in the open section, and writes that entry, or
-    /// one of key 0 where there is none any more. Behind the key 0 stands the first one. The
+    /// Faults: 5 where no section is open; 32 where an entry has another number of words.
+    pub fn rcu_map_get(seat: *mut rcu_seat_t, key: u64, entry: *mut u64, room: usize) -> u32;
+    /// Goes on from a key to the entry behind it, in the open section, and writes the words of
+    /// that, or the key 0 where there is none any more. Behind the key 0 stands the first one. The
     /// entries are in the order of their buckets, and in each of their keys; the key need not be in
     /// the map. So calls from the key 0 on, each with the key that the one before wrote, write each
     /// key that is in the map as long as the section lasts. It costs two loads for each entry of
-    /// the key's bucket up to there, and one for each bucket with no further entry.
+    /// the key's bucket up to there, one for each bucket with no further entry, and one for each
+    /// further word.
     ///
     /// It orders what `rcu_map_get` orders.
     ///
-    /// Fault 5: no section is open.
-    pub fn rcu_map_next(seat: *mut rcu_seat_t, key: u64, entry: *mut rcu_entry_t) -> u32;
-    /// Puts an entry in, by one store, where none has its key. Writes the entry that has it: then
-    /// nothing else happened. It costs a step for each entry of the key's bucket up to there.
+    /// Faults: 5 where no section is open; 32 where an entry has another number of words.
+    pub fn rcu_map_next(seat: *mut rcu_seat_t, key: u64, entry: *mut u64, room: usize) -> u32;
+    /// Puts an entry of these words in, by one store, where none has its key. Writes the words of
+    /// the one that has it: then nothing else happened. Else it writes the key 0. It costs a step
+    /// for each entry of the key's bucket up to there, and for each word.
     ///
     /// What the thread did before comes before what follows a section's `rcu_map_get` that finds
     /// the entry.
     ///
-    /// Faults: 30 where the key is 0; 31 where no entry has the key, and no node is free.
-    pub fn rcu_map_insert(rcu: *mut rcu_t, key: u64, value: u64, old: *mut rcu_entry_t) -> u32;
+    /// Faults: 32 where an entry has another number of words than `entry` or `old`; 30 where the
+    /// key is 0; 31 where no entry has the key, and no node is free.
+    pub fn rcu_map_insert(
+        rcu: *mut rcu_t,
+        entry: *const u64,
+        length: usize,
+        old: *mut u64,
+        room: usize,
+    ) -> u32;
     /// Puts an entry in the place of the one that has its key, by one store, and writes that: a
-    /// section finds the old one or the new one. Where none has the key, nothing happens. Costs and
-    /// orders as `rcu_map_insert`.
+    /// section finds the old one or the new one. Where none has the key, it writes the key 0, and
+    /// nothing else happens. Costs and orders as `rcu_map_insert`.
     ///
-    /// The old value may be freed when a full grace period has passed, as by `rcu_queue` or
-    /// `rcu_defer_link`.
+    /// What words of the old entry lead to may be freed when a full grace period has passed, as by
+    /// `rcu_queue` or `rcu_defer_link`.
     ///
-    /// Faults: 30 where the key is 0; 31 where an entry has the key, and no node is free.
-    pub fn rcu_map_replace(rcu: *mut rcu_t, key: u64, value: u64, old: *mut rcu_entry_t) -> u32;
+    /// Faults: 32 as of `rcu_map_insert`; 30 where the key is 0; 31 where an entry has the key, and
+    /// no node is free.
+    pub fn rcu_map_replace(
+        rcu: *mut rcu_t,
+        entry: *const u64,
+        length: usize,
+        old: *mut u64,
+        room: usize,
+    ) -> u32;
     /// Puts an entry in, by one store, in the place of the one that has its key, as
-    /// `rcu_map_replace`, or where none has it, as `rcu_map_insert`. Writes the one that had it.
+    /// `rcu_map_replace`, or where none has it, as `rcu_map_insert`. Writes the one that had it, or
+    /// the key 0.
     ///
-    /// Faults: 30 where the key is 0; 31 where no node is free.
-    pub fn rcu_map_put(rcu: *mut rcu_t, key: u64, value: u64, old: *mut rcu_entry_t) -> u32;
-    /// Takes the entry of a key out, by one store, and writes it. Its node is free again once a
-    /// call of `rcu_map_age` has found it removed, and a later one a full grace period gone by
-    /// since. The value may be freed when a full grace period has passed.
-    pub fn rcu_map_remove(rcu: *mut rcu_t, key: u64, old: *mut rcu_entry_t) -> u32;
-    /// Writes the entry of a key as it is now: under the lock no change is missed, as it may be by
-    /// a section.
-    pub fn rcu_map_find(rcu: *mut rcu_t, key: u64, entry: *mut rcu_entry_t) -> u32;
+    /// Faults: 32 as of `rcu_map_insert`; 30 where the key is 0; 31 where no node is free.
+    pub fn rcu_map_put(
+        rcu: *mut rcu_t,
+        entry: *const u64,
+        length: usize,
+        old: *mut u64,
+        room: usize,
+    ) -> u32;
+    /// Takes the entry of a key out, by one store, and writes its words, or the key 0 where there
+    /// is none. Its node is free again once a call of `rcu_map_age` has found it removed, and a
+    /// later one a full grace period gone by since. What its words lead to may be freed when a full
+    /// grace period has passed.
+    ///
+    /// Fault 32: an entry has another number of words.
+    pub fn rcu_map_remove(rcu: *mut rcu_t, key: u64, old: *mut u64, room: usize) -> u32;
+    /// Writes the words of the entry of a key as it is now, or the key 0: under the lock no change
+    /// is missed, as it may be by a section.
+    ///
+    /// Fault 32: an entry has another number of words.
+    pub fn rcu_map_find(rcu: *mut rcu_t, key: u64, entry: *mut u64, room: usize) -> u32;
     /// How many entries the map has. 0 where `rcu` is no open engine's.
     pub fn rcu_map_len(rcu: *mut rcu_t) -> u64;
     /// Looks at the number: the nodes of entries that were replaced or removed wait from now on for

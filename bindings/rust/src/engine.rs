@@ -5,7 +5,7 @@ use crate::error::Error;
 use crate::inner::Inner;
 use crate::map::{Map, MapSizes};
 use crate::reader::Reader;
-use crate::words::{Key, Word};
+use crate::words::{Key, Value, Words};
 use std::fmt;
 use std::sync::Arc;
 
@@ -55,8 +55,7 @@ impl Engine {
     /// An engine as [`Engine::new`], with a map, which its readers read without a lock.
     ///
     /// # Errors
-    /// Those too, and [`Error::BadSizes`] for a map of no bucket, or of more than 2^32 / 3 buckets
-    /// and entries.
+    /// Those too, and [`Error::BadSizes`].
     ///
     /// ```
     /// use rcu::{Engine, MapSizes};
@@ -70,20 +69,20 @@ impl Engine {
     /// # Ok(())
     /// # }
     /// ```
-    pub fn with_map<K: Key, V: Word>(
+    pub fn with_map<K: Key, V: Value>(
         readers: u32,
         sizes: MapSizes,
     ) -> Result<(Engine, Map<K, V>), Error> {
-        let engine = Engine::open(readers, Some(sizes))?;
+        let engine = Engine::open(readers, Some((sizes, V::Words::COUNT)))?;
         let map = Map::of(&engine.inner);
         Ok((engine, map))
     }
 
-    fn open(readers: u32, sizes: Option<MapSizes>) -> Result<Engine, Error> {
+    fn open(readers: u32, map: Option<(MapSizes, usize)>) -> Result<Engine, Error> {
         if !(1..4096).contains(&readers) {
             return Err(Error::BadCount);
         }
-        let inner = Arc::new(Inner::open(readers, sizes)?);
+        let inner = Arc::new(Inner::open(readers, map)?);
         Ok(Engine { inner })
     }
 

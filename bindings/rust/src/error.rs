@@ -22,7 +22,8 @@ pub enum Error {
     BadCount,
     /// As many readers are there as the engine was made for.
     AllTaken,
-    /// A map has a bucket, and 2^32 / 3 buckets and entries at most.
+    /// A map has a bucket, and 2^32 words at most: for each bucket and entry those of a value, and
+    /// two more.
     BadSizes,
 }
 
@@ -48,7 +49,7 @@ impl fmt::Display for Error {
             Error::NoMemory => "out of memory",
             Error::BadCount => "an engine has 1 to 4,095 readers",
             Error::AllTaken => "as many readers are there as the engine was made for",
-            Error::BadSizes => "a map can't have so many buckets and entries",
+            Error::BadSizes => "a map can't have so many buckets, entries and words a value",
         })
     }
 }

@@ -33,10 +33,14 @@
 use crate::error::{Error, Full};
 use crate::map::MapSizes;
 use crate::raw;
+use crate::words::Words;
 use std::cell::{Cell, UnsafeCell};
 use std::fmt;
 use std::num::NonZeroU64;
-use std::ptr::null_mut;
+use std::ptr::{self, null_mut};
+
+/// What a call that puts an entry into a map returns: the value of the one that had its key.
+pub type Put<W> = Result<Option<W>, Full>;
 
 /// No grace period begins at this number, which none reaches.
 const LAST: u64 = 1 << 62;
@@ -72,19 +76,37 @@ fn must(call: &str, fault: u32) {
     }
 }
 
-/// The value of the entry that a call wrote, where it wrote one.
-fn value_of(entry: raw::rcu_entry_t) -> Option<u64> {
-    (entry.key > 0).then_some(entry.value)
+/// The words of an entry, one behind another: its key, and those of its value.
+#[repr(C)]
+struct Entry<W> {
+    key: u64,
+    value: W,
 }
 
-/// What a call that puts an entry into a map returned and wrote.
-fn put_by(call: &str, fault: u32, old: raw::rcu_entry_t) -> Result<Option<u64>, Full> {
-    if fault == raw::RCU_MAP_FULL {
-        return Err(Full);
+impl<W: Words> Entry<W> {
+    const LENGTH: usize = 1 + W::COUNT;
+
+    /// Room for one that a call writes.
+    const NONE: Entry<W> = Entry {
+        key: 0,
+        value: W::ZEROS,
+    };
+
+    /// Where its words are. They are as many as `LENGTH`: `W` is an array of `u64`.
+    #[inline]
+    fn words(&mut self) -> *mut u64 {
+        ptr::from_mut(self).cast()
     }
-    must(call, fault);
-    Ok(value_of(old))
+
+    /// The value, where a call wrote an entry.
+    #[inline]
+    fn value(self) -> Option<W> {
+        (self.key > 0).then_some(self.value)
+    }
 }
+
+/// A call of C that puts an entry into a map.
+type PutCall = unsafe extern "C" fn(*mut raw::rcu_t, *const u64, usize, *mut u64, usize) -> u32;
 
 // SAFETY of the calls here and below: as the head of the file says.
 impl EngineHandle {
@@ -101,18 +123,18 @@ impl EngineHandle {
         }
     }
 
-    /// An engine as [`EngineHandle::open`], with a map, which is empty. (One that is opened with
-    /// none has room for no entry.)
+    /// An engine as [`EngineHandle::open`], with a map, which is empty. Each value has so
+    /// many words. (An engine that is opened with no map has one with room for no entry.)
     ///
     /// # Errors
-    /// Those too, and [`Error::BadSizes`] where there is no bucket, or more than 2^32 / 3 buckets
-    /// and entries.
-    pub fn open_map(cpus: u32, sizes: MapSizes) -> Result<EngineHandle, Error> {
+    /// Those too, and [`Error::BadSizes`].
+    pub fn open_map(cpus: u32, sizes: MapSizes, words: usize) -> Result<EngineHandle, Error> {
         let nodes = sizes.buckets.checked_add(sizes.entries);
         let sizes = raw::rcu_map_sizes_t {
             buckets: sizes.buckets as u64,
             nodes: nodes.ok_or(Error::BadSizes)? as u64,
             seed: sizes.seed,
+            words: words as u64 + 1,
         };
         let mut raw = raw::rcu_t { at: null_mut() };
         match unsafe { raw::rcu_open_map(cpus, LAST, &sizes, &mut raw) } {
@@ -230,15 +252,33 @@ impl EngineHandle {
         &room[..count as usize]
     }
 
+    /// Puts an entry into the map, and returns the value of the one that had its key.
+    fn map_put_by<W: Words>(&mut self, call: PutCall, key: NonZeroU64, value: W) -> Put<W> {
+        let (mut old, mut entry) = (
+            Entry::NONE,
+            Entry {
+                key: key.get(),
+                value,
+            },
+        );
+        let (length, room) = (Entry::<W>::LENGTH, Entry::<W>::LENGTH);
+        match unsafe { call(&mut self.0, entry.words(), length, old.words(), room) } {
+            raw::RCU_MAP_FULL => Err(Full),
+            fault => {
+                must("put", fault);
+                Ok(old.value())
+            }
+        }
+    }
+
     /// Puts an entry into the map where none has its key. Returns the value of the one that has it:
-    /// then nothing else happened.
+    /// then nothing else happened. Its value has as many words as those that the map was opened
+    /// for. So too below.
     ///
     /// # Errors
     /// [`Full`] where no node is free. So too below.
-    pub fn map_insert(&mut self, key: NonZeroU64, value: u64) -> Result<Option<u64>, Full> {
-        let mut old = raw::rcu_entry_t::default();
-        let fault = unsafe { raw::rcu_map_insert(&mut self.0, key.get(), value, &mut old) };
-        put_by("insert", fault, old)
+    pub fn map_insert<W: Words>(&mut self, key: NonZeroU64, value: W) -> Put<W> {
+        self.map_put_by(raw::rcu_map_insert, key, value)
     }
 
     /// Puts an entry in the place of the one that has its key, and returns the value of that. Where
@@ -246,10 +286,8 @@ impl EngineHandle {
     ///
     /// # Errors
     /// [`Full`].
-    pub fn map_replace(&mut self, key: NonZeroU64, value: u64) -> Result<Option<u64>, Full> {
-        let mut old = raw::rcu_entry_t::default();
-        let fault = unsafe { raw::rcu_map_replace(&mut self.0, key.get(), value, &mut old) };
-        put_by("replace", fault, old)
+    pub fn map_replace<W: Words>(&mut self, key: NonZeroU64, value: W) -> Put<W> {
+        self.map_put_by(raw::rcu_map_replace, key, value)
     }
 
     /// Puts an entry in, in the place of the one that has its key where there is one. Returns the
@@ -257,29 +295,27 @@ impl EngineHandle {
     ///
     /// # Errors
     /// [`Full`].
-    pub fn map_put(&mut self, key: NonZeroU64, value: u64) -> Result<Option<u64>, Full> {
-        let mut old = raw::rcu_entry_t::default();
-        let fault = unsafe { raw::rcu_map_put(&mut self.0, key.get(), value, &mut old) };
-        put_by("put", fault, old)
+    pub fn map_put<W: Words>(&mut self, key: NonZeroU64, value: W) -> Put<W> {
+        self.map_put_by(raw::rcu_map_put, key, value)
     }
 
     /// Takes the entry of a key out. Returns its value. Its node is free at the first
     /// [`EngineHandle::map_age`] where the cookie of an earlier one is done.
-    pub fn map_remove(&mut self, key: NonZeroU64) -> Option<u64> {
-        let mut old = raw::rcu_entry_t::default();
+    pub fn map_remove<W: Words>(&mut self, key: NonZeroU64) -> Option<W> {
+        let (mut old, room) = (Entry::NONE, Entry::<W>::LENGTH);
         must("remove", unsafe {
-            raw::rcu_map_remove(&mut self.0, key.get(), &mut old)
+            raw::rcu_map_remove(&mut self.0, key.get(), old.words(), room)
         });
-        value_of(old)
+        old.value()
     }
 
     /// The value of a key, as it is now.
-    pub fn map_find(&mut self, key: NonZeroU64) -> Option<u64> {
-        let mut entry = raw::rcu_entry_t::default();
+    pub fn map_find<W: Words>(&mut self, key: NonZeroU64) -> Option<W> {
+        let (mut entry, room) = (Entry::NONE, Entry::<W>::LENGTH);
         must("find", unsafe {
-            raw::rcu_map_find(&mut self.0, key.get(), &mut entry)
+            raw::rcu_map_find(&mut self.0, key.get(), entry.words(), room)
         });
-        value_of(entry)
+        entry.value()
     }
 
     /// How many entries the map has.
@@ -394,21 +430,21 @@ impl SeatHandle {
 
     /// The value of a key in the map, as the open section finds it.
     #[inline]
-    pub fn map_get(&self, key: NonZeroU64) -> Option<u64> {
-        let mut entry = raw::rcu_entry_t::default();
+    pub fn map_get<W: Words>(&self, key: NonZeroU64) -> Option<W> {
+        let (mut entry, room) = (Entry::NONE, Entry::<W>::LENGTH);
         must("get", unsafe {
-            raw::rcu_map_get(self.raw.get(), key.get(), &mut entry)
+            raw::rcu_map_get(self.raw.get(), key.get(), entry.words(), room)
         });
-        value_of(entry)
+        entry.value()
     }
 
     /// The entry behind a key in the map's order, as the open section finds it: its key and its
     /// value. 0 stands before the first one.
     #[inline]
-    pub fn map_next(&self, key: u64) -> Option<(NonZeroU64, u64)> {
-        let mut entry = raw::rcu_entry_t::default();
+    pub fn map_next<W: Words>(&self, key: u64) -> Option<(NonZeroU64, W)> {
+        let (mut entry, room) = (Entry::NONE, Entry::<W>::LENGTH);
         must("next", unsafe {
-            raw::rcu_map_next(self.raw.get(), key, &mut entry)
+            raw::rcu_map_next(self.raw.get(), key, entry.words(), room)
         });
         NonZeroU64::new(entry.key).map(|it| (it, entry.value))
     }

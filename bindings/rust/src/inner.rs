@@ -1,9 +1,10 @@
 //! The engine under its lock, and how its grace periods are made.
 
 use crate::deferred::{is_performing, Deferred, Queue};
-use crate::error::{Error, Full};
-use crate::handles::{EngineHandle, SeatHandle};
+use crate::error::Error;
+use crate::handles::{EngineHandle, Put, SeatHandle};
 use crate::map::MapSizes;
+use crate::words::Words;
 use std::num::NonZeroU64;
 use std::sync::atomic::{AtomicU64, Ordering::Relaxed};
 use std::sync::{Condvar, Mutex, MutexGuard};
@@ -20,8 +21,8 @@ const MOST: usize = 64;
 /// No code of a caller's runs under the lock.
 const PANICKED: &str = "a thread panicked under the engine's lock";
 
-/// How an entry is put into the map. What had its key is returned.
-pub(crate) type Put = fn(&mut EngineHandle, NonZeroU64, u64) -> Result<Option<u64>, Full>;
+/// How an entry is put into the map.
+pub(crate) type PutCall<W> = fn(&mut EngineHandle, NonZeroU64, W) -> Put<W>;
 
 /// What lies under the lock.
 pub(crate) struct Locked {
@@ -86,11 +87,12 @@ impl Locked {
 }
 
 impl Inner {
-    pub(crate) fn open(readers: u32, sizes: Option<MapSizes>) -> Result<Inner, Error> {
+    /// An engine, with a map of these sizes, whose values have so many words.
+    pub(crate) fn open(readers: u32, map: Option<(MapSizes, usize)>) -> Result<Inner, Error> {
         static IDS: AtomicU64 = AtomicU64::new(0);
         let cpus = readers + 1;
-        let mut rcu = match sizes {
-            Some(sizes) => EngineHandle::open_map(cpus, sizes)?,
+        let mut rcu = match map {
+            Some((sizes, words)) => EngineHandle::open_map(cpus, sizes, words)?,
             None => EngineHandle::open(cpus)?,
         };
         let boot = rcu.seat(0)?;
@@ -99,7 +101,7 @@ impl Inner {
         let free = free.collect::<Result<Vec<_>, _>>()?;
         Ok(Inner {
             id: IDS.fetch_add(1, Relaxed),
-            entries: sizes.map_or(0, |it| it.entries),
+            entries: map.map_or(0, |(sizes, _)| sizes.entries),
             locked: Mutex::new(Locked {
                 rcu,
                 _boot: boot,
@@ -223,7 +225,7 @@ impl Inner {
     }
 
     /// Puts an entry into the map. Where no node is free, but one will be, it waits for that.
-    pub(crate) fn put(&self, put: Put, key: NonZeroU64, value: u64) -> Result<Option<u64>, Full> {
+    pub(crate) fn put<W: Words>(&self, put: PutCall<W>, key: NonZeroU64, value: W) -> Put<W> {
         let mut locked = self.lock();
         loop {
             let cookie = locked.rcu.map_age();
@@ -237,12 +239,7 @@ impl Inner {
 
     /// Puts an entry into the map. Where no node is free it goes on with the grace periods, and
     /// waits for none.
-    pub(crate) fn try_put(
-        &self,
-        put: Put,
-        key: NonZeroU64,
-        value: u64,
-    ) -> Result<Option<u64>, Full> {
+    pub(crate) fn try_put<W: Words>(&self, put: PutCall<W>, key: NonZeroU64, value: W) -> Put<W> {
         let mut locked = self.lock();
         let cookie = locked.rcu.map_age();
         let done = put(&mut locked.rcu, key, value);

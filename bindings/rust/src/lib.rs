@@ -68,4 +68,4 @@ pub use map::{Entries, Map, MapSizes};
 pub use rcu_sys as raw;
 pub use reader::{Guard, Reader};
 pub use shared::Shared;
-pub use words::{Key, Word};
+pub use words::{Key, Value, Word, Words};

@@ -2,9 +2,9 @@
 
 use crate::error::Full;
 use crate::handles::{EngineHandle, SeatHandle};
-use crate::inner::{Inner, Put};
+use crate::inner::{Inner, PutCall};
 use crate::reader::Guard;
-use crate::words::{Key, Word};
+use crate::words::{Key, Value};
 use std::fmt;
 use std::iter::FusedIterator;
 use std::marker::PhantomData;
@@ -26,7 +26,7 @@ pub struct MapSizes {
 /// without a lock, and see each entry as it was before an update or as it is after it. Clones are
 /// the same map; each keeps the engine.
 ///
-/// Keys and values are words: numbers, say, or indices of more.
+/// A key is a word, a number say, and a value is one or several ([`Key`], [`Value`]).
 ///
 /// Updates take the engine's lock for a moment. An entry that is put in, or replaces another one,
 /// needs free room. Where none is free, but some will be, [`Map::insert`], [`Map::replace`] and
@@ -69,7 +69,7 @@ pub struct Entries<'a, K, V> {
     kinds: PhantomData<fn() -> (K, V)>,
 }
 
-impl<K: Key, V: Word> Map<K, V> {
+impl<K: Key, V: Value> Map<K, V> {
     /// The only one of this engine, and its clones: so each word in it is of these types.
     pub(crate) fn of(inner: &Arc<Inner>) -> Map<K, V> {
         Map {
@@ -111,7 +111,7 @@ impl<K: Key, V: Word> Map<K, V> {
     #[inline]
     #[must_use]
     pub fn get(&self, guard: &Guard<'_>, key: K) -> Option<V> {
-        self.seat(guard).map_get(key.to_key()).map(V::of_word)
+        self.seat(guard).map_get(key.to_key()).map(V::of_words)
     }
 
     /// The entries, in an order that hangs on the seed, each key once at most. A key that is in the
@@ -157,14 +157,14 @@ impl<K: Key, V: Word> Map<K, V> {
 
     /// No code of a caller's runs under the lock: what a key and a value are as words is asked
     /// before.
-    fn put_by(&self, put: Put, key: K, value: V) -> Result<Option<V>, Full> {
-        let old = self.inner.put(put, key.to_key(), value.to_word())?;
-        Ok(old.map(V::of_word))
+    fn put_by(&self, put: PutCall<V::Words>, key: K, value: V) -> Result<Option<V>, Full> {
+        let old = self.inner.put(put, key.to_key(), value.to_words())?;
+        Ok(old.map(V::of_words))
     }
 
-    fn try_put_by(&self, put: Put, key: K, value: V) -> Result<Option<V>, Full> {
-        let old = self.inner.try_put(put, key.to_key(), value.to_word())?;
-        Ok(old.map(V::of_word))
+    fn try_put_by(&self, put: PutCall<V::Words>, key: K, value: V) -> Result<Option<V>, Full> {
+        let old = self.inner.try_put(put, key.to_key(), value.to_words())?;
+        Ok(old.map(V::of_words))
     }
 
     /// Puts an entry in where none has its key. Else returns the value that the key has: then
@@ -255,7 +255,7 @@ impl<K: Key, V: Word> Map<K, V> {
     pub fn remove(&self, key: K) -> Option<V> {
         let key = key.to_key();
         let old = self.inner.lock().rcu.map_remove(key);
-        old.map(V::of_word)
+        old.map(V::of_words)
     }
 
     /// The value of a key as it is now, under the lock: no update is missed.
@@ -263,7 +263,7 @@ impl<K: Key, V: Word> Map<K, V> {
     pub fn find(&self, key: K) -> Option<V> {
         let key = key.to_key();
         let found = self.inner.lock().rcu.map_find(key);
-        found.map(V::of_word)
+        found.map(V::of_words)
     }
 
     /// How many entries there are.
@@ -288,18 +288,18 @@ impl<K, V> Clone for Map<K, V> {
     }
 }
 
-impl<K: Key, V: Word> Iterator for Entries<'_, K, V> {
+impl<K: Key, V: Value> Iterator for Entries<'_, K, V> {
     type Item = (K, V);
 
     #[inline]
     fn next(&mut self) -> Option<(K, V)> {
         let next = self.seat.map_next(self.last?);
         self.last = next.map(|(key, _)| key.get());
-        next.map(|(key, value)| (K::of_key(key), V::of_word(value)))
+        next.map(|(key, value)| (K::of_key(key), V::of_words(value)))
     }
 }
 
-impl<K: Key, V: Word> FusedIterator for Entries<'_, K, V> {}
+impl<K: Key, V: Value> FusedIterator for Entries<'_, K, V> {}
 
 impl<K, V> fmt::Debug for Map<K, V> {
     fn fmt(&self, to: &mut fmt::Formatter<'_>) -> fmt::Result {

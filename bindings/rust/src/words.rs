@@ -2,32 +2,72 @@
 
 use std::num::NonZeroU64;
 
-/// A value of a map: it is one word.
+/// A value of a map: it is one word, or several, which a section never sees mixed with those of
+/// another value. Tuples and arrays of [`Word`]s are such values, and each `Word` is one.
 ///
 /// ```
-/// use rcu::{Engine, MapSizes, Word};
+/// use rcu::{Engine, MapSizes, Value};
 ///
 /// #[derive(Clone, Copy, Debug, PartialEq)]
-/// struct Point(i32, i32);
+/// struct Route {
+///     port: u32,
+///     metric: u32,
+///     bytes: u64,
+/// }
 ///
-/// impl Word for Point {
-///     fn to_word(self) -> u64 {
-///         u64::from(self.0 as u32) << 32 | u64::from(self.1 as u32)
+/// impl Value for Route {
+///     type Words = [u64; 2];
+///
+///     fn to_words(self) -> [u64; 2] {
+///         [u64::from(self.port) << 32 | u64::from(self.metric), self.bytes]
 ///     }
 ///
-///     fn of_word(word: u64) -> Point {
-///         Point((word >> 32) as i32, word as i32)
+///     fn of_words([first, bytes]: [u64; 2]) -> Route {
+///         Route { port: (first >> 32) as u32, metric: first as u32, bytes }
 ///     }
 /// }
 ///
 /// # fn main() -> Result<(), Box<dyn std::error::Error>> {
 /// let sizes = MapSizes { buckets: 1, entries: 1, seed: 0 };
-/// let (_, map) = Engine::with_map::<char, Point>(1, sizes)?;
-/// map.insert('a', Point(-1, 2))?;
-/// assert_eq!(map.find('a'), Some(Point(-1, 2)));
+/// let (_, map) = Engine::with_map::<char, Route>(1, sizes)?;
+/// let route = Route { port: 80, metric: 1, bytes: 1 << 40 };
+/// map.insert('a', route)?;
+/// assert_eq!(map.find('a'), Some(route));
 /// # Ok(())
 /// # }
 /// ```
+pub trait Value: Copy {
+    /// Its words: `[u64; N]`, of one or more.
+    type Words: Words;
+
+    /// The words of the value.
+    fn to_words(self) -> Self::Words;
+
+    /// The value of words that [`Value::to_words`] gave.
+    fn of_words(words: Self::Words) -> Self;
+}
+
+/// So many words: `[u64; N]`, and nothing else.
+pub trait Words: Copy + own::Sealed {
+    /// How many they are.
+    const COUNT: usize;
+
+    /// As many zeros.
+    const ZEROS: Self;
+}
+
+mod own {
+    pub trait Sealed {}
+}
+
+impl<const N: usize> own::Sealed for [u64; N] {}
+
+impl<const N: usize> Words for [u64; N] {
+    const COUNT: usize = N;
+    const ZEROS: [u64; N] = [0; N];
+}
+
+/// A value of one word.
 pub trait Word: Copy {
     /// The word of the value.
     fn to_word(self) -> u64;
@@ -44,6 +84,56 @@ pub trait Key: Copy {
     /// The key of a word that [`Key::to_key`] gave.
     fn of_key(word: NonZeroU64) -> Self;
 }
+
+impl<T: Word> Value for T {
+    type Words = [u64; 1];
+
+    #[inline]
+    fn to_words(self) -> [u64; 1] {
+        [self.to_word()]
+    }
+
+    #[inline]
+    fn of_words([word]: [u64; 1]) -> T {
+        T::of_word(word)
+    }
+}
+
+impl<T: Word, const N: usize> Value for [T; N] {
+    type Words = [u64; N];
+
+    #[inline]
+    fn to_words(self) -> [u64; N] {
+        self.map(T::to_word)
+    }
+
+    #[inline]
+    fn of_words(words: [u64; N]) -> [T; N] {
+        words.map(T::of_word)
+    }
+}
+
+macro_rules! values_of_tuples {
+    ($($count:literal: $($part:ident)*;)*) => { $(
+        #[allow(non_snake_case)] // a part has the name of its type
+        impl<$($part: Word),*> Value for ($($part),*) {
+            type Words = [u64; $count];
+
+            #[inline]
+            fn to_words(self) -> [u64; $count] {
+                let ($($part),*) = self;
+                [$($part.to_word()),*]
+            }
+
+            #[inline]
+            fn of_words([$($part),*]: [u64; $count]) -> Self {
+                ($($part::of_word($part)),*)
+            }
+        }
+    )* };
+}
+
+values_of_tuples!(2: A B; 3: A B C; 4: A B C D; 5: A B C D E; 6: A B C D E F;);
 
 macro_rules! words_of_integers {
     ($($kind:ty)*) => { $(

@@ -1,7 +1,7 @@
 //! The map of an engine: threads that read and update it, one that is full, and all that it answers
 //! beside a map of std's.
 
-use rcu::{Engine, Error, Full, Key, Map, MapSizes, Word};
+use rcu::{Engine, Error, Full, Key, Map, MapSizes, Value, Word};
 use std::collections::HashMap;
 use std::fmt::Debug;
 use std::num::NonZeroU64;
@@ -41,18 +41,36 @@ fn panics<T>(call: impl FnOnce() -> T) -> bool {
     catch_unwind(AssertUnwindSafe(call)).is_err()
 }
 
+/// A value that knows whether its words belong together.
+#[derive(Clone, Copy, Debug, PartialEq)]
+struct Whole(u64);
+
+impl Value for Whole {
+    type Words = [u64; 4];
+
+    fn to_words(self) -> [u64; 4] {
+        [self.0, !self.0, 3 * self.0, self.0.rotate_left(7)]
+    }
+
+    fn of_words(words: [u64; 4]) -> Whole {
+        let value = Whole(words[0]);
+        assert_eq!(value.to_words(), words);
+        value
+    }
+}
+
 #[test]
-fn a_key_that_stays_is_found_and_listed_while_others_come_and_go() {
+fn a_key_that_stays_is_found_and_listed_whole_while_others_come_and_go() {
     const READERS: u32 = 3;
     const STAY: u32 = 16;
     const KEYS: u32 = 48;
     const ROUNDS: u64 = 2000;
-    let (engine, map) = Engine::with_map::<u32, u64>(READERS, sizes(8, 56)).unwrap();
+    let (engine, map) = Engine::with_map::<u32, Whole>(READERS, sizes(8, 56)).unwrap();
     for key in 0..STAY {
-        map.insert(key, u64::from(key)).unwrap();
+        map.insert(key, Whole(u64::from(key))).unwrap();
     }
     // A key's values go up, in steps of KEYS.
-    let is_of = |key: u32, value: u64| value % u64::from(KEYS) == u64::from(key);
+    let is_of = |key: u32, value: Whole| value.0 % u64::from(KEYS) == u64::from(key);
     let (over, begun) = (AtomicBool::new(false), Barrier::new(READERS as usize + 2));
     thread::scope(|scope| {
         for _ in 0..READERS {
@@ -64,8 +82,8 @@ fn a_key_that_stays_is_found_and_listed_while_others_come_and_go() {
                     reader.read(|guard| {
                         for key in 0..STAY {
                             let value = map.get(guard, key).expect("the key stays");
-                            assert!(is_of(key, value) && value >= last[key as usize]);
-                            last[key as usize] = value;
+                            assert!(is_of(key, value) && value.0 >= last[key as usize]);
+                            last[key as usize] = value.0;
                         }
                     });
                     reader.read(|guard| {
@@ -87,7 +105,7 @@ fn a_key_that_stays_is_found_and_listed_while_others_come_and_go() {
                 scope.spawn(move || {
                     begun.wait();
                     for round in 1..=ROUNDS {
-                        let value = |key: u32| round * u64::from(KEYS) + u64::from(key);
+                        let value = |key: u32| Whole(round * u64::from(KEYS) + u64::from(key));
                         let stays = 2 * (round as u32 % (STAY / 2)) + me;
                         assert!(map.replace(stays, value(stays)).unwrap().is_some());
                         let comes = STAY + 2 * (round as u32 * 5 % ((KEYS - STAY) / 2)) + me;
@@ -274,6 +292,10 @@ fn sizes_that_no_map_has_are_refused() {
     }
     assert_eq!(open(0, sizes(1, 1)), Some(Error::BadCount));
     assert_eq!(open(4096, sizes(1, 1)), Some(Error::BadCount));
+    let most = |entries| Engine::with_map::<u8, [u64; 1000]>(1, sizes(1, entries)).err();
+    assert_eq!(most((1 << 32) / 1002), Some(Error::BadSizes));
+    let none = Engine::with_map::<u8, [u64; 0]>(1, sizes(1, 1)).err();
+    assert_eq!(none, Some(Error::BadSizes));
     let (engine, map) = Engine::with_map::<u8, u8>(1, sizes(1, 0)).unwrap();
     assert_eq!((map.put(1, 1), map.try_put(1, 1)), (Err(Full), Err(Full)));
     assert_eq!((map.remove(1), map.len()), (None, 0));
@@ -285,7 +307,7 @@ fn sizes_that_no_map_has_are_refused() {
 fn keeps<K, V>(keys: &[K], values: &[V])
 where
     K: Key + Debug + PartialEq,
-    V: Word + Debug + PartialEq,
+    V: Value + Debug + PartialEq,
 {
     let (engine, map) = Engine::with_map(1, sizes(4, keys.len() + 1)).unwrap();
     for &value in values {
@@ -321,6 +343,19 @@ fn keys_and_values_come_out_as_they_went_in() {
     keeps(&[7u8], &[0, usize::MAX]);
     keeps(&[7u8], &[isize::MIN, -1, isize::MAX]);
     keeps(&[7u8], &[true, false]);
+    keeps(&[7u8], &[(1u8, -2i64), (0, i64::MAX)]);
+    keeps(&[7u8, 8], &[('a', 2u8, true), ('b', 3, false)]);
+    keeps(&[7u8, 8], &[(1u8, 2u16, 3u32, 4u64), (5, 6, 7, u64::MAX)]);
+    keeps(
+        &[7u8, 8],
+        &[(1u8, 2u16, 3u32, 4u64, 5i8), (6, 7, 8, 9, -10)],
+    );
+    keeps(
+        &[7u8],
+        &[(1u8, 2u16, 3u32, 4u64, 5i8, 'f'), (6, 7, 8, 9, -10, 'g')],
+    );
+    keeps(&[7u8, 8], &[[1u32], [u32::MAX]]);
+    keeps(&[7u8, 8], &[[u64::MAX; 20], [7; 20]]);
 }
 
 /// A key and a value that panic as they are told.

@@ -9,4 +9,5 @@ pub mod MapLaws
 pub mod Opened
 pub mod Openings
 pub mod Popped
+pub mod Told
 pub mod WrittenBack

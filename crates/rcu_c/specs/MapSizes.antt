@@ -1,5 +1,6 @@
 -- The sizes of the map of an engine of C's.
-use Rattle.std.specs.Prelude.{ℕ, ◌*◌, ◌^◌, ◌&&◌, Bool, nat_le, nat_lt, if◌then◌else◌, Option, Some}
+use Rattle.std.specs.Prelude.{ℕ, ◌+◌, ◌*◌, ◌^◌, ◌==◌, ◌&&◌, Bool, nat_le, nat_lt, if◌then◌else◌}
+use Rattle.std.specs.Prelude.{Option, Some}
 use Rattle.rcu_geometry.specs.Opening.{opening_refusal}
 use Rattle.rcu_seq.specs.Numbers.{Number}
 use Rattle.rcu_graph.specs.declared.plan.Plan.{Plan}
@@ -9,18 +10,24 @@ use Rattle.rcu_c.specs.declared.map_sizes.MapSizes.{MapSizes}
 use Rattle.rcu_c.specs.declared.refusal.Refusal.{Refusal}
 use Rattle.rcu_c.specs.declared.refusal.Refusal.TheVariants.{BadSizes}
 
--- whether a map may have these sizes: there is a bucket, there is a node for each, and the words of
--- all nodes, three each, are no more than 2^32
-abbrev pub are_sizes : MapSizes → Bool
-are_sizes s = nat_lt 0 s.buckets && (nat_le s.buckets s.nodes && nat_le (3 * s.nodes) (2 ^ 32))
+-- how many words an entry has: 0 stands for 2, a key and a value
+abbrev pub width_in : MapSizes → ℕ
+width_in s = if s.words == 0 then 2 else s.words
 
--- the plan of a map of these sizes, whose entries have two words
+-- whether a map may have these sizes: there is a bucket, an entry has two words or more, there is a
+-- node for each bucket, and the words of all nodes, with a link each, are no more than 2^32
+abbrev pub are_sizes : MapSizes → Bool
+are_sizes s =
+    nat_lt 0 s.buckets && (nat_le 2 (width_in s) && (nat_le s.buckets s.nodes
+    && nat_le ((1 + width_in s) * s.nodes) (2 ^ 32)))
+
+-- the plan of a map of these sizes
 abbrev pub plan_of_sizes : MapSizes → Plan
-plan_of_sizes s = plan_of_map s.buckets 2 s.nodes s.seed
+plan_of_sizes s = plan_of_map s.buckets (width_in s) s.nodes s.seed
 
 -- those of the least map, which has no room for an entry
 abbrev pub least_sizes : MapSizes
-least_sizes = record { buckets = 1; nodes = 1; seed = 0 }
+least_sizes = record { buckets = 1; nodes = 1; seed = 0; words = 0 }
 
 -- why an engine is not opened with a map of these sizes: no map has them, and else as one without
 abbrev pub map_opening_refusal : MapSizes → ℕ → Number → Option Refusal

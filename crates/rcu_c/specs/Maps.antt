@@ -1,8 +1,8 @@
 -- The map of an engine, as its keeper knows it and as a seat's section reads it.
 use Rattle.std.specs.Prelude.{◌≡◌, ◌≤◌, ◌<◌, ◌==◌, ◌^◌, ℕ, if◌then◌else◌, IfNone, IsSome, List}
-use Rattle.std.specs.Prelude.{Option, Some, None, Result, Ok, Err}
+use Rattle.std.specs.Prelude.{Option, Some, None, Result, Ok, Err, length}
 use Rattle.rcu_seq.specs.Numbers.{Number, snapshot}
-use Rattle.rcu_live.specs.CpuSeat.{after_word_step}
+use Rattle.rcu_live.specs.CpuSeat.{after_word_step, exit_refusal}
 use Rattle.rcu_live.specs.Watcher.{Watching}
 use Rattle.rcu_graph.specs.Beside.{Moment}
 use Rattle.rcu_graph.specs.Graph.{IsOfSameGraph}
@@ -17,14 +17,16 @@ use Rattle.rcu_map.specs.After.{IsNextAfter}
 use Rattle.rcu_map.specs.Chains.{buckets_in}
 use Rattle.rcu_map.specs.Entries.{AreSameEntries, IsRemoved}
 use Rattle.rcu_map.specs.Found.{IsGot}
+use Rattle.rcu_map.specs.Keys.{key_in}
 use Rattle.rcu_map.specs.Puts.{HasAnswered, HasChanged, Holds}
+use Rattle.rcu_map.specs.Words.{as_words}
 use Rattle.rcu_map.specs.declared.put.Put.{Put}
 use Rattle.rcu_c.specs.Holding.{cpu_of, keeper_of, on_cpu, on_opened, seat_of}
-use Rattle.rcu_c.specs.MapEntries.{IsKeyed, entry_in, told, entry_words}
+use Rattle.rcu_c.specs.MapEntries.{IsKeyed, told}
+use Rattle.rcu_c.specs.Refusals.{by_engine, first_of}
 use Rattle.rcu_c.specs.declared.contents.Contents.{Contents}
-use Rattle.rcu_c.specs.declared.map_entry.MapEntry.{MapEntry}
 use Rattle.rcu_c.specs.declared.refusal.Refusal.{Refusal}
-use Rattle.rcu_c.specs.declared.refusal.Refusal.TheVariants.{BadKey}
+use Rattle.rcu_c.specs.declared.refusal.Refusal.TheVariants.{BadKey, BadWords}
 
 -- the nodes that the keeper of an engine's map keeps, and how many of them are buckets
 abbrev pub map_nodes : Option Contents → List Node
@@ -37,46 +39,57 @@ map_buckets h = buckets_in (keeper_of h)
 abbrev pub on_keeper : (Watching Planned → Watching Planned) → Option Contents → Option Contents
 on_keeper change = on_opened (λ o. record o { map = change o.map })
 
+-- why room for so many words is not taken for an entry's, which has this many: it is another number
+abbrev pub width_refusal : ℕ → ℕ → Option Refusal
+width_refusal words room = if room == words then None else Some BadWords
+
 -- why an entry of a key is not taken: the key is 0
 abbrev pub key_refusal : ℕ → Option Refusal
 key_refusal key = if key == 0 then Some BadKey else None
 
--- the entry of a key and a value
-abbrev pub entry_of : ℕ → ℕ → MapEntry
-entry_of key value = record { key = key; value = value }
+-- how many words an entry has in the map that the keeper keeps
+abbrev pub keeper_width : Option Contents → ℕ
+keeper_width h = (keeper_of h).view.client.plan.words
 
--- this entry has the key, or none has it
-abbrev pub HoldsEntry : Option Contents → ℕ → Option MapEntry → Type 0
-HoldsEntry h key = Holds entry_in (λ entry. 0 < entry.key) (λ entry. entry.key) (map_buckets h)
-    (map_nodes h) key
+-- why these words are not put in, with room for so many: they, or the room, are not as many as an
+-- entry has; their key is 0
+abbrev pub entry_refusal : Option Contents → List ℕ → ℕ → Option Refusal
+entry_refusal h entry room =
+    first_of (width_refusal (keeper_width h) (length entry))
+    (first_of (width_refusal (keeper_width h) room) (key_refusal (key_in entry)))
+
+-- the entry of these words has the key, or none has it
+abbrev pub HoldsEntry : Option Contents → ℕ → Option (List ℕ) → Type 0
+HoldsEntry h key = Holds as_words IsKeyed key_in (map_buckets h) (map_nodes h) key
 
 -- the keeper was to put an entry in, and this is what it returned and left: of the engine nothing
 -- else changed
-pub record HasPutInC (how : Put) (entry : MapEntry) (h : Option Contents)
-    (result : Result (Option MapEntry) Full) (now : Option Contents) : Type 0 where
+pub record HasPutInC (how : Put) (entry : List ℕ) (h : Option Contents)
+    (result : Result (Option (List ℕ)) Full) (now : Option Contents) : Type 0 where
   pub state : now ≡ on_keeper (λ _. keeper_of now) h
-  pub answered : HasAnswered entry_in (λ e. 0 < e.key) (λ e. e.key) how entry.key
-      (entry_words entry) (keeper_of h) result (keeper_of now)
+  pub answered : HasAnswered as_words IsKeyed key_in how (key_in entry) entry (keeper_of h) result
+      (keeper_of now)
 
--- the keeper did what it was to do, and C was told of the entry that had the key
-pub record IsPutInC (how : Put) (entry : MapEntry) (h : Option Contents) (old : MapEntry)
+-- the keeper did what it was to do, and C's room was told of the entry that had the key
+pub record IsPutInC (how : Put) (entry : List ℕ) (h : Option Contents) (room old : List ℕ)
     (now : Option Contents) : Type 0 where
-  pub had : Option MapEntry
-  pub is_told : old ≡ told had
+  pub had : Option (List ℕ)
+  pub is_told : old ≡ told room had
   pub by : HasPutInC how entry h (Ok had) now
 
--- an entry of a key needs a node, and none is free
-pub record IsNotPutInC (how : Put) (entry : MapEntry) (h now : Option Contents) : Type 0 where
-  pub taken : key_refusal entry.key ≡ None
-  pub full : Full
-  pub by : HasPutInC how entry h (Err full) now
+-- an entry, which may be put in, needs a node, and none is free
+pub record IsNotPutInC (how : Put) (entry : List ℕ) (room : ℕ) (h now : Option Contents) : Type 0
+  where
+    pub taken : entry_refusal h entry room ≡ None
+    pub full : Full
+    pub by : HasPutInC how entry h (Err full) now
 
--- the entry of a key was taken out, where there was one, and C was told of it: of the engine
+-- the entry of a key was taken out, where there was one, and C's room was told of it: of the engine
 -- nothing else changed
-pub record IsTakenOutInC (key : ℕ) (h : Option Contents) (old : MapEntry)
+pub record IsTakenOutInC (key : ℕ) (h : Option Contents) (room old : List ℕ)
     (now : Option Contents) : Type 0 where
-  pub had : Option MapEntry
-  pub is_told : old ≡ told had
+  pub had : Option (List ℕ)
+  pub is_told : old ≡ told room had
   pub state : now ≡ on_keeper (λ _. keeper_of now) h
   pub same : IsOfSameGraph (keeper_of h) (keeper_of now)
   pub holds : HoldsEntry h key had
@@ -84,10 +97,10 @@ pub record IsTakenOutInC (key : ℕ) (h : Option Contents) (old : MapEntry)
       (keeper_of h) (keeper_of now)
   pub unchanged : IfNone had (keeper_of now ≡ keeper_of h)
 
--- C was told of the entry of a key, where there is one
-pub record IsFoundInC (key : ℕ) (h : Option Contents) (entry : MapEntry) : Type 0 where
-  pub found : Option MapEntry
-  pub is_told : entry ≡ told found
+-- C's room was told of the entry of a key, where there is one
+pub record IsFoundInC (key : ℕ) (h : Option Contents) (room entry : List ℕ) : Type 0 where
+  pub found : Option (List ℕ)
+  pub is_told : entry ≡ told room found
   pub holds : HoldsEntry h key found
 
 -- the keeper looked at a number, which is at least all that it saw before: what was left was
@@ -113,28 +126,35 @@ map_plan h = (seat_of h).words.plan
 abbrev pub HasWalked : Option Contents → Option Contents → Type 0
 HasWalked h now = now ≡ on_cpu (λ s. after_word_step s (cpu_of now).view.client) h
 
--- the section looked a key up, and C was told of the entry that it found
-pub record IsGotInC (key : ℕ) (h : Option Contents) (entry : MapEntry)
+-- why the map is not read into room for so many words: no section is open; an entry has another
+-- number of words
+abbrev pub reading_refusal : Option Contents → ℕ → Option Refusal
+reading_refusal h room =
+    first_of (by_engine (exit_refusal (cpu_of h))) (width_refusal (map_plan h).words room)
+
+-- the section looked a key up, and C's room was told of the entry that it found
+pub record IsGotInC (key : ℕ) (h : Option Contents) (room entry : List ℕ)
     (now : Option Contents) : Type 0 where
-  pub found : Option MapEntry
-  pub is_told : entry ≡ told found
+  pub found : Option (List ℕ)
+  pub is_told : entry ≡ told room found
   pub none : key ≡ 0 → found ≡ None
-  pub got : 0 < key → IsGot IsKeyed entry_in (map_plan h).roots (map_plan h).seed key (known_of h)
+  pub got : 0 < key → IsGot IsKeyed as_words (map_plan h).roots (map_plan h).seed key (known_of h)
       found (known_of now)
 
--- the section went from a key to the next entry behind it, and C was told of that
-pub record IsNextInC (key : ℕ) (h : Option Contents) (entry : MapEntry)
+-- the section went from a key to the next entry behind it, and C's room was told of that
+pub record IsNextInC (key : ℕ) (h : Option Contents) (room entry : List ℕ)
     (now : Option Contents) : Type 0 where
-  pub found : Option MapEntry
-  pub is_told : entry ≡ told found
-  pub next : IsNextAfter IsKeyed entry_in (map_plan h).roots (map_plan h).seed key (known_of h)
+  pub found : Option (List ℕ)
+  pub is_told : entry ≡ told room found
+  pub next : IsNextAfter IsKeyed as_words (map_plan h).roots (map_plan h).seed key (known_of h)
       found (known_of now)
 
--- between two moments of a run of the words of a map of this plan, a section looked a key up, and C
--- was told of this entry
+-- between two moments of a run of the words of a map of this plan, a section looked a key up, and
+-- C's room, which is for an entry's words, was told of this entry
 pub record IsGotBetween (plan : Plan) (key : ℕ) (first last : Moment) (h : Option Contents)
-    (entry : MapEntry) (now : Option Contents) : Type 0 where
+    (room entry : List ℕ) (now : Option Contents) : Type 0 where
   pub planned : map_plan h ≡ plan
   pub begins : known_of h ≡ first.section
   pub ends : known_of now ≡ last.section
-  pub got : IsGotInC key h entry now
+  pub sized : length room ≡ plan.words
+  pub got : IsGotInC key h room entry now

@@ -1,5 +1,6 @@
 //! What the words of the laws say: where each holds, and where it does not.
-ghost use Rattle.std.specs.Prelude.{◌≡◌, ◌≢◌, ◌≤◌, ℕ, None, Option, Some, false, true};
+ghost use Rattle.std.specs.Prelude.{◌≡◌, ◌≢◌, ◌≤◌, ◌<◌, ℕ, List, None, Option, Some, false};
+ghost use Rattle.std.specs.Prelude.{length, slice_index, true};
 ghost use mathlib.Core.Option.{some};
 ghost use lib.ListN.{get_elem?};
 ghost use Rattle.rcu_seq.specs.Numbers.{Number};
@@ -10,9 +11,13 @@ ghost use Rattle.rcu_live.specs.declared.view.Role.TheVariants.{Cpu};
 ghost use Rattle.rcu_c.specs.Belonging.{BelongsTo, HasSectionAt, IsEngineAt, IsMapKept, Moment};
 ghost use Rattle.rcu_c.specs.Engines.{EngineAndSeats, is_own};
 ghost use Rattle.rcu_c.specs.Holding.{cpu_of, engine_of, grace_of, keeper_of, opened_of, seat_of};
+ghost use Rattle.rcu_c.specs.MapEntries.{told};
+ghost use Rattle.rcu_c.specs.MapSizes.{are_sizes, least_sizes, plan_of_sizes};
 ghost use Rattle.rcu_c.specs.Seats.{Seat};
 ghost use Rattle.rcu_c.specs.Staying.{AllStay, BothStay};
 ghost use Rattle.rcu_c.specs.declared.contents.Contents.{Contents};
+ghost use Rattle.rcu_c.specs.declared.map_sizes.MapSizes.{MapSizes};
+ghost use Rattle.rcu_map.specs.Keys.{key_in};
 
 /// A moment has the open section of a seat where its views show it, and none of a seat outside of
 /// one. It has an engine where the rule holds, its views show the engine's, and that has seen the
@@ -57,4 +62,21 @@ pub fn what_stays_is_what_it_was()
     ensures first { (a a' b b' : ℕ) → BothStay a a' b b' → a' ≡ a }
     ensures second { (a a' b b' : ℕ) → BothStay a a' b b' → b' ≡ b }
     ensures all { (a a' b b' c c' : ℕ) → AllStay a a' b b' c c' → (a' ≡ a) × (b' ≡ b) × (c' ≡ c) }
+{}
+
+/// C's room has the words of the entry that it is told of. Of none it has the key 0, and its other
+/// words stay.
+pub fn rooms_are_told_of_entries()
+    ensures entry { (room words : List ℕ) → told room (Some words) ≡ words }
+    ensures none { (room : List ℕ) → 0 < length room → key_in (told room None) ≡ 0 }
+    ensures others { (room : List ℕ) (i : ℕ) → 0 < i →
+        slice_index (told room None) i ≡ slice_index room i }
+{}
+
+/// An entry has as many words as its map's sizes say: two where they say 0, and never one.
+pub fn sizes_say_how_many_words_an_entry_has()
+    ensures two { (s : MapSizes) → s.words ≡ 0 → (plan_of_sizes s).words ≡ 2 }
+    ensures said { (s : MapSizes) → 0 < s.words → (plan_of_sizes s).words ≡ s.words }
+    ensures one { (s : MapSizes) → s.words ≡ 1 → are_sizes s ≡ false }
+    ensures least { are_sizes least_sizes ≡ true }
 {}

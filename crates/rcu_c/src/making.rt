@@ -12,7 +12,7 @@ ghost use Rattle.rcu_c.specs.Refusals.{tested_refusal};
 ghost use Rattle.rcu_c.specs.Seats.{seat_at_first};
 
 use crate::identity::Identity;
-use crate::map_entry::MapEntry;
+use crate::keyed_words::KeyedWords;
 use crate::map_sizes::MapSizes;
 use crate::open_engine::OpenEngine;
 use crate::refusal::Refusal;
@@ -66,16 +66,14 @@ pub(crate) fn make_engine(
         made.wishes.words (plan_of_sizes sizes) cpus last) }
     ensures fault { tested_refusal result ≡ map_opening_refusal sizes cpus last }
 {
-    let (buckets, nodes) = (sizes.buckets as usize, sizes.nodes as usize);
+    let plan = sizes.plan()?;
     let Opened {
         live,
         map,
         seats,
         watchers,
         keeper,
-    } = Map::<MapEntry, 2>::open_unlocked::<16, 64, u64>(
-        alloc, cpus, last, buckets, nodes, sizes.seed,
-    )?;
+    } = Map::<KeyedWords, 0>::open_planned::<16, 64, u64>(alloc, cpus, last, plan)?;
     let Ok(wishes) = Wishes::open(alloc) else {
         return Err(Refusal::Engine(Fault::NoMemory));
     };

@@ -1,17 +1,17 @@
 //! What sections find in the map of an engine, over runs of the shared words by atomic steps.
-ghost use Rattle.std.specs.Prelude.{◌≡◌, ◌≤◌, ◌<◌, ◌+◌, ℕ, Option};
+ghost use Rattle.std.specs.Prelude.{◌≡◌, ◌≤◌, ◌<◌, ◌+◌, ℕ, List, Option};
 ghost use Rattle.rcu_live.specs.Watcher.{Watching};
 ghost use Rattle.rcu_graph.specs.Beside.{Moment};
 ghost use Rattle.rcu_graph.specs.declared.known.Planned.{Planned};
 ghost use Rattle.rcu_graph.specs.declared.plan.Plan.{Plan};
 ghost use Rattle.rcu_map.specs.Beside.{AreMadeOver, HadKey, IsMapOver, IsReadOver, since};
+ghost use Rattle.rcu_map.specs.Keys.{key_in};
 ghost use Rattle.rcu_map.specs.Runs.{HasKeyThroughout, IsRun};
 ghost use Rattle.rcu_c.specs.MapEntries.{IsKeyed};
 ghost use Rattle.rcu_c.specs.Maps.{IsGotBetween};
 ghost use Rattle.rcu_c.specs.declared.contents.Contents.{Contents};
-ghost use Rattle.rcu_c.specs.declared.map_entry.MapEntry.{MapEntry};
 
-use crate::map_entry::MapEntry;
+use crate::keyed_words::KeyedWords;
 use rcu_map::laws;
 
 /// A key that is in the map when a run begins, and after each of its calls, is found by an
@@ -19,16 +19,17 @@ use rcu_map::laws;
 pub fn keys_that_stay_are_found()
     ensures { (plan : Plan) (opened key keeper id from done last : ℕ) (moments : ℕ → Moment)
         (now : Watching Planned) (run : IsRun IsKeyed plan opened now)
-        (before after : Option Contents) (entry : MapEntry) →
-        0 < plan.roots → plan.links ≡ 1 → plan.words ≡ 2 → 0 < key → from + done ≤ last →
+        (before after : Option Contents) (room entry : List ℕ) →
+        0 < plan.roots → plan.links ≡ 1 → 2 ≤ plan.words → 0 < key → from + done ≤ last →
         IsMapOver IsKeyed plan keeper last moments →
         AreMadeOver IsKeyed plan opened moments last now run →
         HasKeyThroughout IsKeyed plan opened key now run →
         IsReadOver IsKeyed plan id opened done (since from moments) →
-        IsGotBetween plan key (moments from) (moments (from + done)) before entry after →
-        entry.key ≡ key }
+        IsGotBetween plan key (moments from) (moments (from + done)) before room entry
+        after →
+        key_in entry ≡ key }
 {
-    laws::keys_that_stay_are_found_over_a_run::<MapEntry, 2>();
+    laws::keys_that_stay_are_found_over_a_run::<KeyedWords, 0>();
 }
 
 /// An entry that an `rcu_map_get` in such a run writes was in the map when the run began, or after
@@ -36,13 +37,14 @@ pub fn keys_that_stay_are_found()
 pub fn found_keys_were_there()
     ensures { (plan : Plan) (opened key keeper id from done last : ℕ) (moments : ℕ → Moment)
         (now : Watching Planned) (run : IsRun IsKeyed plan opened now)
-        (before after : Option Contents) (entry : MapEntry) →
-        0 < plan.roots → plan.links ≡ 1 → plan.words ≡ 2 → 0 < key → from + done ≤ last →
+        (before after : Option Contents) (room entry : List ℕ) →
+        0 < plan.roots → plan.links ≡ 1 → 2 ≤ plan.words → 0 < key → from + done ≤ last →
         IsMapOver IsKeyed plan keeper last moments →
         AreMadeOver IsKeyed plan opened moments last now run →
         IsReadOver IsKeyed plan id opened done (since from moments) →
-        IsGotBetween plan key (moments from) (moments (from + done)) before entry after →
-        0 < entry.key → HadKey IsKeyed plan opened key now run }
+        IsGotBetween plan key (moments from) (moments (from + done)) before room entry
+        after →
+        0 < key_in entry → HadKey IsKeyed plan opened key now run }
 {
-    laws::keys_found_over_a_run_were_there::<MapEntry, 2>();
+    laws::keys_found_over_a_run_were_there::<KeyedWords, 0>();
 }

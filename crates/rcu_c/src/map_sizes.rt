@@ -1,6 +1,11 @@
 //! The sizes of the map of an engine.
-ghost use Rattle.std.specs.Prelude.{◌≡◌};
-ghost use Rattle.rcu_c.specs.MapSizes.{least_sizes};
+ghost use Rattle.std.specs.Prelude.{◌≡◌, ◌<◌, ◌≤◌, IfErr, IfOk, OnErr};
+ghost use Rattle.rcu_graph.specs.declared.not_opened.NotOpened.{NotOpened};
+ghost use Rattle.rcu_map.specs.Chains.{HasSizes};
+ghost use Rattle.rcu_c.specs.MapSizes.{least_sizes, plan_of_sizes, width_in};
+
+use rcu_graph::{NotOpened, Plan};
+use rcu_map::make_plan;
 
 /// The sizes of the map of an engine (`rcu_map_sizes_t`).
 #[repr(C)]
@@ -13,6 +18,9 @@ pub struct MapSizes {
     pub nodes: u64,
     /// What decides which bucket a key is in: draw it at random where others choose the keys.
     pub seed: u64,
+    /// How many words an entry has, 2 or more, of which word 0 is its key. 0 stands for 2: a key
+    /// and a value.
+    pub words: u64,
 }
 
 impl MapSizes {
@@ -24,6 +32,26 @@ impl MapSizes {
             buckets: 1,
             nodes: 1,
             seed: 0,
+            words: 0,
         }
+    }
+
+    /// The plan of a map of these sizes.
+    ///
+    /// Fault: `BadSizes` for no bucket, or one word.
+    pub(crate) fn plan(self) -> Result<Plan, NotOpened>
+        ensures plan { IfOk result (λ plan. plan ≡ plan_of_sizes self) }
+        ensures some { IfOk result (λ plan. 0 < plan.roots) }
+        ensures wide { IfOk result (λ plan. 2 ≤ plan.words) }
+        ensures fault { IfErr result (λ fault. fault ≡ NotOpened.BadSizes) }
+        ensures none { OnErr result (¬ HasSizes self.buckets (width_in self) self.nodes) }
+    {
+        let words = if self.words == 0 { 2 } else { self.words };
+        make_plan(
+            self.buckets as usize,
+            words as usize,
+            self.nodes as usize,
+            self.seed,
+        )
     }
 }

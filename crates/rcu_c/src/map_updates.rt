@@ -1,26 +1,29 @@
 //! What is put into the map of an engine and taken out: `rcu` is under the caller's lock. Sections
 //! read the map meanwhile, and see the entries as they were before a call or as they are after it.
-ghost use Rattle.std.specs.Prelude.{◌≡◌, ◌≢◌, ◌<◌};
+ghost use Rattle.std.specs.Prelude.{◌≡◌, ◌≢◌, length};
 ghost use Rattle.rcu_map.specs.Entries.{entries_in};
 ghost use Rattle.rcu_map.specs.declared.put.Put.{Put};
 ghost use Rattle.rcu_c.specs.Answers.{number_in_c};
 ghost use Rattle.rcu_c.specs.Maps.{HasAgedInC, IsFoundInC, IsNotPutInC, IsPutInC, IsTakenOutInC};
-ghost use Rattle.rcu_c.specs.Maps.{entry_of, key_refusal, map_buckets, map_nodes};
+ghost use Rattle.rcu_c.specs.Maps.{entry_refusal, keeper_width, map_buckets, map_nodes};
+ghost use Rattle.rcu_c.specs.Maps.{width_refusal};
 ghost use Rattle.rcu_c.specs.Refusals.{engine_number};
 ghost use Rattle.rcu_c.specs.Staying.{BothStay};
 
 use crate::handle::Rcu;
-use crate::map_entry::{MapEntry, told};
+use crate::keyed_words::tell;
 use crate::refusal::Refusal;
 use rcu_map::Put;
 use rcu_seq::{Cookie, Tag};
 
-/// Puts an entry in so, and writes the one that had its key.
-fn put(rcu: &mut Rcu, how: Put, entry: MapEntry, old: &mut MapEntry) -> u32
+/// Puts an entry of these words in so, and writes those of the one that had its key.
+fn put(rcu: &mut Rcu, how: Put, entry: &[u64], old: &mut [u64]) -> u32
     ensures fault { result ≢ 31 → result ≡ engine_number rcu.old.contents
-        (number_in_c (key_refusal entry.key)) }
-    ensures put { result ≡ 0 → IsPutInC how entry rcu.old.contents old.new rcu.new.contents }
-    ensures full { result ≡ 31 → IsNotPutInC how entry rcu.old.contents rcu.new.contents }
+        (number_in_c (entry_refusal rcu.old.contents entry.now (length old.old))) }
+    ensures put { result ≡ 0 →
+        IsPutInC how entry.now rcu.old.contents old.old old.new rcu.new.contents }
+    ensures full { result ≡ 31 →
+        IsNotPutInC how entry.now (length old.old) rcu.old.contents rcu.new.contents }
     ensures unchanged { result ≢ 0 →
         BothStay rcu.old.contents rcu.new.contents old.old old.new }
 {
@@ -28,114 +31,133 @@ fn put(rcu: &mut Rcu, how: Put, entry: MapEntry, old: &mut MapEntry) -> u32
         Ok(opened) => opened,
         Err(refusal) => return refusal.number(),
     };
-    if entry.key == 0 {
+    let words = opened.map.plan().words;
+    if entry.len() != words || old.len() != words {
+        return Refusal::BadWords.number();
+    }
+    if entry[0] == 0 {
         return Refusal::BadKey.number();
     }
-    match opened.map.put(how, entry) {
-        Ok(had) => {
-            *old = told(had);
-            0
-        }
-        Err(_) => Refusal::MapFull.number(),
-    }
+    let Ok(there) = opened.map.put_words(how, entry, old) else {
+        return Refusal::MapFull.number();
+    };
+    tell(there, old);
+    0
 }
 
-/// Puts an entry in, by one store, where none has its key. Writes the entry that has it: then
-/// nothing else happened. It costs a step for each entry of the key's bucket up to there.
+/// Puts an entry of these words in, by one store, where none has its key. Writes the words of the
+/// one that has it: then nothing else happened. Else it writes the key 0. It costs a step for each
+/// entry of the key's bucket up to there, and for each word.
 ///
 /// What the thread did before comes before what follows a section's `rcu_map_get` that finds the
 /// entry.
 ///
-/// Faults: 30 where the key is 0; 31 where no entry has the key, and no node is free.
+/// Faults: 32 where an entry has another number of words than `entry` or `old`; 30 where the key is
+/// 0; 31 where no entry has the key, and no node is free.
 #[unsafe(no_mangle)]
-pub extern "C" fn rcu_map_insert(rcu: &mut Rcu, key: u64, value: u64, old: &mut MapEntry) -> u32
+pub extern "C" fn rcu_map_insert(rcu: &mut Rcu, entry: &[u64], old: &mut [u64]) -> u32
     ensures fault { result ≢ 31 → result ≡ engine_number rcu.old.contents
-        (number_in_c (key_refusal key)) }
+        (number_in_c (entry_refusal rcu.old.contents entry.now (length old.old))) }
     ensures put { result ≡ 0 →
-        IsPutInC Put.Insert (entry_of key value) rcu.old.contents old.new rcu.new.contents }
+        IsPutInC Put.Insert entry.now rcu.old.contents old.old old.new rcu.new.contents }
     ensures full { result ≡ 31 →
-        IsNotPutInC Put.Insert (entry_of key value) rcu.old.contents rcu.new.contents }
+        IsNotPutInC Put.Insert entry.now (length old.old) rcu.old.contents rcu.new.contents }
     ensures unchanged { result ≢ 0 →
         BothStay rcu.old.contents rcu.new.contents old.old old.new }
 {
-    put(rcu, Put::Insert, MapEntry { key, value }, old)
+    put(rcu, Put::Insert, entry, old)
 }
 
 /// Puts an entry in the place of the one that has its key, by one store, and writes that: a section
-/// finds the old one or the new one. Where none has the key, nothing happens. Costs and orders as
-/// `rcu_map_insert`.
+/// finds the old one or the new one. Where none has the key, it writes the key 0, and nothing else
+/// happens. Costs and orders as `rcu_map_insert`.
 ///
-/// The old value may be freed when a full grace period has passed, as by `rcu_queue` or
-/// `rcu_defer_link`.
+/// What words of the old entry lead to may be freed when a full grace period has passed, as by
+/// `rcu_queue` or `rcu_defer_link`.
 ///
-/// Faults: 30 where the key is 0; 31 where an entry has the key, and no node is free.
+/// Faults: 32 as of `rcu_map_insert`; 30 where the key is 0; 31 where an entry has the key, and no
+/// node is free.
 #[unsafe(no_mangle)]
-pub extern "C" fn rcu_map_replace(rcu: &mut Rcu, key: u64, value: u64, old: &mut MapEntry) -> u32
+pub extern "C" fn rcu_map_replace(rcu: &mut Rcu, entry: &[u64], old: &mut [u64]) -> u32
     ensures fault { result ≢ 31 → result ≡ engine_number rcu.old.contents
-        (number_in_c (key_refusal key)) }
+        (number_in_c (entry_refusal rcu.old.contents entry.now (length old.old))) }
     ensures put { result ≡ 0 →
-        IsPutInC Put.Replace (entry_of key value) rcu.old.contents old.new rcu.new.contents }
+        IsPutInC Put.Replace entry.now rcu.old.contents old.old old.new rcu.new.contents }
     ensures full { result ≡ 31 →
-        IsNotPutInC Put.Replace (entry_of key value) rcu.old.contents rcu.new.contents }
+        IsNotPutInC Put.Replace entry.now (length old.old) rcu.old.contents rcu.new.contents }
     ensures unchanged { result ≢ 0 →
         BothStay rcu.old.contents rcu.new.contents old.old old.new }
 {
-    put(rcu, Put::Replace, MapEntry { key, value }, old)
+    put(rcu, Put::Replace, entry, old)
 }
 
 /// Puts an entry in, by one store, in the place of the one that has its key, as `rcu_map_replace`,
-/// or where none has it, as `rcu_map_insert`. Writes the one that had it.
+/// or where none has it, as `rcu_map_insert`. Writes the one that had it, or the key 0.
 ///
-/// Faults: 30 where the key is 0; 31 where no node is free.
+/// Faults: 32 as of `rcu_map_insert`; 30 where the key is 0; 31 where no node is free.
 #[unsafe(no_mangle)]
-pub extern "C" fn rcu_map_put(rcu: &mut Rcu, key: u64, value: u64, old: &mut MapEntry) -> u32
+pub extern "C" fn rcu_map_put(rcu: &mut Rcu, entry: &[u64], old: &mut [u64]) -> u32
     ensures fault { result ≢ 31 → result ≡ engine_number rcu.old.contents
-        (number_in_c (key_refusal key)) }
+        (number_in_c (entry_refusal rcu.old.contents entry.now (length old.old))) }
     ensures put { result ≡ 0 →
-        IsPutInC Put.Upsert (entry_of key value) rcu.old.contents old.new rcu.new.contents }
+        IsPutInC Put.Upsert entry.now rcu.old.contents old.old old.new rcu.new.contents }
     ensures full { result ≡ 31 →
-        IsNotPutInC Put.Upsert (entry_of key value) rcu.old.contents rcu.new.contents }
+        IsNotPutInC Put.Upsert entry.now (length old.old) rcu.old.contents rcu.new.contents }
     ensures unchanged { result ≢ 0 →
         BothStay rcu.old.contents rcu.new.contents old.old old.new }
 {
-    put(rcu, Put::Upsert, MapEntry { key, value }, old)
+    put(rcu, Put::Upsert, entry, old)
 }
 
-/// Takes the entry of a key out, by one store, and writes it. Its node is free again once a call of
-/// `rcu_map_age` has found it removed, and a later one a full grace period gone by since. The value
-/// may be freed when a full grace period has passed.
+/// Takes the entry of a key out, by one store, and writes its words, or the key 0 where there is
+/// none. Its node is free again once a call of `rcu_map_age` has found it removed, and a later one
+/// a full grace period gone by since. What its words lead to may be freed when a full grace period
+/// has passed.
+///
+/// Fault 32: an entry has another number of words.
 #[unsafe(no_mangle)]
-pub extern "C" fn rcu_map_remove(rcu: &mut Rcu, key: u64, old: &mut MapEntry) -> u32
-    ensures fault { result ≡ engine_number rcu.old.contents 0 }
-    ensures removed { result ≡ 0 → IsTakenOutInC key rcu.old.contents old.new rcu.new.contents }
+pub extern "C" fn rcu_map_remove(rcu: &mut Rcu, key: u64, old: &mut [u64]) -> u32
+    ensures fault { result ≡ engine_number rcu.old.contents
+        (number_in_c (width_refusal (keeper_width rcu.old.contents) (length old.old))) }
+    ensures removed { result ≡ 0 →
+        IsTakenOutInC key rcu.old.contents old.old old.new rcu.new.contents }
     ensures unchanged { result ≢ 0 →
         BothStay rcu.old.contents rcu.new.contents old.old old.new }
 {
-    match rcu.engine() {
-        Ok(opened) => {
-            *old = told(opened.map.remove(key));
-            0
-        }
-        Err(refusal) => refusal.number(),
+    let opened = match rcu.engine() {
+        Ok(opened) => opened,
+        Err(refusal) => return refusal.number(),
+    };
+    if old.len() != opened.map.plan().words {
+        return Refusal::BadWords.number();
     }
+    let there = opened.map.remove_words(key, old);
+    tell(there, old);
+    0
 }
 
-/// Writes the entry of a key as it is now: under the lock no change is missed, as it may be by a
-/// section.
+/// Writes the words of the entry of a key as it is now, or the key 0: under the lock no change is
+/// missed, as it may be by a section.
+///
+/// Fault 32: an entry has another number of words.
 #[unsafe(no_mangle)]
-pub extern "C" fn rcu_map_find(rcu: &mut Rcu, key: u64, entry: &mut MapEntry) -> u32
-    ensures fault { result ≡ engine_number rcu.old.contents 0 }
+pub extern "C" fn rcu_map_find(rcu: &mut Rcu, key: u64, entry: &mut [u64]) -> u32
+    ensures fault { result ≡ engine_number rcu.old.contents
+        (number_in_c (width_refusal (keeper_width rcu.old.contents) (length entry.old))) }
     ensures state { rcu.new.contents ≡ rcu.old.contents }
-    ensures found { result ≡ 0 → IsFoundInC key rcu.old.contents entry.new }
+    ensures found { result ≡ 0 → IsFoundInC key rcu.old.contents entry.old entry.new }
     ensures unchanged { result ≢ 0 → entry.new ≡ entry.old }
 {
-    match rcu.engine() {
-        Ok(opened) => {
-            *entry = told(opened.map.get(key));
-            0
-        }
-        Err(refusal) => refusal.number(),
+    let opened = match rcu.engine() {
+        Ok(opened) => opened,
+        Err(refusal) => return refusal.number(),
+    };
+    if entry.len() != opened.map.plan().words {
+        return Refusal::BadWords.number();
     }
+    let there = opened.map.get_words(key, entry);
+    tell(there, entry);
+    0
 }
 
 /// How many entries the map has. 0 where `rcu` is no open engine's.

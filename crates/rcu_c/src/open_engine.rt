@@ -3,7 +3,7 @@ ghost use Rattle.std.specs.Prelude.{◌≡◌, is_some};
 ghost use Rattle.rcu_c.specs.Engines.{is_own, seat_at, with_seat, without_seat};
 
 use crate::identity::Identity;
-use crate::map_entry::MapEntry;
+use crate::keyed_words::KeyedWords;
 use crate::seat_parts::SeatParts;
 use rcu_live::Engine;
 use rcu_map::{MapKeeper, MapRule};
@@ -12,7 +12,7 @@ use rcu_wish::Wishes;
 use std::marker::Model;
 
 /// The rule of the map that each engine has among its shared words.
-pub(crate) type Rule = MapRule<MapEntry, 2>;
+pub(crate) type Rule = MapRule<KeyedWords, 0>;
 
 /// The running engine over the tree of Linux's fanouts, with numbers as callbacks, and a map.
 pub(crate) type TreeEngine = Engine<Tree<16, 64>, u64, Rule>;
@@ -26,7 +26,7 @@ pub struct OpenEngine {
     pub(crate) wishes: Wishes,
     identity: Identity,
     /// The keeper of its map.
-    pub(crate) map: MapKeeper<MapEntry, 2>,
+    pub(crate) map: MapKeeper<KeyedWords, 0>,
 }
 
 impl Model for OpenEngine {
@@ -51,7 +51,7 @@ impl OpenEngine {
         seats: Vec<Option<SeatParts>>,
         wishes: Wishes,
         identity: Identity,
-        map: MapKeeper<MapEntry, 2>,
+        map: MapKeeper<KeyedWords, 0>,
     ) -> OpenEngine
         ensures { result ≡ record {
           engine = inner;

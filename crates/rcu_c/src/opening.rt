@@ -77,11 +77,12 @@ pub extern "C" fn rcu_open_as(
     rcu_open_map_as(alloc, cpus, last, identity, &MapSizes::least(), rcu)
 }
 
-/// Opens an engine as `rcu_open_as`, with a map of so many buckets and nodes, which is empty. Each
-/// of its seats reads it. Needs: `rcu` is closed.
+/// Opens an engine as `rcu_open_as`, with a map of these sizes, which is empty. Each of its seats
+/// reads it. Needs: `rcu` is closed.
 ///
-/// Faults: 29 where there is no bucket, fewer nodes than buckets, or more than 2^32 words in all,
-/// three a node; 17 for no processor or more than 4,096; 19 where `last` is no such number; 16.
+/// Faults: 29 where there is no bucket, an entry has one word, there are fewer nodes than buckets,
+/// or more than 2^32 words in all, an entry's and one more a node; 17 for no processor or more than
+/// 4,096; 19 where `last` is no such number; 16.
 #[unsafe(no_mangle)]
 pub extern "C" fn rcu_open_map_as(
     alloc: Global,

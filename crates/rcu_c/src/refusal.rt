@@ -19,16 +19,18 @@ pub enum Refusal {
     Closed,
     /// The handle is of another kind.
     OtherKind,
-    /// A map can't have so many buckets and nodes.
+    /// A map can't have so many buckets, words an entry and nodes.
     BadSizes,
     /// An entry has the key 0.
     BadKey,
     /// No node of the map is free.
     MapFull,
+    /// An entry of the map has another number of words.
+    BadWords,
 }
 
 impl Refusal {
-    /// The number that C is told: no fault of the engine has one of the last seven.
+    /// The number that C is told: no fault of the engine has one of the last eight.
     pub(crate) fn number(self) -> u32
         ensures { result ≡ refusal_number self }
     {
@@ -41,6 +43,7 @@ impl Refusal {
             Refusal::BadSizes => 29,
             Refusal::BadKey => 30,
             Refusal::MapFull => 31,
+            Refusal::BadWords => 32,
         }
     }
 }

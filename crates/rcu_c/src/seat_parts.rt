@@ -7,8 +7,8 @@ ghost use Rattle.rcu_wish.specs.Wishes.{wisher_at_first};
 ghost use Rattle.rcu_c.specs.Links.{no_links};
 
 use crate::identity::Identity;
+use crate::keyed_words::KeyedWords;
 use crate::links::Links;
-use crate::map_entry::MapEntry;
 use rcu_defer::DeferList;
 use rcu_map::{Map, MapSeat, MapWatcher};
 use rcu_wish::{Wisher, Wishes};
@@ -19,7 +19,7 @@ use std::marker::Model;
 /// what tells the engine from others.
 #[derive(Drop)]
 pub(crate) struct SharedParts {
-    pub(crate) map: Map<MapEntry, 2>,
+    pub(crate) map: Map<KeyedWords, 0>,
     pub(crate) wishes: Wishes,
     pub(crate) identity: Identity,
 }
@@ -41,16 +41,16 @@ impl Model for SharedParts {
 }
 
 /// A processor's seat of an engine with a map.
-pub(crate) type CpuSeat = MapSeat<MapEntry, 2>;
+pub(crate) type CpuSeat = MapSeat<KeyedWords, 0>;
 
 /// A watcher of an engine with a map.
-pub(crate) type Watcher = MapWatcher<MapEntry, 2>;
+pub(crate) type Watcher = MapWatcher<KeyedWords, 0>;
 
 /// The seat of an open handle: a processor's, with a watcher, what its thread deferred, its end of
 /// the wishes, and the map among the words that all seats share.
 #[derive(Drop)]
 pub struct SeatParts {
-    pub(crate) map: Map<MapEntry, 2>,
+    pub(crate) map: Map<KeyedWords, 0>,
     pub(crate) cpu: CpuSeat,
     pub(crate) watcher: Watcher,
     pub(crate) values: DeferList<u64>,

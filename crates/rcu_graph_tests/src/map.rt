@@ -4,6 +4,7 @@ mod large;
 mod next;
 mod reuse;
 pub(crate) mod route;
+mod rows;
 mod scene;
 mod script;
 mod steps;

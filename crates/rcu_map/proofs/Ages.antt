@@ -179,6 +179,7 @@ module _ (holds : List ℕ → Type 0) (width : ℕ) (k m : Watching Planned)
       subst (λ (q : Plan). IsKept holds width q B len) (sym planned) (record {
         some = kept.some;
         one = kept.one;
+        wide = kept.wide;
         words = kept.words;
         map = aged_map holds p.roots p.seed p.words p.nodes A B kept.map s
             (few ∙ ap (λ (q : Plan). q.nodes) planned)

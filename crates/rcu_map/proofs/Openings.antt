@@ -1,5 +1,5 @@
 -- The opening of a map: the words of the roots of all buckets, and why it is refused.
-use Rattle.std.proofs.Common.{ℕ, ◌<◌, List}
+use Rattle.std.proofs.Common.{ℕ, ◌<◌, ◌≤◌, List}
 use Rattle.std.specs.Prelude.{◌≡◌, Result, Ok, Err}
 use Rattle.std.proofs.lemmas.Result.{IfErr-at_err}
 use Rattle.rcu_seq.specs.declared.fault.Fault.{Fault}
@@ -33,9 +33,19 @@ pub fault_is_of_no_size : {A : Type 0} (fault : Fault)
 fault_is_of_no_size fault is = IfErr-at_err IsFault is tt
 
 -- of a map with a bucket nothing but its graph can have bad sizes, whatever the seed is
-pub has_sizes : (buckets width count seed : ℕ) → 0 < buckets
+pub has_sizes : (buckets width count seed : ℕ) → 0 < buckets → 2 ≤ width
     → IsSized (plan_of buckets 1 width count seed) → HasSizes buckets width count
-has_sizes buckets width count seed some s = record {
+has_sizes buckets width count seed some wide s = record {
   some = some;
+  wide = wide;
   graph = record { words = s.words; inside = s.inside; row = s.row; small = s.small };
+}
+
+pub is_sized : (buckets width count seed : ℕ) → HasSizes buckets width count
+    → IsSized (plan_of buckets 1 width count seed)
+is_sized buckets width count seed has = let s = has.graph in record {
+  words = s.words;
+  inside = s.inside;
+  row = s.row;
+  small = s.small;
 }

@@ -24,9 +24,10 @@ seed_in keeper = keeper.view.client.plan.seed
 abbrev pub plan_of_map : ℕ → ℕ → ℕ → ℕ → Plan
 plan_of_map buckets width count seed = plan_of buckets 1 width count (multiplier_of seed)
 
--- a map may have so many buckets, words an entry and nodes
+-- a map may have so many buckets, words an entry and nodes: an entry has a key and a word more
 pub record HasSizes (buckets width count : ℕ) : Type 0 where
   pub some : 0 < buckets
+  pub wide : 2 ≤ width
   pub graph : IsSized (plan_of_map buckets width count 0)
 
 -- both nodes are live, and of one bucket
@@ -58,11 +59,12 @@ pub record IsMap (holds : List ℕ → Type 0) (buckets seed width count : ℕ)
       i ≡ j
 
 -- of this plan, whose roots are those of the buckets, the nodes are those of a map with so many
--- entries, of so many words each
+-- entries, of two words or more: of so many, where that is no 0
 pub record IsKept (holds : List ℕ → Type 0) (width : ℕ) (plan : Plan) (nodes : List Node)
     (len : ℕ) : Type 0 where
   pub some : 0 < plan.roots
   pub one : plan.links ≡ 1
-  pub words : plan.words ≡ width
+  pub wide : 2 ≤ plan.words
+  pub words : 0 < width → plan.words ≡ width
   pub map : IsMap holds plan.roots plan.seed plan.words plan.nodes nodes
   pub count : len ≡ entries_in plan.roots nodes

@@ -11,3 +11,4 @@ pub mod Puts
 pub mod Runs
 pub mod Splices
 pub mod Waits
+pub mod Words

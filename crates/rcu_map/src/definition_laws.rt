@@ -1,16 +1,20 @@
 //! What the words of runs of a keeper's calls say.
-ghost use Rattle.std.specs.Prelude.{◌≡◌, ◌↔◌, ◌≤◌, ◌∷◌, ℕ, Bool, List, true};
+ghost use Rattle.std.specs.Prelude.{◌≡◌, ◌↔◌, ◌≤◌, ◌∷◌, ℕ, Bool, Err, List, None, Ok, Some};
+ghost use Rattle.std.specs.Prelude.{false, true};
 ghost use Rattle.rcu_live.specs.Numbers.{is_open_at};
 ghost use Rattle.rcu_live.specs.Watcher.{Watching};
 ghost use Rattle.rcu_graph.specs.Beside.{Moment};
 ghost use Rattle.rcu_graph.specs.Keeper.{after_look};
 ghost use Rattle.rcu_graph.specs.Nodes.{nodes_in, stored_in};
+ghost use Rattle.rcu_graph.specs.declared.keeper.Full.{Full};
 ghost use Rattle.rcu_graph.specs.declared.known.Planned.{Planned};
 ghost use Rattle.rcu_graph.specs.declared.plan.Plan.{Plan};
 ghost use Rattle.rcu_map.specs.Beside.{AreMadeOver, HadKey};
+ghost use Rattle.rcu_map.specs.Chains.{HasSizes};
 ghost use Rattle.rcu_map.specs.Entries.{HasKey};
 ghost use Rattle.rcu_map.specs.Keys.{key_in};
 ghost use Rattle.rcu_map.specs.Puts.{HasChanged, IsByOneStore, IsPutIn};
+ghost use Rattle.rcu_map.specs.Words.{answered, as_words, words_if};
 ghost use Rattle.rcu_map.specs.Runs.{HasKeyThroughout, IsMapOf, IsRun, begun, changed};
 
 use crate::entry::Entry;
@@ -67,4 +71,21 @@ pub fn calls_are_made_over_moments<E: Entry<W>, const W: usize>()
     ensures had_at_first { (plan : Plan) (opened key : ℕ) (now : Watching Planned)
         (map : IsMapOf E.holds plan now) → HadKey E.holds plan opened key now (begun now map) →
         HasKey plan.roots (nodes_in now.view.client.known) key }
+{}
+
+/// Words tell themselves: those of an entry where a call has one, and none else.
+pub fn words_tell_themselves()
+    ensures themselves { (words : List ℕ) → as_words words ≡ words }
+    ensures there { (words : List ℕ) → words_if true words ≡ Some words }
+    ensures none { (words : List ℕ) → words_if false words ≡ None }
+    ensures had { (words : List ℕ) → answered (Ok true) words ≡ Ok (Some words) }
+    ensures had_none { (words : List ℕ) → answered (Ok false) words ≡ Ok None }
+    ensures full { (full : Full) (words : List ℕ) → answered (Err full) words ≡ Err full }
+{}
+
+/// A map has sizes where there is a bucket and an entry has a word beside its key, and no others.
+pub fn an_entry_has_a_word_beside_its_key()
+    ensures least { HasSizes 1 2 1 }
+    ensures key_alone { (buckets count : ℕ) → HasSizes buckets 1 count → ⊥ }
+    ensures no_bucket { (width count : ℕ) → HasSizes 0 width count → ⊥ }
 {}

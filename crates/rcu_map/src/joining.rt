@@ -1,5 +1,5 @@
 //! A map that is one of several clients of its engine.
-ghost use Rattle.std.specs.Prelude.{◌≡◌, ◌<◌, IfErr, IfOk, OnErr, OnOk};
+ghost use Rattle.std.specs.Prelude.{◌≡◌, ◌<◌, ◌≤◌, IfErr, IfOk, OnErr, OnOk};
 ghost use Rattle.std.specs.Arc.{arc_value};
 ghost use Rattle.rcu_live.specs.InPart.{engine_part, watcher_part};
 ghost use Rattle.rcu_live.specs.Watcher.{after_word_step};
@@ -12,16 +12,16 @@ ghost use Rattle.rcu_graph.specs.declared.not_opened.NotOpened.{NotOpened};
 ghost use Rattle.rcu_map.specs.Chains.{HasSizes, plan_of_map};
 ghost use Rattle.rcu_map.specs.Keys.{root_words};
 
-use crate::entry::Entry;
+use crate::entry::{Entry, words_are_two};
 use crate::map::Map;
 use crate::opening::make_plan;
 use crate::shape::{MapRule, MapWatcher};
-use rcu_graph::{Graph, NotOpened, Plan};
+use rcu_graph::{Graph, Invariant, NotOpened, Plan};
 use rcu_live::{Board, Client, Within};
 use std::alloc::{AllocError, Global};
 use std::sync::Arc;
 
-impl<E: Entry<W>, const W: usize, P: Within<MapRule<E, W>>> Map<E, W, P> {
+impl<E: Invariant, const W: usize, P: Within<MapRule<E, W>>> Map<E, W, P> {
     /// The map at this place of an engine that was opened by this plan, and the watcher that its
     /// keeper takes ([`Graph::join`]).
     pub fn join(
@@ -33,7 +33,8 @@ impl<E: Entry<W>, const W: usize, P: Within<MapRule<E, W>>> Map<E, W, P> {
             (arc_value board.now) own.old }
         requires buckets { 0 < (P.own_plan plan).roots }
         requires one { (P.own_plan plan).links ≡ 1 }
-        requires entries { (P.own_plan plan).words ≡ W }
+        requires wide { 2 ≤ (P.own_plan plan).words }
+        requires entries { 0 < W → (P.own_plan plan).words ≡ W }
         ensures map { IfOk result (λ joined.
             joined.0 ≡ engine_part P.own_plan P.begins (arc_value board.now)) }
         ensures keeper { IfOk result (λ joined.
@@ -60,7 +61,8 @@ impl<E: Entry<W>, const W: usize> Map<E, W> {
         ensures bad_sizes { OnErr result (¬ HasSizes buckets W nodes) }
         ensures fault { IfErr result (λ fault. fault ≡ NotOpened.BadSizes) }
     {
-        let plan = make_plan::<W>(buckets, nodes, seed)?;
+        words_are_two::<E, W>();
+        let plan = make_plan(buckets, W, nodes, seed)?;
         if !plan.is_sized() {
             return Err(NotOpened::BadSizes);
         }

@@ -1,6 +1,6 @@
 //! The keeper of a map: it reads the entries without a section, and looks which nodes are free.
 ghost use Rattle.std.specs.Prelude.{◌≡◌, ◌≤◌, ◌<◌, ◌^◌, ◌↔◌, IfOk, IfSome, IsSome, IsTrue};
-ghost use Rattle.std.specs.Prelude.{MatchOption};
+ghost use Rattle.std.specs.Prelude.{MatchOption, false, length, true};
 ghost use Rattle.rcu_live.specs.InPart.{watcher_part};
 ghost use Rattle.rcu_graph.specs.Graph.{IsOfSameGraph};
 ghost use Rattle.rcu_graph.specs.Keeper.{IsKeeperOf, after_look};
@@ -11,25 +11,26 @@ ghost use Rattle.rcu_map.specs.Entries.{AreSameEntries, HasKey, IsEntry, IsEntry
 ghost use Rattle.rcu_map.specs.Entries.{IsNodeOf, entries_in};
 ghost use Rattle.rcu_map.specs.Keys.{root_words};
 ghost use Rattle.rcu_map.specs.Splices.{IsPlace};
+ghost use Rattle.rcu_map.specs.Words.{as_words};
 
 use crate::bucket::bucket_of;
-use crate::entry::Entry;
+use crate::entry::{Entry, words_are_two};
 use crate::links::keep;
 use crate::map::Map;
 use crate::shape::{MapRule, MapShape, MapWatcher};
-use rcu_graph::Keeper;
+use rcu_graph::{Invariant, Keeper, Plan};
 use rcu_live::{Alone, Within};
 use std::alloc::{AllocError, Global};
 use std::marker::Model;
 
 /// The keeper of a map, for one thread. A map has one.
 #[derive(Drop)]
-pub struct MapKeeper<E: Entry<W>, const W: usize, P: Within<MapRule<E, W>> = Alone> {
+pub struct MapKeeper<E: Invariant, const W: usize, P: Within<MapRule<E, W>> = Alone> {
     pub(crate) nodes: Keeper<MapShape<E, W>, P>,
     pub(crate) len: usize,
 }
 
-impl<E: Entry<W>, const W: usize, P: Within<MapRule<E, W>>> Model for MapKeeper<E, W, P> {
+impl<E: Invariant, const W: usize, P: Within<MapRule<E, W>>> Model for MapKeeper<E, W, P> {
     ghost use Rattle.rcu_live.specs.Watcher.{Watching};
     ghost use Rattle.rcu_graph.specs.Nodes.{nodes_in};
     ghost use Rattle.rcu_graph.specs.declared.known.Planned.{Planned};
@@ -52,7 +53,7 @@ pub(crate) struct Place {
     pub(crate) node: Option<usize>,
 }
 
-impl<E: Entry<W>, const W: usize, P: Within<MapRule<E, W>>> MapKeeper<E, W, P> {
+impl<E: Invariant, const W: usize, P: Within<MapRule<E, W>>> MapKeeper<E, W, P> {
     /// The keeper of a map that has no entry yet: the nodes of its graph are as at first. It takes
     /// all the memory that it will ever have.
     pub fn new(
@@ -79,6 +80,14 @@ impl<E: Entry<W>, const W: usize, P: Within<MapRule<E, W>>> MapKeeper<E, W, P> {
             (nodes_in self.now.view.client.known) }
     {
         self.nodes.tends();
+    }
+
+    /// As [`Map::plan`].
+    pub fn plan(&self) -> Plan
+        ensures plan { result ≡ self.now.view.client.plan }
+        ensures wide { 2 ≤ self.now.view.client.plan.words }
+    {
+        self.nodes.plan()
     }
 
     /// How many entries there are.
@@ -141,33 +150,35 @@ impl<E: Entry<W>, const W: usize, P: Within<MapRule<E, W>>> MapKeeper<E, W, P> {
         self.place_of(key).node
     }
 
-    /// The words of the entry of a node.
-    pub(crate) fn words_of(&self, node: usize) -> [u64; W]
-        requires { IsEntry (buckets_in self.now) (nodes_in self.now.view.client.known) node }
-        ensures same { result ≡ (node_at (nodes_in self.now.view.client.known) node).words }
-        ensures whole { E.holds result }
+    /// Writes the words of the entry of a node.
+    pub(crate) fn copy_words(&self, node: usize, entry: &mut [u64])
+        requires node { IsEntry (buckets_in self.now) (nodes_in self.now.view.client.known) node }
+        requires room { length entry.old ≡ self.now.view.client.plan.words }
+        ensures same { entry.new ≡ (node_at (nodes_in self.now.view.client.known) node).words }
+        ensures whole { E.holds entry.new }
     {
         let nodes = &self.nodes;
-        let mut words = [0u64; W];
-        for word in 0..W {
-            words[word] = nodes.word(node, word);
+        for word in 0..nodes.plan().words {
+            entry[word] = nodes.word(node, word);
         }
-        words
     }
 
-    /// The entry of this key, if there is one: no shared word is read. No entry has the key 0.
-    /// Costs a step for each node of its bucket up to there.
-    pub fn get(&self, key: u64) -> Option<E>
-        ensures there { IsSome result ↔ HasKey (buckets_in self.now)
+    /// As [`get`](Self::get), by words. Writes those of the entry, and returns whether there is
+    /// one.
+    pub fn get_words(&self, key: u64, entry: &mut [u64]) -> bool
+        requires room { length entry.old ≡ self.now.view.client.plan.words }
+        ensures there { IsTrue result ↔ HasKey (buckets_in self.now)
             (nodes_in self.now.view.client.known) key }
-        ensures found { IfSome result (λ entry.
-            IsEntryOf E.decode (buckets_in self.now) (nodes_in self.now.view.client.known) key
-            entry) }
-        ensures keyed { IfSome result (λ entry. E.key_of entry ≡ key) }
-        ensures sound { IfSome result (λ entry. E.valid entry) }
+        ensures found { result ≡ true → IsEntryOf as_words (buckets_in self.now)
+            (nodes_in self.now.view.client.known) key entry.new }
+        ensures whole { result ≡ true → E.holds entry.new }
+        ensures unchanged { result ≡ false → entry.new ≡ entry.old }
     {
-        let node = self.find(key)?;
-        Some(E::of_words(&self.words_of(node)))
+        let Some(node) = self.find(key) else {
+            return false;
+        };
+        self.copy_words(node, entry);
+        true
     }
 
     /// Whether there is an entry of this key.
@@ -192,5 +203,35 @@ impl<E: Entry<W>, const W: usize, P: Within<MapRule<E, W>>> MapKeeper<E, W, P> {
         let number = self.nodes.age();
         self.nodes.tends();
         number
+    }
+}
+
+impl<E: Entry<W>, const W: usize, P: Within<MapRule<E, W>>> MapKeeper<E, W, P> {
+    /// What a keeper of entries keeps: nothing is done. A caller learns the clause by the call.
+    pub(crate) fn keeps_width(&self)
+        ensures { self.now.view.client.plan.words ≡ W }
+    {
+        words_are_two::<E, W>();
+        // A borrow of a field shows the prover what the type keeps: how many words an entry has.
+        let _ = &self.nodes;
+    }
+
+    /// The entry of this key, if there is one: no shared word is read. No entry has the key 0.
+    /// Costs a step for each node of its bucket up to there.
+    pub fn get(&self, key: u64) -> Option<E>
+        ensures there { IsSome result ↔ HasKey (buckets_in self.now)
+            (nodes_in self.now.view.client.known) key }
+        ensures found { IfSome result (λ entry.
+            IsEntryOf E.decode (buckets_in self.now) (nodes_in self.now.view.client.known) key
+            entry) }
+        ensures keyed { IfSome result (λ entry. E.key_of entry ≡ key) }
+        ensures sound { IfSome result (λ entry. E.valid entry) }
+    {
+        self.keeps_width();
+        let mut words = [0; W];
+        if !self.get_words(key, &mut words) {
+            return None;
+        }
+        Some(E::of_words(&words))
     }
 }

@@ -22,6 +22,7 @@ ghost use Rattle.rcu_map.specs.declared.cursor.Cursor.{Cursor};
 
 use crate::entry::Entry;
 use crate::shape::MapShape;
+use rcu_graph::Invariant;
 use rcu_graph::laws::{
     found_keys_were_linked, hops_are_made_by_their_run, keys_found_over_a_run_were_linked,
     keys_linked_over_a_run_are_found, linked_keys_are_found, runs_are_histories,
@@ -60,11 +61,11 @@ pub fn linked_keys_are_listed()
 /// A key that is in the map when a section begins, and after each call of the keeper until its
 /// search ends, is found, whatever the calls are: so a section that searches a key that is replaced
 /// finds the old entry or the new one.
-pub fn keys_that_stay_are_found<E: Entry<W>, const W: usize>()
+pub fn keys_that_stay_are_found<E: Invariant, const W: usize>()
     ensures { (plan : Plan) (opened key : ℕ) (now : Watching Planned)
         (run : IsRun E.holds plan opened now) (was known : Known) (found : Option ℕ)
         (search : IsSearched (bucket_of plan.roots plan.seed key) key was found known) →
-        0 < plan.roots → plan.words ≡ W → 0 < key →
+        0 < plan.roots → 2 ≤ plan.words → 0 < key →
         HasKeyThroughout E.holds plan opened key now run →
         AreMadeBy (seen_in E.holds plan opened now run) (last_of E.holds plan opened now run)
         (search.last ∷ search.path) → IsSome found }
@@ -74,11 +75,11 @@ pub fn keys_that_stay_are_found<E: Entry<W>, const W: usize>()
 
 /// What a section finds was in the map at a moment of the section: the chain of its key's bucket
 /// led to it.
-pub fn found_keys_were_there<E: Entry<W>, const W: usize>()
+pub fn found_keys_were_there<E: Invariant, const W: usize>()
     ensures { (plan : Plan) (opened key : ℕ) (now : Watching Planned)
         (run : IsRun E.holds plan opened now) (was known : Known) (node : ℕ)
         (search : IsSearched (bucket_of plan.roots plan.seed key) key was (Some node) known) →
-        0 < plan.roots → plan.words ≡ W → 0 < key →
+        0 < plan.roots → 2 ≤ plan.words → 0 < key →
         AreMadeBy (seen_in E.holds plan opened now run) (last_of E.holds plan opened now run)
         (search.last ∷ search.path) →
         (t : ℕ) × (t ≤ last_of E.holds plan opened now run)
@@ -91,10 +92,10 @@ pub fn found_keys_were_there<E: Entry<W>, const W: usize>()
 /// A key that is in the map when a run begins, and after each of its calls, is found by a search
 /// that begins and ends in the run. The run is one of the shared words by atomic steps: the
 /// section's hops are its loads, and the keeper's calls are made of its steps.
-pub fn keys_that_stay_are_found_over_a_run<E: Entry<W>, const W: usize>()
+pub fn keys_that_stay_are_found_over_a_run<E: Invariant, const W: usize>()
     ensures { (plan : Plan) (opened key keeper seat from done last : ℕ) (moments : ℕ → Moment)
         (now : Watching Planned) (run : IsRun E.holds plan opened now) (found : Option ℕ) →
-        0 < plan.roots → plan.links ≡ 1 → plan.words ≡ W → 0 < key → from + done ≤ last →
+        0 < plan.roots → plan.links ≡ 1 → 2 ≤ plan.words → 0 < key → from + done ≤ last →
         IsMapOver E.holds plan keeper last moments →
         AreMadeOver E.holds plan opened moments last now run →
         HasKeyThroughout E.holds plan opened key now run →
@@ -106,10 +107,10 @@ pub fn keys_that_stay_are_found_over_a_run<E: Entry<W>, const W: usize>()
 }
 
 /// What a search in such a run finds was in the map when the run began, or after one of its calls.
-pub fn keys_found_over_a_run_were_there<E: Entry<W>, const W: usize>()
+pub fn keys_found_over_a_run_were_there<E: Invariant, const W: usize>()
     ensures { (plan : Plan) (opened key keeper seat from done last node : ℕ)
         (moments : ℕ → Moment) (now : Watching Planned) (run : IsRun E.holds plan opened now) →
-        0 < plan.roots → plan.links ≡ 1 → plan.words ≡ W → 0 < key → from + done ≤ last →
+        0 < plan.roots → plan.links ≡ 1 → 2 ≤ plan.words → 0 < key → from + done ≤ last →
         IsMapOver E.holds plan keeper last moments →
         AreMadeOver E.holds plan opened moments last now run →
         IsReadOver E.holds plan seat opened done (since from moments) →
@@ -121,11 +122,11 @@ pub fn keys_found_over_a_run_were_there<E: Entry<W>, const W: usize>()
 
 /// A key that stays in the map over such a run is among the entries that a listing's hops came to,
 /// which begins and ends in the run.
-pub fn keys_that_stay_are_listed_over_a_run<E: Entry<W>, const W: usize>()
+pub fn keys_that_stay_are_listed_over_a_run<E: Invariant, const W: usize>()
     ensures { (plan : Plan) (opened key keeper seat from done last : ℕ) (moments : ℕ → Moment)
         (now : Watching Planned) (run : IsRun E.holds plan opened now) (hops : List Hop)
         (at : Cursor) →
-        0 < plan.roots → plan.links ≡ 1 → plan.words ≡ W → 0 < key → from + done ≤ last →
+        0 < plan.roots → plan.links ≡ 1 → 2 ≤ plan.words → 0 < key → from + done ≤ last →
         IsMapOver E.holds plan keeper last moments →
         AreMadeOver E.holds plan opened moments last now run →
         HasKeyThroughout E.holds plan opened key now run →
@@ -150,7 +151,7 @@ pub fn no_key_that_stays_is_passed_over<E: Entry<W>, const W: usize>()
     ensures { (plan : Plan) (opened key stays keeper seat from done last : ℕ)
         (moments : ℕ → Moment) (now : Watching Planned) (run : IsRun E.holds plan opened now)
         (next : Option E) →
-        0 < plan.roots → plan.links ≡ 1 → plan.words ≡ W → 0 < stays → from + done ≤ last →
+        0 < plan.roots → plan.links ≡ 1 → 2 ≤ plan.words → 0 < stays → from + done ≤ last →
         IsMapOver E.holds plan keeper last moments →
         AreMadeOver E.holds plan opened moments last now run →
         HasKeyThroughout E.holds plan opened stays now run →

@@ -26,7 +26,7 @@ pub use entries::Entries;
 pub use entry::Entry;
 pub use keeper::MapKeeper;
 pub use map::Map;
-pub use opening::Opened;
+pub use opening::{Opened, make_plan};
 pub use put::{NotPut, Put};
 pub use shape::{MapRule, MapSeat, MapShape, MapWatcher};
 pub use updater::Updater;

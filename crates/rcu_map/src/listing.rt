@@ -11,12 +11,13 @@ ghost use Rattle.rcu_map.specs.Listed.{Listed, listing};
 
 use crate::cursor::Cursor;
 use crate::entries::Entries;
-use crate::entry::{Entry, words_are_two};
+use crate::entry::Entry;
 use crate::map::Map;
 use crate::shape::{MapRule, MapSeat};
+use rcu_graph::Invariant;
 use rcu_live::Within;
 
-impl<E: Entry<W>, const W: usize, P: Within<MapRule<E, W>>> Map<E, W, P> {
+impl<E: Invariant, const W: usize, P: Within<MapRule<E, W>>> Map<E, W, P> {
     /// Goes on from a cursor by one hop, and returns where that led: to a node, or to the root of
     /// the next bucket, where it led nowhere.
     pub(crate) fn step(&self, seat: &mut MapSeat<E, W, P>, at: Cursor) -> Cursor
@@ -27,7 +28,6 @@ impl<E: Entry<W>, const W: usize, P: Within<MapRule<E, W>>> Map<E, W, P> {
         ensures others { seat.new ≡ after_word_step seat.old
             (P.lens.set seat.old.view.client (P.lens.get seat.new.view.client)) }
     {
-        words_are_two::<E, W>();
         self.plan();
         let Some(node) = self.graph.follow(seat, self.row(), at.node, 0) else {
             return Cursor::at_root(at.bucket + 1);
@@ -39,7 +39,9 @@ impl<E: Entry<W>, const W: usize, P: Within<MapRule<E, W>>> Map<E, W, P> {
             key,
         }
     }
+}
 
+impl<E: Entry<W>, const W: usize, P: Within<MapRule<E, W>>> Map<E, W, P> {
     /// The entry that a node has, by a load a word.
     pub(crate) fn entry_at(&self, seat: &mut MapSeat<E, W, P>, node: usize, key: u64) -> E
         requires { IsOnEntry E.holds self.now (seat_part P.lens seat.old) node key }
@@ -50,7 +52,10 @@ impl<E: Entry<W>, const W: usize, P: Within<MapRule<E, W>>> Map<E, W, P> {
             result ≡ E.decode words }
         ensures sound { E.valid result }
     {
-        E::of_words(&self.words_at(seat, node, key))
+        self.keeps_width();
+        let mut words = [0; W];
+        self.read_words(seat, node, key, &mut words);
+        E::of_words(&words)
     }
 
     /// Goes on from a cursor to the next entry. None tells that no bucket has a further one.

@@ -1,6 +1,6 @@
 //! A map: what a section reads of it, without a lock, a wait or a store.
 ghost use Rattle.std.specs.Prelude.{◌≡◌, ◌≤◌, ◌<◌, ◌+◌, ◌^◌, ℕ, IfOk, IfSome, List, None, false};
-ghost use Rattle.std.specs.Prelude.{is_some};
+ghost use Rattle.std.specs.Prelude.{is_some, length, true};
 ghost use Rattle.std.specs.Arc.{arc_value};
 ghost use Rattle.rcu_live.specs.CpuSeat.{after_word_step};
 ghost use Rattle.rcu_live.specs.InPart.{engine_part, seat_part};
@@ -10,11 +10,12 @@ ghost use Rattle.rcu_graph.specs.Opening.{row_of};
 ghost use Rattle.rcu_graph.specs.Search.{IsFound, IsSearched};
 ghost use Rattle.rcu_map.specs.Found.{IsGot, IsLookedUp};
 ghost use Rattle.rcu_map.specs.Keys.{IsWhole, bucket_of, key_in, root_words};
+ghost use Rattle.rcu_map.specs.Words.{as_words, words_if};
 
 use crate::bucket::bucket_of;
-use crate::entry::Entry;
+use crate::entry::{Entry, words_are_two};
 use crate::shape::{MapRule, MapSeat, MapShape};
-use rcu_graph::{Graph, Plan, Row};
+use rcu_graph::{Graph, Invariant, Plan, Row};
 use rcu_live::{Alone, Board, Within};
 use std::alloc::{AllocError, Global};
 use std::marker::Model;
@@ -23,13 +24,16 @@ use std::sync::Arc;
 /// Entries among the shared words of a running engine: a chain a bucket, whose keys go up. With one
 /// bucket it is a sorted list. The map is the client of the engine, or one of several, at the place
 /// `P`.
+///
+/// An entry has `W` words. Where `W` is 0, the map's plan says at run time how many they are: then
+/// an entry is read and put in by its words.
 #[derive(Drop)]
-pub struct Map<E: Entry<W>, const W: usize, P: Within<MapRule<E, W>> = Alone> {
+pub struct Map<E: Invariant, const W: usize, P: Within<MapRule<E, W>> = Alone> {
     pub(crate) graph: Graph<MapShape<E, W>, P>,
 }
 
-impl<E: Entry<W>, const W: usize, P: Within<MapRule<E, W>>> Model for Map<E, W, P> {
-    ghost use Rattle.std.specs.Prelude.{◌≡◌, ◌<◌};
+impl<E: Invariant, const W: usize, P: Within<MapRule<E, W>>> Model for Map<E, W, P> {
+    ghost use Rattle.std.specs.Prelude.{◌≡◌, ◌<◌, ◌≤◌};
     ghost use Rattle.rcu_live.specs.Board.{Object};
     ghost use Rattle.rcu_graph.specs.declared.plan.Plan.{Plan};
 
@@ -40,16 +44,18 @@ impl<E: Entry<W>, const W: usize, P: Within<MapRule<E, W>>> Model for Map<E, W, 
     ghost invariant = { λ map. record {
       some : 0 < map.graph.plan.roots;
       one : map.graph.plan.links ≡ 1;
-      words : map.graph.plan.words ≡ W;
+      wide : 2 ≤ map.graph.plan.words;
+      words : 0 < W → map.graph.plan.words ≡ W;
     } };
 }
 
-impl<E: Entry<W>, const W: usize, P: Within<MapRule<E, W>>> Map<E, W, P> {
+impl<E: Invariant, const W: usize, P: Within<MapRule<E, W>>> Map<E, W, P> {
     /// A map over a graph of one link a node, whose roots are those of the buckets.
     pub fn over(graph: Graph<MapShape<E, W>, P>) -> Map<E, W, P>
         requires some { 0 < graph.plan.roots }
         requires one { graph.plan.links ≡ 1 }
-        requires words { graph.plan.words ≡ W }
+        requires wide { 2 ≤ graph.plan.words }
+        requires words { 0 < W → graph.plan.words ≡ W }
         ensures { result ≡ graph }
     {
         Map { graph }
@@ -61,8 +67,9 @@ impl<E: Entry<W>, const W: usize, P: Within<MapRule<E, W>>> Map<E, W, P> {
         ensures some { 0 < self.now.plan.roots }
         ensures roots { self.now.plan.roots ≤ self.now.plan.nodes }
         ensures one { self.now.plan.links ≡ 1 }
-        ensures words { self.now.plan.words ≡ W }
-        ensures row { 1 + W < 2 ^ 64 }
+        ensures wide { 2 ≤ self.now.plan.words }
+        ensures words { 0 < W → self.now.plan.words ≡ W }
+        ensures row { 1 + self.now.plan.words < 2 ^ 64 }
     {
         // A borrow of a field shows the prover what the type keeps.
         let graph = &self.graph;
@@ -94,32 +101,40 @@ impl<E: Entry<W>, const W: usize, P: Within<MapRule<E, W>>> Map<E, W, P> {
         &self.graph
     }
 
-    /// The row of each node, by constants: what waits for a load multiplies by no other number.
+    /// The row of each node, by constants where `W` is one: what waits for a load multiplies by no
+    /// other number.
     pub(crate) fn row(&self) -> Row
         ensures { result ≡ row_of self.now.plan }
     {
         // A borrow of a field shows the prover what the type keeps: that a node has one link.
-        let _ = &self.graph;
-        Row { links: 1, words: W }
+        let graph = &self.graph;
+        let words = if W > 0 { W } else { graph.plan().words };
+        Row { links: 1, words }
     }
 
-    /// The words of the node that the section is on, whose key was read: by a load each of the
-    /// others.
-    pub(crate) fn words_at(&self, seat: &mut MapSeat<E, W, P>, node: usize, key: u64) -> [u64; W]
+    /// Writes the words of the node that the section is on, whose key was read: by a load each of
+    /// the others.
+    pub(crate) fn read_words(
+        &self,
+        seat: &mut MapSeat<E, W, P>,
+        node: usize,
+        key: u64,
+        entry: &mut [u64],
+    )
         requires at { IsAt (root_words self.now.plan.words) self.now (seat_part P.lens seat.old)
             node }
+        requires room { length entry.old ≡ self.now.plan.words }
         ensures same { seat.new ≡ seat.old }
         ensures told { (words : List ℕ) →
             IsOn (root_words self.now.plan.words) self.now.plan.roots
             (P.lens.get seat.old.view.client).known node words →
-            IsWhole E.holds self.now.plan.words words → key_in words ≡ key → result ≡ words }
+            IsWhole E.holds self.now.plan.words words → key_in words ≡ key → entry.new ≡ words }
     {
-        self.plan();
-        let mut words = [key; W];
-        for word in 1..W {
-            words[word] = self.graph.read(seat, self.row(), node, word);
+        let words = self.plan().words;
+        entry[0] = key;
+        for word in 1..words {
+            entry[word] = self.graph.read(seat, self.row(), node, word);
         }
-        words
     }
 
     /// The node that has the entry of this key. No entry has the key 0.
@@ -146,6 +161,52 @@ impl<E: Entry<W>, const W: usize, P: Within<MapRule<E, W>>> Map<E, W, P> {
         self.graph.find(seat, self.row(), bucket, key)
     }
 
+    /// As [`get`](Self::get), by words. Writes those of the entry, and returns whether there is
+    /// one.
+    pub fn get_words(&self, seat: &mut MapSeat<E, W, P>, key: u64, entry: &mut [u64]) -> bool
+        requires walking { IsWalking self.now (seat_part P.lens seat.old) }
+        requires room { length entry.old ≡ self.now.plan.words }
+        ensures same { seat.new ≡ after_word_step seat.old
+            (P.lens.set seat.old.view.client (P.lens.get seat.new.view.client)) }
+        ensures walking { IsWalking self.now (seat_part P.lens seat.new) }
+        ensures got { 0 < key → IsGot E.holds as_words self.now.plan.roots self.now.plan.seed key
+            (P.lens.get seat.old.view.client).known (words_if result entry.new)
+            (P.lens.get seat.new.view.client).known }
+        ensures none { key ≡ 0 → result ≡ false }
+        ensures keyed { result ≡ true → key_in entry.new ≡ key }
+        ensures whole { result ≡ true → E.holds entry.new }
+        ensures unchanged { result ≡ false → entry.new ≡ entry.old }
+    {
+        let Some(node) = self.find(seat, key) else {
+            return false;
+        };
+        self.read_words(seat, node, key, entry);
+        true
+    }
+
+    /// Whether the section finds an entry of this key, as [`get`](Self::get) does.
+    pub fn contains(&self, seat: &mut MapSeat<E, W, P>, key: u64) -> bool
+        requires walking { IsWalking self.now (seat_part P.lens seat.old) }
+        ensures same { seat.new ≡ after_word_step seat.old
+            (P.lens.set seat.old.view.client (P.lens.get seat.new.view.client)) }
+        ensures walking { IsWalking self.now (seat_part P.lens seat.new) }
+        ensures searched { 0 < key → IsLookedUp self.now.plan.roots self.now.plan.seed key
+            (P.lens.get seat.old.view.client).known result (P.lens.get seat.new.view.client).known }
+        ensures none { key ≡ 0 → result ≡ false }
+    {
+        self.find(seat, key).is_some()
+    }
+}
+
+impl<E: Entry<W>, const W: usize, P: Within<MapRule<E, W>>> Map<E, W, P> {
+    /// What a map of entries keeps: nothing is done. A caller learns the clause by the call.
+    pub(crate) fn keeps_width(&self)
+        ensures { self.now.plan.words ≡ W }
+    {
+        words_are_two::<E, W>();
+        self.plan();
+    }
+
     /// The entry of this key, by two loads for each node of its bucket up to there, and one for
     /// each word of it but the key. It ends, whatever the keeper does meanwhile. No entry has the
     /// key 0.
@@ -160,20 +221,11 @@ impl<E: Entry<W>, const W: usize, P: Within<MapRule<E, W>>> Map<E, W, P> {
         ensures keyed { IfSome result (λ entry. E.key_of entry ≡ key) }
         ensures sound { IfSome result (λ entry. E.valid entry) }
     {
-        let node = self.find(seat, key)?;
-        Some(E::of_words(&self.words_at(seat, node, key)))
-    }
-
-    /// Whether the section finds an entry of this key, as [`get`](Self::get) does.
-    pub fn contains(&self, seat: &mut MapSeat<E, W, P>, key: u64) -> bool
-        requires walking { IsWalking self.now (seat_part P.lens seat.old) }
-        ensures same { seat.new ≡ after_word_step seat.old
-            (P.lens.set seat.old.view.client (P.lens.get seat.new.view.client)) }
-        ensures walking { IsWalking self.now (seat_part P.lens seat.new) }
-        ensures searched { 0 < key → IsLookedUp self.now.plan.roots self.now.plan.seed key
-            (P.lens.get seat.old.view.client).known result (P.lens.get seat.new.view.client).known }
-        ensures none { key ≡ 0 → result ≡ false }
-    {
-        self.find(seat, key).is_some()
+        self.keeps_width();
+        let mut words = [0; W];
+        if !self.get_words(seat, key, &mut words) {
+            return None;
+        }
+        Some(E::of_words(&words))
     }
 }

@@ -1,10 +1,11 @@
 //! The opening of a map.
-ghost use Rattle.std.specs.Prelude.{◌≡◌, ◌↔◌, ◌+◌, ◌*◌, ◌^◌, ◌<◌, Err, IfErr, IfOk, OnErr, OnOk};
+ghost use Rattle.std.specs.Prelude.{◌≡◌, ◌↔◌, ◌+◌, ◌*◌, ◌^◌, ◌<◌, ◌≤◌, Err, IfErr, IfOk};
+ghost use Rattle.std.specs.Prelude.{OnErr, OnOk};
 ghost use Rattle.rcu_geometry.specs.Opening.{opening_refusal};
 ghost use Rattle.rcu_live.specs.Opening.{AreDealt, AreFanouts, engine_at_first};
 ghost use Rattle.rcu_graph.specs.Keeper.{IsKeeperOf};
 ghost use Rattle.rcu_graph.specs.Nodes.{first_place};
-ghost use Rattle.rcu_graph.specs.Opening.{keeper_at_first, tested_opening};
+ghost use Rattle.rcu_graph.specs.Opening.{IsSized, keeper_at_first, tested_opening};
 ghost use Rattle.rcu_graph.specs.Planned.{of_plan};
 ghost use Rattle.rcu_graph.specs.declared.known.Known.TheVariants.{Idle};
 ghost use Rattle.rcu_graph.specs.declared.not_opened.NotOpened.{NotOpened};
@@ -12,11 +13,11 @@ ghost use Rattle.rcu_map.specs.Chains.{HasSizes, plan_of_map};
 ghost use Rattle.rcu_map.specs.Keys.{root_words};
 
 use crate::bucket::multiplier_of;
-use crate::entry::Entry;
+use crate::entry::{Entry, words_are_two};
 use crate::keeper::MapKeeper;
 use crate::map::Map;
 use crate::shape::{MapRule, MapSeat, MapShape, MapWatcher};
-use rcu_graph::{Graph, NotOpened, Plan, UnlockedEngine};
+use rcu_graph::{Graph, Invariant, NotOpened, Plan, UnlockedEngine};
 use rcu_live::Live;
 use rcu_seq::Fault;
 use std::alloc::Global;
@@ -24,7 +25,7 @@ use std::sync::Arc;
 
 /// A map as it is opened, with its engine.
 #[derive(Drop)]
-pub struct Opened<L: Drop, E: Entry<W>, const W: usize> {
+pub struct Opened<L: Drop, E: Invariant, const W: usize> {
     /// The engine, which threads share, or which is under no lock. Somebody has to drive it.
     pub live: L,
     /// The map, which its seats read.
@@ -37,29 +38,74 @@ pub struct Opened<L: Drop, E: Entry<W>, const W: usize> {
     pub keeper: MapKeeper<E, W>,
 }
 
-/// The plan of a map of so many buckets and nodes, and of this seed.
+/// The plan of a map of so many buckets, words an entry and nodes, and of this seed.
 ///
-/// Fault: `BadSizes` for no bucket.
-pub(crate) fn make_plan<const W: usize>(
-    buckets: usize,
-    nodes: usize,
-    seed: u64,
-) -> Result<Plan, NotOpened>
-    ensures plan { IfOk result (λ plan. plan ≡ plan_of_map buckets W nodes seed) }
+/// It is `BadSizes` for no bucket, or fewer than two words.
+pub fn make_plan(buckets: usize, words: usize, nodes: usize, seed: u64) -> Result<Plan, NotOpened>
+    ensures plan { IfOk result (λ plan. plan ≡ plan_of_map buckets words nodes seed) }
     ensures some { OnOk result (0 < buckets) }
+    ensures wide { OnOk result (2 ≤ words) }
     ensures fault { IfErr result (λ fault. fault ≡ NotOpened.BadSizes) }
-    ensures none { OnErr result (buckets ≡ 0) }
+    ensures none { OnErr result (¬ HasSizes buckets words nodes) }
 {
-    if buckets == 0 {
+    if buckets == 0 || words < 2 {
         return Err(NotOpened::BadSizes);
     }
     Ok(Plan {
         roots: buckets,
         links: 1,
-        words: W,
+        words,
         nodes,
         seed: multiplier_of(seed),
     })
+}
+
+impl<E: Invariant, const W: usize> Map<E, W> {
+    /// As [`open_unlocked`](Self::open_unlocked), by a plan.
+    pub fn open_planned<const LEAF: u32, const FAN: u32, T: Drop>(
+        alloc: Global,
+        cpus: u32,
+        last: u64,
+        plan: Plan,
+    ) -> Result<Opened<UnlockedEngine<LEAF, FAN, T, MapShape<E, W>>, E, W>, NotOpened>
+        requires fanouts { AreFanouts LEAF FAN }
+        requires buckets { 0 < plan.roots }
+        requires one { plan.links ≡ 1 }
+        requires wide { 2 ≤ plan.words }
+        requires words { 0 < W → plan.words ≡ W }
+        ensures bad_sizes { (result ≡ Err NotOpened.BadSizes) ↔ ¬ IsSized plan }
+        ensures fault { IsSized plan →
+            tested_opening result ≡ opening_refusal LEAF FAN cpus last }
+        ensures dealt { IfOk result (λ opened. AreDealt cpus last (2 ^ 62)
+            (first_place + (1 + plan.words) * plan.nodes) (of_plan opened.map.plan Idle) opened.map
+            opened.seats.items opened.watchers.items) }
+        ensures plan { IfOk result (λ opened. opened.map.plan ≡ plan) }
+        ensures engine { IfOk result (λ opened. opened.live ≡ engine_at_first
+            opened.map.table cpus last (2 ^ 62) (of_plan opened.map.plan Idle)) }
+        ensures keeper { IfOk result (λ opened. IsKeeperOf opened.map opened.keeper) }
+        ensures own { IfOk result (λ opened.
+            opened.keeper ≡ keeper_at_first (root_words plan.words) opened.map.table cpus plan) }
+    {
+        let opened = Graph::open_unlocked::<LEAF, FAN, T>(alloc, cpus, last, plan)?;
+        let rcu_graph::Opened {
+            live,
+            graph,
+            seats,
+            watchers,
+            own,
+        } = opened;
+        let map = Map::over(graph);
+        let Ok(keeper) = MapKeeper::new(alloc, &map, own) else {
+            return Err(NotOpened::Fault(Fault::NoMemory));
+        };
+        Ok(Opened {
+            live,
+            map,
+            seats,
+            watchers,
+            keeper,
+        })
+    }
 }
 
 impl<E: Entry<W>, const W: usize> Map<E, W> {
@@ -138,25 +184,8 @@ impl<E: Entry<W>, const W: usize> Map<E, W> {
             opened.keeper ≡ keeper_at_first (root_words W) opened.map.table cpus
             (plan_of_map buckets W nodes seed)) }
     {
-        let plan = make_plan::<W>(buckets, nodes, seed)?;
-        let opened = Graph::open_unlocked::<LEAF, FAN, T>(alloc, cpus, last, plan)?;
-        let rcu_graph::Opened {
-            live,
-            graph,
-            seats,
-            watchers,
-            own,
-        } = opened;
-        let map = Map::over(graph);
-        let Ok(keeper) = MapKeeper::new(alloc, &map, own) else {
-            return Err(NotOpened::Fault(Fault::NoMemory));
-        };
-        Ok(Opened {
-            live,
-            map,
-            seats,
-            watchers,
-            keeper,
-        })
+        words_are_two::<E, W>();
+        let plan = make_plan(buckets, W, nodes, seed)?;
+        Map::open_planned::<LEAF, FAN, T>(alloc, cpus, last, plan)
     }
 }

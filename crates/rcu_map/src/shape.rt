@@ -1,7 +1,6 @@
 //! The facts that the nodes of a map meet, and the seats of its engine.
-use crate::entry::Entry;
 use rcu_graph::rule::GraphRule;
-use rcu_graph::{GraphSeat, GraphWatcher, Plan, Shape};
+use rcu_graph::{GraphSeat, GraphWatcher, Invariant, Plan, Shape};
 use rcu_live::Alone;
 use std::marker::PhantomData;
 
@@ -11,7 +10,7 @@ pub struct MapShape<E, const W: usize> {
     entry: PhantomData<E>,
 }
 
-impl<E: Entry<W>, const W: usize> Shape for MapShape<E, W> {
+impl<E: Invariant, const W: usize> Shape for MapShape<E, W> {
     ghost use Rattle.rcu_map.specs.Keys.{GoesUp, IsWhole, root_words};
 
     ghost fits = { λ plan. IsWhole E.holds plan.words };

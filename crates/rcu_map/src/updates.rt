@@ -1,5 +1,6 @@
 //! What a map's keeper does to its entries, by one store each.
-ghost use Rattle.std.specs.Prelude.{◌≡◌, IfNone, IsSome, MatchResult, None, Some, false, true};
+ghost use Rattle.std.specs.Prelude.{◌≡◌, ◌≢◌, ◌<◌, IfNone, IsSome, MatchResult, None, Ok, Some};
+ghost use Rattle.std.specs.Prelude.{false, length, true};
 ghost use Rattle.rcu_graph.specs.Graph.{IsOfSameGraph};
 ghost use Rattle.rcu_graph.specs.Nodes.{nodes_in};
 ghost use Rattle.rcu_map.specs.Chains.{buckets_in, seed_in};
@@ -7,6 +8,7 @@ ghost use Rattle.rcu_map.specs.Entries.{IsRemoved};
 ghost use Rattle.rcu_map.specs.Keys.{key_in};
 ghost use Rattle.rcu_map.specs.Puts.{HasAnswered, HasChanged, Holds, IsPutIn};
 ghost use Rattle.rcu_map.specs.Splices.{IsPlace};
+ghost use Rattle.rcu_map.specs.Words.{answered, as_words, words_if};
 ghost use Rattle.rcu_graph.specs.Puts.{IsFull};
 ghost use Rattle.rcu_map.specs.declared.put.Put.{Put};
 
@@ -15,13 +17,15 @@ use crate::keeper::MapKeeper;
 use crate::links::pass;
 use crate::put::Put;
 use crate::shape::MapRule;
-use rcu_graph::Full;
+use rcu_graph::{Full, Invariant};
 use rcu_live::Within;
 
-impl<E: Entry<W>, const W: usize, P: Within<MapRule<E, W>>> MapKeeper<E, W, P> {
+impl<E: Invariant, const W: usize, P: Within<MapRule<E, W>>> MapKeeper<E, W, P> {
     /// Puts an entry of these words behind the node where its key belongs, which no entry has.
-    fn put_behind(&mut self, previous: usize, words: &[u64; W]) -> Result<(), Full>
+    fn put_behind(&mut self, previous: usize, words: &[u64]) -> Result<(), Full>
         requires whole { E.holds words.now }
+        requires keyed { 0 < key_in words.now }
+        requires sized { length words.now ≡ self.old.view.client.plan.words }
         requires place { IsPlace (buckets_in self.old) (seed_in self.old) (key_in words.now)
             (nodes_in self.old.view.client.known)
             previous None }
@@ -39,8 +43,10 @@ impl<E: Entry<W>, const W: usize, P: Within<MapRule<E, W>>> MapKeeper<E, W, P> {
 
     /// Puts an entry of these words in the place of the old one that has its key, behind this node,
     /// and returns its node.
-    fn put_over(&mut self, previous: usize, old: usize, words: &[u64; W]) -> Result<usize, Full>
+    fn put_over(&mut self, previous: usize, old: usize, words: &[u64]) -> Result<usize, Full>
         requires whole { E.holds words.now }
+        requires keyed { 0 < key_in words.now }
+        requires sized { length words.now ≡ self.old.view.client.plan.words }
         requires place { IsPlace (buckets_in self.old) (seed_in self.old) (key_in words.now)
             (nodes_in self.old.view.client.known)
             previous (Some old) }
@@ -53,6 +59,67 @@ impl<E: Entry<W>, const W: usize, P: Within<MapRule<E, W>>> MapKeeper<E, W, P> {
         self.nodes.put(previous, words, next)
     }
 
+    /// As [`put`](Self::put), by words. Writes those of the entry that had the key, and returns
+    /// whether there is one.
+    pub fn put_words(&mut self, how: Put, words: &[u64], old: &mut [u64]) -> Result<bool, Full>
+        requires whole { E.holds words.now }
+        requires keyed { 0 < key_in words.now }
+        requires sized { length words.now ≡ self.old.view.client.plan.words }
+        requires room { length old.old ≡ self.old.view.client.plan.words }
+        ensures put { HasAnswered as_words E.holds key_in how (key_in words.now) words.now self.old
+            (answered result old.new) self.new }
+        ensures unchanged { result ≢ Ok true → old.new ≡ old.old }
+    {
+        let place = self.place_of(words[0]);
+        let Some(node) = place.node else {
+            if how.puts(false) {
+                self.put_behind(place.previous, words)?;
+            }
+            return Ok(false);
+        };
+        if !how.puts(true) {
+            self.copy_words(node, old);
+            return Ok(true);
+        }
+        self.nodes.free_node()?;
+        self.copy_words(node, old);
+        let Ok(_) = self.put_over(place.previous, node, words) else {
+            unreachable!()
+        };
+        Ok(true)
+    }
+
+    /// As [`remove`](Self::remove), by words. Writes those of the entry, and returns whether there
+    /// was one.
+    pub fn remove_words(&mut self, key: u64, old: &mut [u64]) -> bool
+        requires room { length old.old ≡ self.old.view.client.plan.words }
+        ensures same { IsOfSameGraph self.old self.new }
+        ensures old { Holds as_words E.holds key_in (buckets_in self.old)
+            (nodes_in self.old.view.client.known)
+            key (words_if result old.new) }
+        ensures removed { result ≡ true →
+            HasChanged (λ before after. IsRemoved (buckets_in self.old) before key after) self.old
+            self.new }
+        ensures unchanged { result ≡ false → self.new ≡ self.old }
+        ensures left { result ≡ false → old.new ≡ old.old }
+    {
+        // A borrow of a field shows the prover what the type keeps: that an entry has a key.
+        let _ = &self.nodes;
+        if key == 0 {
+            return false;
+        }
+        let place = self.place_of(key);
+        let Some(node) = place.node else {
+            return false;
+        };
+        self.copy_words(node, old);
+        pass(&mut self.nodes, place.previous, node);
+        self.len -= 1;
+        true
+    }
+}
+
+impl<E: Entry<W>, const W: usize, P: Within<MapRule<E, W>>> MapKeeper<E, W, P> {
     /// Puts an entry in so, by one store, and returns the one that had its key. `Full` tells that
     /// the entry needs a node, and that none is free. Costs a step for each node of its bucket up
     /// to there.
@@ -61,19 +128,12 @@ impl<E: Entry<W>, const W: usize, P: Within<MapRule<E, W>>> MapKeeper<E, W, P> {
         ensures { HasAnswered E.decode E.valid E.key_of how (E.key_of entry)
             (E.in_words entry) self.old result self.new }
     {
-        let words = entry.to_words();
-        let place = self.place_of(entry.key());
-        let Some(node) = place.node else {
-            if how.puts(false) {
-                self.put_behind(place.previous, &words)?;
-            }
-            return Ok(None);
-        };
-        let old = E::of_words(&self.words_of(node));
-        if how.puts(true) {
-            self.put_over(place.previous, node, &words)?;
+        self.keeps_width();
+        let mut old = [0; W];
+        if self.put_words(how, &entry.to_words(), &mut old)? {
+            return Ok(Some(E::of_words(&old)));
         }
-        Ok(Some(old))
+        Ok(None)
     }
 
     /// Puts an entry in, by one store, where none has its key. Returns the one that has it: then
@@ -120,18 +180,11 @@ impl<E: Entry<W>, const W: usize, P: Within<MapRule<E, W>>> MapKeeper<E, W, P> {
             self.new }
         ensures unchanged { IfNone result (self.new ≡ self.old) }
     {
-        // A borrow of a field shows the prover what the type keeps: that an entry has a key.
-        let _ = &self.nodes;
-        if key == 0 {
+        self.keeps_width();
+        let mut old = [0; W];
+        if !self.remove_words(key, &mut old) {
             return None;
         }
-        let place = self.place_of(key);
-        let Some(old) = place.node else {
-            return None;
-        };
-        let entry = E::of_words(&self.words_of(old));
-        pass(&mut self.nodes, place.previous, old);
-        self.len -= 1;
-        Some(entry)
+        Some(E::of_words(&old))
     }
 }

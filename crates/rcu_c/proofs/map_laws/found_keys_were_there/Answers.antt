@@ -1,4 +1,4 @@
-use Rattle.std.proofs.Common.{ℕ, ◌+◌, Option, Some, subst}
+use Rattle.std.proofs.Common.{ℕ, ◌+◌, Option, Some, arith, subst}
 use Rattle.rcu_graph.specs.Search.{IsSearched}
 use Rattle.rcu_graph.specs.declared.known.Known.{Known}
 use Rattle.rcu_graph.specs.declared.plan.Plan.{Plan}
@@ -8,11 +8,12 @@ use Rattle.rcu_c.proofs.MapLaws.{node_told}
 use Rattle.rcu_c.proofs.map_laws.found_keys_were_there.Goals as goal
 
 pub returns : goal.returns
-returns c = λ plan opened key keeper id from done last moments now run before after entry some one
-    width up early kept made walks between keyed.
+returns c = λ plan opened key keeper id from done last moments now run before after room entry some
+    one width up early kept made walks between keyed.
     let got = between.got in
     let is = got.got up in
-    let node = node_told key (known_of after) is.node got.found entry is.told got.is_told keyed in
+    let node = node_told key (known_of after) is.node got.found room entry is.told
+    (let sized = between.sized in omega (arith, sized, width)) got.is_told keyed in
     let Searches : Plan → Known → Known → Option ℕ → Type 0 =
     λ p was known n. IsSearched (bucket_of p.roots p.seed key) key was n known in
     c.keys_found_over_a_run_were_there.ensures plan opened key keeper id from done last node.0

@@ -6,8 +6,7 @@ use Rattle.rcu_map.proofs.laws.found_keys_were_there.Goals as goal
 
 pub returns : goal.returns
 returns g c = λ plan opened key now run was known node search some width up made.
-    let room = g.met.E.Entry.roomy in
-    let wide : 1 < plan.words = omega (arith, width, room) in
+    let wide : 1 < plan.words = omega (arith, width) in
     let start = bucket_of plan.roots plan.seed key in
     c.found_keys_were_linked.ensures (is_of plan.roots plan.seed start) opened start key
     (last_of g.E.Invariant.holds plan opened now run)

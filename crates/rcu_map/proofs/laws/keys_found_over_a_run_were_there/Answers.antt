@@ -10,8 +10,7 @@ use Rattle.rcu_map.proofs.laws.keys_found_over_a_run_were_there.Goals as goal
 pub returns : goal.returns
 returns g c = λ plan opened key keeper seat from done last node moments now run some one width up
     early kept made walks search.
-    let room = g.met.E.Entry.roomy in
-    let wide : 1 < plan.words = omega (arith, width, room) in
+    let wide : 1 < plan.words = omega (arith, width) in
     let start = bucket_of plan.roots plan.seed key in
     let was = c.keys_found_over_a_run_were_linked.ensures plan (is_of plan.roots plan.seed start)
     start key keeper seat opened done node (since from moments)

@@ -6,8 +6,7 @@ use Rattle.rcu_map.proofs.laws.keys_that_stay_are_found.Goals as goal
 
 pub returns : goal.returns
 returns g c = λ plan opened key now run was known found search some width up has made.
-    let room = g.met.E.Entry.roomy in
-    let wide : 1 < plan.words = omega (arith, width, room) in
+    let wide : 1 < plan.words = omega (arith, width) in
     let start = bucket_of plan.roots plan.seed key in
     c.linked_keys_are_found.ensures (is_of plan.roots plan.seed start) opened start key
     (last_of g.E.Invariant.holds plan opened now run)

@@ -10,8 +10,7 @@ use Rattle.rcu_map.proofs.laws.keys_that_stay_are_found_over_a_run.Goals as goal
 pub returns : goal.returns
 returns g c = λ plan opened key keeper seat from done last moments now run found some one width up
     early kept made has walks search.
-    let room = g.met.E.Entry.roomy in
-    let wide : 1 < plan.words = omega (arith, width, room) in
+    let wide : 1 < plan.words = omega (arith, width) in
     let start = bucket_of plan.roots plan.seed key in
     c.keys_linked_over_a_run_are_found.ensures plan (is_of plan.roots plan.seed start) start key
     keeper seat opened done (since from moments) found

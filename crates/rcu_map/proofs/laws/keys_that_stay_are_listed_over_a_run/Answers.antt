@@ -12,8 +12,7 @@ use Rattle.rcu_map.proofs.laws.keys_that_stay_are_listed_over_a_run.Goals as goa
 pub returns : goal.returns
 returns g c = λ plan opened key keeper seat from done last moments now run hops at some one width up
     early kept made has walks are goes ended.
-    let room = g.met.E.Entry.roomy in
-    let wide : 1 < plan.words = omega (arith, width, room) in
+    let wide : 1 < plan.words = omega (arith, width) in
     let start = bucket_of plan.roots plan.seed key in
     let short = part g.E.Invariant.holds plan opened key keeper last moments some one wide up kept
     from done early now run made in

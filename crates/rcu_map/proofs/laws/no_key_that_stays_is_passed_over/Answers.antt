@@ -15,8 +15,7 @@ use Rattle.rcu_map.proofs.laws.no_key_that_stays_is_passed_over.Goals as goal
 pub returns : goal.returns
 returns g c = λ plan opened key stays keeper seat from done last moments now run next some one width
     up early kept made has walks behind is_next.
-    let room = g.met.E.Entry.roomy in
-    let wide : 1 < plan.words = omega (arith, width, room) in
+    let wide : 1 < plan.words = omega (arith, width) in
     let start = bucket_of plan.roots plan.seed stays in
     let short = part g.E.Invariant.holds plan opened stays keeper last moments some one wide up kept
     from done early now run made in

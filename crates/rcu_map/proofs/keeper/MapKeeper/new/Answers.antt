@@ -29,7 +29,6 @@ pub invariant_of-result : goal.invariant_of-result
 invariant_of-result g c =
     let back = sym c.map.view_is in
     let k = c.map.invariant in
-    let room = g.met.E.Entry.roomy in
     let kept = c.in_ok-nodes.ensures in
     let p : Plan = c.map.inside.graph.plan in
     let nodes : List Node = nodes_in c.in_ok-nodes.nodes.view.client.known in
@@ -43,12 +42,13 @@ invariant_of-result g c =
     let e = ap (λ (w : Watching Planned). nodes_in w.view.client.known) kept.same
     ∙ (ap nodes_in claimed
     ∙ ap (λ (links : ℕ). first_nodes links p.words (root_words p.words) p.roots p.nodes) k.one) in
-    let words = k.words in
+    let wide = k.wide in
     subst (λ (q : Plan). IsKept g.E.Invariant.holds g.row.W q nodes 0) (sym planned) (record {
       some = k.some;
       one = k.one;
+      wide = k.wide;
       words = k.words;
       map = is_map_first g.E.Invariant.holds p.roots p.seed p.words p.nodes nodes e kept.kept
-          (omega (arith, room, words));
+          (omega (arith, wide));
       count = sym (none_first g.E.Invariant.holds p.roots p.seed p.words p.nodes nodes e kept.kept);
     })

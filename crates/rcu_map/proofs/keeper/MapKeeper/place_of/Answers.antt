@@ -16,10 +16,9 @@ use Rattle.rcu_map.proofs.keeper.MapKeeper.place_of.Goals as goal
 
 pub chain-init : goal.chain-init
 chain-init g c =
-    let room = g.met.E.Entry.roomy in
-    let words = c.self.invariant.words in
+    let wide = c.self.invariant.wide in
     let b = begins _ _ _ _ _ _ c.self.invariant.map c.args.key c.self.invariant.some
-    (omega (arith, room, words)) c.requires in
+    (omega (arith, wide)) c.requires in
     let nodes : List Node = nodes_in c.self.inside.nodes.view.client.known in
     let k = c.self.inside.nodes in
     let same = sym (c.bucket_of-previous.ensures.is

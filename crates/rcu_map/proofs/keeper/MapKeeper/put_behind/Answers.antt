@@ -1,4 +1,4 @@
-use Rattle.std.proofs.Common.{◌+◌, ◌<◌, ◌∙◌, List, None, ap, arith, false, refl, subst, sym}
+use Rattle.std.proofs.Common.{◌+◌, ◌∙◌, List, None, ap, arith, false, refl, subst, sym}
 use Rattle.rcu_live.specs.Watcher.{Watching}
 use Rattle.rcu_graph.specs.Nodes.{nodes_in}
 use Rattle.rcu_graph.specs.declared.known.Planned.{Planned}
@@ -18,18 +18,22 @@ use Rattle.rcu_map.proofs.keeper.MapKeeper.put_behind.Goals as goal
 pub put-requires : goal.put-requires
 put-requires g c =
     let words = c.args.words.now in
-    let some : 0 < key_in words = g.met.E.Entry.keyed words c.requires.whole in
+    let some = c.requires.keyed in
     let place = placed c.args.self.now c.self.inside.nodes (key_in words) (key_in words)
     c.args.previous None None c.requires.place c.self.view_is refl refl in
     let k = c.self.invariant in
     can_insert g.E.Invariant.holds c.self.inside.nodes k.one k.map c.args.previous words some
-    (record { sized = c.told-words ∙ sym k.words; entry = λ up. c.requires.whole })
+    (record {
+      sized = c.requires.sized
+          ∙ ap (λ (w : Watching Planned). w.view.client.plan.words) (sym c.self.view_is);
+      entry = λ up. c.requires.whole;
+    })
     c.link_of-next.result place c.link_of-next.ensures
 
 pub overflow_add-self : goal.overflow_add-self
 overflow_add-self g c =
     let words = c.args.words.now in
-    let some : 0 < key_in words = g.met.E.Entry.keyed words c.requires.whole in
+    let some = c.requires.keyed in
     let place = placed c.args.self.now c.self.inside.nodes (key_in words) (key_in words)
     c.args.previous None None c.requires.place c.self.view_is refl refl in
     let k = c.self.invariant in
@@ -50,7 +54,7 @@ overflow_add-self g c =
 pub invariant_of-self-2 : goal.invariant_of-self-2
 invariant_of-self-2 g c =
     let words = c.args.words.now in
-    let some : 0 < key_in words = g.met.E.Entry.keyed words c.requires.whole in
+    let some = c.requires.keyed in
     let place = placed c.args.self.now c.self.inside.nodes (key_in words) (key_in words)
     c.args.previous None None c.requires.place c.self.view_is refl refl in
     let k = c.self.invariant in
@@ -64,6 +68,7 @@ invariant_of-self-2 g c =
     (record {
       some = k.some;
       one = k.one;
+      wide = k.wide;
       words = k.words;
       map = inserted_map g.E.Invariant.holds p.roots p.seed p.words p.nodes before k.map
           c.args.previous
@@ -80,7 +85,7 @@ invariant_of-self-2 g c =
 pub returns-clause-put : goal.returns-clause-put
 returns-clause-put g c =
     let words = c.args.words.now in
-    let some : 0 < key_in words = g.met.E.Entry.keyed words c.requires.whole in
+    let some = c.requires.keyed in
     let place = placed c.args.self.now c.self.inside.nodes (key_in words) (key_in words)
     c.args.previous None None c.requires.place c.self.view_is refl refl in
     let k = c.self.invariant in

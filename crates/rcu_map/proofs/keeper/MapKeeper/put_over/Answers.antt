@@ -1,4 +1,4 @@
-use Rattle.std.proofs.Common.{◌<◌, ◌∙◌, Some, arith, refl, subst, sym, true}
+use Rattle.std.proofs.Common.{◌∙◌, Some, ap, arith, refl, subst, sym, true}
 use Rattle.std.specs.Prelude.{MatchResult}
 use Rattle.rcu_live.specs.Watcher.{Watching}
 use Rattle.rcu_graph.specs.Nodes.{nodes_in}
@@ -15,7 +15,7 @@ use Rattle.rcu_map.proofs.keeper.MapKeeper.put_over.Goals as goal
 pub link_of-next-requires-clause-node : goal.link_of-next-requires-clause-node
 link_of-next-requires-clause-node g c =
     let words = c.args.words.now in
-    let some : 0 < key_in words = g.met.E.Entry.keyed words c.requires.whole in
+    let some = c.requires.keyed in
     let place = placed c.args.self.now c.self.inside.nodes (key_in words) (key_in words)
     c.args.previous (Some c.args.old) (Some c.args.old) c.requires.place c.self.view_is refl refl in
     let k = c.self.invariant in
@@ -25,18 +25,22 @@ link_of-next-requires-clause-node g c =
 pub put-requires : goal.put-requires
 put-requires g c =
     let words = c.args.words.now in
-    let some : 0 < key_in words = g.met.E.Entry.keyed words c.requires.whole in
+    let some = c.requires.keyed in
     let place = placed c.args.self.now c.self.inside.nodes (key_in words) (key_in words)
     c.args.previous (Some c.args.old) (Some c.args.old) c.requires.place c.self.view_is refl refl in
     let k = c.self.invariant in
     can_replace g.E.Invariant.holds c.self.inside.nodes k.one k.map c.args.previous words some
-    (record { sized = c.told-words ∙ sym k.words; entry = λ up. c.requires.whole }) c.args.old
+    (record {
+      sized = c.requires.sized
+          ∙ ap (λ (w : Watching Planned). w.view.client.plan.words) (sym c.self.view_is);
+      entry = λ up. c.requires.whole;
+    }) c.args.old
     c.link_of-next.result place c.link_of-next.ensures
 
 pub invariant_of-self : goal.invariant_of-self
 invariant_of-self g c =
     let words = c.args.words.now in
-    let some : 0 < key_in words = g.met.E.Entry.keyed words c.requires.whole in
+    let some = c.requires.keyed in
     let place = placed c.args.self.now c.self.inside.nodes (key_in words) (key_in words)
     c.args.previous (Some c.args.old) (Some c.args.old) c.requires.place c.self.view_is refl refl in
     let k = c.self.invariant in
@@ -49,6 +53,7 @@ invariant_of-self g c =
     (record {
       some = k.some;
       one = k.one;
+      wide = k.wide;
       words = k.words;
       map = over_map g.E.Invariant.holds c.self.inside.nodes c.put.new.self k.map
           c.args.previous c.args.old words c.link_of-next.result some place c.link_of-next.ensures
@@ -64,7 +69,7 @@ invariant_of-self g c =
 pub returns-clause-put : goal.returns-clause-put
 returns-clause-put g c =
     let words = c.args.words.now in
-    let some : 0 < key_in words = g.met.E.Entry.keyed words c.requires.whole in
+    let some = c.requires.keyed in
     let place = placed c.args.self.now c.self.inside.nodes (key_in words) (key_in words)
     c.args.previous (Some c.args.old) (Some c.args.old) c.requires.place c.self.view_is refl refl in
     let k = c.self.invariant in

@@ -1,14 +1,15 @@
 use Rattle.std.proofs.Common.{sym, ap, ◌∙◌, subst, inr, arith}
+use Rattle.std.proofs.lemmas.List.{length-replicate}
 use Rattle.rcu_map.proofs.map.Map.entry_at.Goals as goal
 
-pub words_at-requires : goal.words_at-requires
-words_at-requires g c =
+pub read_words-requires : goal.read_words-requires
+read_words-requires g c =
     let r = c.requires in
     let small = g.met.E.Value.small in (
-      omega arith,
+      omega (arith, small),
       (
-        omega (arith, small),
         record { walking = r.walking; words = r.words; on = inr r.held; inside = r.inside },
+        length-replicate g.row.W 0 ∙ sym c.keeps_width.ensures,
       ),
     )
 
@@ -17,11 +18,12 @@ of_words-requires g c =
     let r = c.requires in
     let small = g.met.E.Value.small in (
       omega (arith, small),
-      subst g.E.Invariant.holds (sym (c.words_at.ensures.told r.words (inr r.held) r.whole r.is))
+      subst g.E.Invariant.holds
+          (sym (c.read_words.ensures.told r.words (inr r.held) r.whole r.is))
           (r.whole.entry (let is = r.is in omega (arith, is, r.keyed))),
     )
 
 pub returns-clause-told : goal.returns-clause-told
 returns-clause-told g c = λ words held whole is.
     c.of_words.ensures.told
-    ∙ ap g.E.Value.decode (c.words_at.ensures.told words (inr held) whole is)
+    ∙ ap g.E.Value.decode (c.read_words.ensures.told words (inr held) whole is)

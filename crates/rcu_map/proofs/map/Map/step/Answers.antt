@@ -21,7 +21,7 @@ follow-requires g c =
     c.requires.inside in
     let p : Plan = c.self.inside.graph.plan in
     let o = on_words p.nodes p.roots p.seed p.words seat.view.client.known c.args.at
-    (let words = c.self.invariant.words in omega (arith, c.words_are_two.ensures, words)) inside
+    (let wide = c.self.invariant.wide in omega (arith, wide)) inside
     (may.on inside) in
     record {
       row = c.row.ensures ∙ ap (λ (map : Object Plan). row_of map.plan) back;
@@ -45,7 +45,7 @@ returns-in_default-clause-stepped g c =
     c.requires.inside in
     let p : Plan = c.self.inside.graph.plan in
     let o = on_words p.nodes p.roots p.seed p.words seat.view.client.known c.args.at
-    (let words = c.self.invariant.words in omega (arith, c.words_are_two.ensures, words)) inside
+    (let wide = c.self.invariant.wide in omega (arith, wide)) inside
     (may.on inside) in
     let e = c.in_default.ensures in
     let same = seat_with lens g.met.P.Within.is_lens.got g.met.P.Within.is_lens.stays
@@ -70,7 +70,7 @@ returns-clause-stepped g c =
     c.requires.inside in
     let p : Plan = c.self.inside.graph.plan in
     let o = on_words p.nodes p.roots p.seed p.words seat.view.client.known c.args.at
-    (let words = c.self.invariant.words in omega (arith, c.words_are_two.ensures, words)) inside
+    (let wide = c.self.invariant.wide in omega (arith, wide)) inside
     (may.on inside) in
     let e = c.in-Some.ensures in
     let same = seat_with lens g.met.P.Within.is_lens.got g.met.P.Within.is_lens.stays

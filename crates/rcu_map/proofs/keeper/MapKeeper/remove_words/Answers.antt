@@ -12,7 +12,7 @@ use Rattle.rcu_map.specs.Splices.{by_passing}
 use Rattle.rcu_map.proofs.Chains.{no_entry_of_0}
 use Rattle.rcu_map.proofs.Removals.{removed, removed_count, removed_map}
 use Rattle.rcu_map.proofs.Allowed.{can_remove, placed}
-use Rattle.rcu_map.proofs.keeper.MapKeeper.remove.Goals as goal
+use Rattle.rcu_map.proofs.keeper.MapKeeper.remove_words.Goals as goal
 
 pub returns-then-key-eq0-clause-old : goal.returns-then-key-eq0-clause-old
 returns-then-key-eq0-clause-old g c = λ has. no_entry_of_0 _ _ _ _ _ _ c.self.invariant.map
@@ -27,18 +27,18 @@ pass-requires g c =
     let some : 0 < c.args.key = omega arith in
     let previous = c.place_of-place.result.previous in
     let place = placed c.args.self.now c.self.inside.nodes c.args.key c.args.key previous
-    c.place_of-place.result.node (Some c.in-Some.old) c.place_of-place.ensures.place c.self.view_is
+    c.place_of-place.result.node (Some c.in-Some.node) c.place_of-place.ensures.place c.self.view_is
     refl c.in-Some.is in
     let k = c.self.invariant in
-    can_remove g.E.Invariant.holds c.self.inside.nodes k.one k.map c.args.key previous c.in-Some.old
-    place
+    can_remove g.E.Invariant.holds c.self.inside.nodes k.one k.map c.args.key previous
+    c.in-Some.node place
 
 pub overflow_sub-self : goal.overflow_sub-self
 overflow_sub-self g c =
     let some : 0 < c.args.key = omega arith in
     let previous = c.place_of-place.result.previous in
     let place = placed c.args.self.now c.self.inside.nodes c.args.key c.args.key previous
-    c.place_of-place.result.node (Some c.in-Some.old) c.place_of-place.ensures.place c.self.view_is
+    c.place_of-place.result.node (Some c.in-Some.node) c.place_of-place.ensures.place c.self.view_is
     refl c.in-Some.is in
     let k = c.self.invariant in
     let p : Plan = c.self.inside.nodes.view.client.plan in
@@ -48,7 +48,7 @@ overflow_sub-self g c =
     let now = k.count in
     let less = removed_count g.E.Invariant.holds p.roots p.seed p.words p.nodes before k.map
     c.args.key
-    previous c.in-Some.old some place done.next after done.leads done.trimmed done.kept.few in
+    previous c.in-Some.node some place done.next after done.leads done.trimmed done.kept.few in
     omega (arith, now, less)
 
 pub invariant_of-self : goal.invariant_of-self
@@ -56,7 +56,7 @@ invariant_of-self g c =
     let some : 0 < c.args.key = omega arith in
     let previous = c.place_of-place.result.previous in
     let place = placed c.args.self.now c.self.inside.nodes c.args.key c.args.key previous
-    c.place_of-place.result.node (Some c.in-Some.old) c.place_of-place.ensures.place c.self.view_is
+    c.place_of-place.result.node (Some c.in-Some.node) c.place_of-place.ensures.place c.self.view_is
     refl c.in-Some.is in
     let k = c.self.invariant in
     let p : Plan = c.self.inside.nodes.view.client.plan in
@@ -68,14 +68,15 @@ invariant_of-self g c =
     (record {
       some = k.some;
       one = k.one;
+      wide = k.wide;
       words = k.words;
       map = removed_map g.E.Invariant.holds p.roots p.seed p.words p.nodes before k.map c.args.key
-          previous c.in-Some.old some place done.next after done.leads done.trimmed done.kept.few
+          previous c.in-Some.node some place done.next after done.leads done.trimmed done.kept.few
           done.kept.tended;
       count =
           let now = k.count in
           let less = removed_count g.E.Invariant.holds p.roots p.seed p.words p.nodes before k.map
-          c.args.key previous c.in-Some.old some place done.next after done.leads done.trimmed
+          c.args.key previous c.in-Some.node some place done.next after done.leads done.trimmed
           done.kept.few in
           omega (arith, now, less);
     })
@@ -85,7 +86,7 @@ returns-clause-removed g c = λ e.
     let some : 0 < c.args.key = omega arith in
     let previous = c.place_of-place.result.previous in
     let place = placed c.args.self.now c.self.inside.nodes c.args.key c.args.key previous
-    c.place_of-place.result.node (Some c.in-Some.old) c.place_of-place.ensures.place c.self.view_is
+    c.place_of-place.result.node (Some c.in-Some.node) c.place_of-place.ensures.place c.self.view_is
     refl c.in-Some.is in
     let k = c.self.invariant in
     let p : Plan = c.self.inside.nodes.view.client.plan in
@@ -104,5 +105,5 @@ returns-clause-removed g c = λ e.
         trimmed = done.trimmed;
       };
       nodes = removed g.E.Invariant.holds p.roots p.seed p.words p.nodes before k.map c.args.key
-          previous c.in-Some.old some place done.next after done.leads done.trimmed;
+          previous c.in-Some.node some place done.next after done.leads done.trimmed;
     })

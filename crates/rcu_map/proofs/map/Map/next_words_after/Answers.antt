@@ -1,4 +1,5 @@
-use Rattle.std.proofs.Common.{◌≡◌, ◌<◌, ◌∙◌, sym, ap, subst, inl, inr, arith}
+use Rattle.std.proofs.Common.{◌≡◌, ◌<◌, ◌∙◌, length, sym, ap, subst, inl, inr, arith, refl}
+use Rattle.std.proofs.lemmas.Bool.{false≢true, true≢false}
 use Rattle.rcu_live.specs.CpuSeat.{Seated, after_word_step}
 use Rattle.rcu_live.specs.InPart.{seat_part}
 use Rattle.rcu_live.proofs.InPart.{seat_again, seat_same}
@@ -6,13 +7,14 @@ use Rattle.rcu_graph.specs.Graph.{IsWalking}
 use Rattle.rcu_graph.specs.declared.known.Planned.{Planned}
 use Rattle.rcu_graph.specs.declared.plan.Plan.{Plan}
 use Rattle.rcu_map.specs.After.{IsBehind, IsEntryAfter}
-use Rattle.rcu_map.specs.Keys.{bucket_of}
+use Rattle.rcu_map.specs.Keys.{bucket_of, key_in}
 use Rattle.rcu_map.specs.Listing.{at_root}
+use Rattle.rcu_map.specs.Words.{as_words}
 use Rattle.rcu_map.proofs.Nearing.{begins, is_behind, is_entry, is_none, less_left}
 use Rattle.rcu_map.proofs.Nearing.{limit_of, passes}
 use Rattle.rcu_map.proofs.Stepping.{may_begin, on_entry, step_held, went_on}
-use Rattle.rcu_map.proofs.map.Map.next_after.Goals as goal
-use Rattle.rcu_map.proofs.map.Map.next_after.Goals.{else-at-bucket, then-at-bucket}
+use Rattle.rcu_map.proofs.map.Map.next_words_after.Goals as goal
+use Rattle.rcu_map.proofs.map.Map.next_words_after.Goals.{else-at-bucket, then-at-bucket}
 
 pub buckets-init : goal.buckets-init
 buckets-init g c =
@@ -29,18 +31,23 @@ buckets-init g c =
           c.bucket_of-bucket.result c.at_root-at.result c.requires.walking
           (omega (arith, inside, roots)) c.plan-plan.ensures.roots
           c.at_root-at.ensures;
+      entry = refl;
       nearing = begins p.roots p.seed c.args.key
           (g.P.Within.lens.get c.args.seat.now.view.client).known c.at_root-at.result
           (c.at_root-at.ensures ∙ ap at_root is);
     }
 
-pub entry_at-requires : goal.entry_at-requires
-entry_at-requires g c =
-    let up = c.if-at-limit.true in (
+pub read_words-requires : goal.read_words-requires
+read_words-requires g c =
+    let up = c.if-at-limit.true in
+    let at = on_entry g.E.Invariant.holds c.args.self.now
+    (seat_part g.P.Within.lens c.buckets.seat) (seat_part g.P.Within.lens c.step-at.new.seat)
+    c.buckets.at c.step-at.result c.step-at.ensures.stepped (omega (arith, up)) in (
       omega arith,
-      on_entry g.E.Invariant.holds c.args.self.now (seat_part g.P.Within.lens c.buckets.seat)
-          (seat_part g.P.Within.lens c.step-at.new.seat) c.buckets.at c.step-at.result
-          c.step-at.ensures.stepped (omega (arith, up)),
+      (
+        record { walking = at.walking; words = at.words; on = inr at.held; inside = at.inside },
+        ap length c.buckets.invariant.entry ∙ c.requires.room,
+      ),
     )
 
 pub buckets-smaller : goal.buckets-smaller
@@ -64,6 +71,7 @@ buckets-preserved g c =
       same = seat_again g.P.Within.lens g.met.P.Within.is_lens.again c.args.seat.now
           c.buckets.seat c.step-at.new.seat i.same c.step-at.ensures.others;
       may = s.may;
+      entry = i.entry;
       nearing = passes g.E.Invariant.holds c.args.self.now old new
           c.buckets.at c.step-at.result s c.args.key c.if-at-bucket.limit
           (g.P.Within.lens.get c.args.seat.now.view.client).known i.nearing
@@ -97,31 +105,32 @@ returns-then-at-limit g c =
     keyed in
     let k = w.key in
     let whole = s.whole keyed in
-    let told = c.entry_at.ensures.told s.hop.words
-    (step_held g.E.Invariant.holds c.args.self.now old new c.buckets.at c.step-at.result s keyed)
+    let told = c.read_words.ensures.told s.hop.words
+    (inr (step_held g.E.Invariant.holds c.args.self.now old new c.buckets.at c.step-at.result s
+    keyed))
     whole k in
-    let key_is : g.E.Entry.key_of c.entry_at.result ≡ c.step-at.result.key =
-    ap g.E.Entry.key_of told
-    ∙ (g.met.E.Entry.tells s.hop.words (whole.entry (omega (arith, k, keyed))) ∙ k) in
+    let key_is : key_in c.read_words.new.entry ≡ c.step-at.result.key = ap key_in told ∙ k in
     let was = (g.P.Within.lens.get c.args.seat.now.view.client).known in
-    let back = ap (seat_part g.P.Within.lens) (sym c.entry_at.ensures.same) in
+    let back = ap (seat_part g.P.Within.lens) (sym c.read_words.ensures.same) in
     record {
-      same = seat_same g.P.Within.lens c.args.seat.now c.step-at.new.seat c.entry_at.new.seat
-          c.entry_at.ensures.same
+      same = seat_same g.P.Within.lens c.args.seat.now c.step-at.new.seat c.read_words.new.seat
+          c.read_words.ensures.same
           (seat_again g.P.Within.lens g.met.P.Within.is_lens.again c.args.seat.now c.buckets.seat
           c.step-at.new.seat i.same c.step-at.ensures.others);
       walking = subst (IsWalking c.args.self.now) back s.may.walking;
-      next = subst (λ (x : Seated Planned). IsEntryAfter g.E.Invariant.holds g.E.Value.decode
+      next = subst (λ (x : Seated Planned). IsEntryAfter g.E.Invariant.holds as_words
           p.roots p.seed c.args.key was x.view.client.known
-          c.entry_at.result) back
+          c.read_words.new.entry) back
           (is_entry g.E.Invariant.holds c.args.self.now old new c.buckets.at c.step-at.result s
-          c.args.key c.if-at-bucket.limit was i.nearing l g.E.Value.decode c.entry_at.result up
+          c.args.key c.if-at-bucket.limit was i.nearing l as_words c.read_words.new.entry up
           told);
-      behind = subst (IsBehind p.roots p.seed c.args.key) (sym key_is)
+      behind = λ there. subst (IsBehind p.roots p.seed c.args.key) (sym key_is)
           (is_behind g.E.Invariant.holds c.args.self.now old new c.buckets.at c.step-at.result s
           c.args.key c.if-at-bucket.limit was i.nearing l up);
-      keyed = omega (arith, key_is, keyed);
-      sound = c.entry_at.ensures.sound;
+      keyed = λ there. omega (arith, key_is, keyed);
+      whole = λ there. subst g.E.Invariant.holds (sym told)
+          (whole.entry (omega (arith, k, keyed)));
+      unchanged = λ none. absurd (true≢false none);
     }
 
 pub returns : goal.returns
@@ -138,7 +147,8 @@ returns g c =
           (g.P.Within.lens.get c.args.seat.now.view.client).known
           (g.P.Within.lens.get c.buckets.seat.view.client).known c.buckets.at i.nearing
           (omega (arith, past, within, roots));
-      behind = tt;
-      keyed = tt;
-      sound = tt;
+      behind = λ there. absurd (false≢true there);
+      keyed = λ there. absurd (false≢true there);
+      whole = λ there. absurd (false≢true there);
+      unchanged = λ none. i.entry;
     }
