@@ -123,8 +123,8 @@ impl EngineHandle {
         }
     }
 
-    /// An engine as [`EngineHandle::open`], with a map, which is empty. Each value has so
-    /// many words. (An engine that is opened with no map has one with room for no entry.)
+    /// An engine as [`EngineHandle::open`], with a map, which is empty. A value has so many words.
+    /// (One that is opened with no map has one with room for no entry.)
     ///
     /// # Errors
     /// Those too, and [`Error::BadSizes`].
@@ -134,7 +134,7 @@ impl EngineHandle {
             buckets: sizes.buckets as u64,
             nodes: nodes.ok_or(Error::BadSizes)? as u64,
             seed: sizes.seed,
-            words: words as u64 + 1,
+            words: (words as u64).saturating_add(1),
         };
         let mut raw = raw::rcu_t { at: null_mut() };
         match unsafe { raw::rcu_open_map(cpus, LAST, &sizes, &mut raw) } {

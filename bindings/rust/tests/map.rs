@@ -1,6 +1,7 @@
 //! The map of an engine: threads that read and update it, one that is full, and all that it answers
 //! beside a map of std's.
 
+use rcu::handles::EngineHandle;
 use rcu::{Engine, Error, Full, Key, Map, MapSizes, Value, Word};
 use std::collections::HashMap;
 use std::fmt::Debug;
@@ -301,6 +302,25 @@ fn sizes_that_no_map_has_are_refused() {
     assert_eq!((map.remove(1), map.len()), (None, 0));
     let reader = engine.reader().unwrap();
     assert_eq!(map.iter(&reader.enter()).next(), None);
+}
+
+#[test]
+fn a_value_of_another_number_of_words_is_refused() {
+    let mut rcu = EngineHandle::open_map(1, sizes(1, 3), 2).unwrap();
+    let (key, seat) = (NonZeroU64::MIN, rcu.seat(0).unwrap());
+    assert_eq!(rcu.map_put(key, [1, 2]), Ok(None));
+    assert!(panics(|| rcu.map_put(key, [1])));
+    assert!(panics(|| rcu.map_find::<[u64; 3]>(key)));
+    assert!(panics(|| rcu.map_remove::<[u64; 1]>(key)));
+    seat.enter();
+    assert!(panics(|| seat.map_get::<[u64; 1]>(key)));
+    assert!(panics(|| seat.map_next::<[u64; 3]>(0)));
+    assert_eq!(seat.map_get(key), Some([1, 2]));
+    assert_eq!(seat.map_next(0), Some((key, [1, 2])));
+    seat.exit();
+    assert_eq!(rcu.map_remove(key), Some([1, 2]));
+    let widest = EngineHandle::open_map(1, sizes(1, 0), usize::MAX);
+    assert_eq!(widest.err(), Some(Error::BadSizes));
 }
 
 /// Puts each value at each key, and reads them all.
