@@ -158,3 +158,11 @@ pub record IsGotBetween (plan : Plan) (key : ℕ) (first last : Moment) (h : Opt
   pub ends : known_of now ≡ last.section
   pub sized : length room ≡ plan.words
   pub got : IsGotInC key h room entry now
+
+-- between two such moments a section went on from a key, and C's room was told of this entry
+pub record IsNextBetween (plan : Plan) (key : ℕ) (first last : Moment) (h : Option Contents)
+    (room entry : List ℕ) (now : Option Contents) : Type 0 where
+  pub planned : map_plan h ≡ plan
+  pub begins : known_of h ≡ first.section
+  pub ends : known_of now ≡ last.section
+  pub next : IsNextInC key h room entry now

@@ -4,11 +4,12 @@ ghost use Rattle.rcu_live.specs.Watcher.{Watching};
 ghost use Rattle.rcu_graph.specs.Beside.{Moment};
 ghost use Rattle.rcu_graph.specs.declared.known.Planned.{Planned};
 ghost use Rattle.rcu_graph.specs.declared.plan.Plan.{Plan};
+ghost use Rattle.rcu_map.specs.After.{IsBehind, IsUpTo};
 ghost use Rattle.rcu_map.specs.Beside.{AreMadeOver, HadKey, IsMapOver, IsReadOver, since};
 ghost use Rattle.rcu_map.specs.Keys.{key_in};
 ghost use Rattle.rcu_map.specs.Runs.{HasKeyThroughout, IsRun};
 ghost use Rattle.rcu_c.specs.MapEntries.{IsKeyed};
-ghost use Rattle.rcu_c.specs.Maps.{IsGotBetween};
+ghost use Rattle.rcu_c.specs.Maps.{IsGotBetween, IsNextBetween};
 ghost use Rattle.rcu_c.specs.declared.contents.Contents.{Contents};
 
 use crate::keyed_words::KeyedWords;
@@ -47,4 +48,22 @@ pub fn found_keys_were_there()
         0 < key_in entry → HadKey IsKeyed plan opened key now run }
 {
     laws::keys_found_over_a_run_were_there::<KeyedWords, 0>();
+}
+
+/// A key that stays in the map over such a run, and that lies behind another one, is passed over by
+/// no `rcu_map_next` from that: it writes an entry, of the key or of one before it.
+pub fn no_key_that_stays_is_passed_over()
+    ensures { (plan : Plan) (opened key stays keeper id from done last : ℕ) (moments : ℕ → Moment)
+        (now : Watching Planned) (run : IsRun IsKeyed plan opened now)
+        (before after : Option Contents) (room entry : List ℕ) →
+        0 < plan.roots → plan.links ≡ 1 → 2 ≤ plan.words → 0 < stays → from + done ≤ last →
+        IsMapOver IsKeyed plan keeper last moments →
+        AreMadeOver IsKeyed plan opened moments last now run →
+        HasKeyThroughout IsKeyed plan opened stays now run →
+        IsReadOver IsKeyed plan id opened done (since from moments) →
+        IsBehind plan.roots plan.seed key stays →
+        IsNextBetween plan key (moments from) (moments (from + done)) before room entry after →
+        (0 < key_in entry) × IsUpTo plan.roots plan.seed stays (key_in entry) }
+{
+    laws::no_words_of_a_key_that_stays_are_passed_over::<KeyedWords, 0>();
 }

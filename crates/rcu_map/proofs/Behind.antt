@@ -1,7 +1,7 @@
 -- A section that goes on from a key passes over no key behind it that is linked all the while.
 use Rattle.std.proofs.Common.{◌≡◌, ◌⊎◌, ℕ, zero, suc, ◌*◌, ◌/◌, ◌%◌, ◌^◌, ◌<◌, ◌≤◌, List, [], ◌∷◌}
 use Rattle.std.proofs.Common.{◌++◌, Option, None, Some, ⊎_elim, sym, ap, ◌∙◌, subst, inl, inr}
-use Rattle.std.proofs.Common.{arith}
+use Rattle.std.proofs.Common.{arith, refl}
 use Rattle.std.specs.Prelude.{IsSomeAnd}
 use mathlib.Core.Option.{some}
 use mathlib.Core.Logic.{dite}
@@ -14,6 +14,7 @@ use Rattle.rcu_graph.specs.declared.known.Known.{Known}
 use Rattle.rcu_map.specs.After.{IsBehind, IsNextAfter, IsUpTo, LedUpTo}
 use Rattle.rcu_map.specs.Keys.{bucket_of, key_in}
 use Rattle.rcu_map.specs.Listing.{GoOn, IsListed, at_root, led_from}
+use Rattle.rcu_map.specs.Words.{as_words}
 use Rattle.rcu_map.specs.declared.cursor.Cursor.{Cursor}
 use Rattle.rcu_map.proofs.Listings.{IsMissed, Progress, before, listed, missed, on_way}
 use Rattle.rcu_map.proofs.Listings.{progress}
@@ -152,15 +153,36 @@ module _ (buckets seed key stays : ℕ) (up : 0 < stays)
         by (missed m) = absurd (found m)
 
     -- so the next entry behind the first key is the other's, or one before it
-    pub next_up_to : {E : Type 0} (holds : List ℕ → Type 0) (decode : List ℕ → E) (key_of : E → ℕ)
-        (was now : Known) (next : Option E)
-        → ((words : List ℕ) → holds words → key_of (decode words) ≡ key_in words)
+    pub next_up_to : (holds : List ℕ → Type 0) (was now : Known) (next : Option (List ℕ))
         → ((hops : List Hop) → hops_in now ≡ hops ++ hops_in was → IsMissed root stays hops → ⊥)
-        → IsNextAfter holds decode buckets seed key was next now
-        → IsSomeAnd next (λ entry. IsUpTo buckets seed stays (key_of entry))
-    next_up_to holds decode key_of was now None tells found n =
+        → IsNextAfter holds as_words buckets seed key was next now
+        → IsSomeAnd next (λ words. IsUpTo buckets seed stays (key_in words))
+    next_up_to holds was now None found n =
         none_left n.over n.at n.up_to n.goes n.ended (found n.over n.are)
-    next_up_to holds decode key_of was now (Some entry) tells found n =
-        subst (IsUpTo buckets seed stays)
-        (sym (ap key_of n.told ∙ tells n.last.words n.whole))
+    next_up_to holds was now (Some words) found n =
+        subst (IsUpTo buckets seed stays) (sym (ap key_in n.told))
         (entry_up_to n.over n.last n.at n.up_to n.goes n.led (found (n.last ∷ n.over) n.are))
+
+module _ {E : Type 0} (holds : List ℕ → Type 0) (decode : List ℕ → E) (key_of : E → ℕ)
+    (tells : (words : List ℕ) → holds words → key_of (decode words) ≡ key_in words) where
+  -- what is so of the next words is so of the entry that they tell
+  pub told_up_to : (buckets seed key stays : ℕ) (was now : Known)
+      → ((words : Option (List ℕ)) → IsNextAfter holds as_words buckets seed key was words now
+      → IsSomeAnd words (λ w. IsUpTo buckets seed stays (key_in w)))
+      → (next : Option E) → IsNextAfter holds decode buckets seed key was next now
+      → IsSomeAnd next (λ entry. IsUpTo buckets seed stays (key_of entry))
+  told_up_to buckets seed key stays was now by None n = by None n
+  told_up_to buckets seed key stays was now by (Some entry) n =
+      subst (IsUpTo buckets seed stays) (sym (ap key_of n.told ∙ tells n.last.words n.whole))
+      (by (Some n.last.words) (record {
+        over = n.over;
+        last = n.last;
+        at = n.at;
+        are = n.are;
+        up_to = n.up_to;
+        goes = n.goes;
+        led = n.led;
+        behind = n.behind;
+        whole = n.whole;
+        told = refl;
+      }))

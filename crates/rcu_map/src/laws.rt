@@ -15,9 +15,10 @@ ghost use Rattle.rcu_map.specs.After.{IsBehind, IsNextAfter, IsUpTo};
 ghost use Rattle.rcu_map.specs.Beside.{AreMadeOver, HadKey, IsMapOver, IsReadOver, since};
 ghost use Rattle.rcu_map.specs.Chains.{IsMap};
 ghost use Rattle.rcu_map.specs.Entries.{HasKey};
-ghost use Rattle.rcu_map.specs.Keys.{bucket_of};
+ghost use Rattle.rcu_map.specs.Keys.{bucket_of, key_in};
 ghost use Rattle.rcu_map.specs.Listing.{GoOn, IsListed, at_root};
 ghost use Rattle.rcu_map.specs.Runs.{HasKeyThroughout, IsRun, last_of, seen_in};
+ghost use Rattle.rcu_map.specs.Words.{as_words};
 ghost use Rattle.rcu_map.specs.declared.cursor.Cursor.{Cursor};
 
 use crate::entry::Entry;
@@ -146,7 +147,27 @@ pub fn each_key_lies_behind_0()
 {}
 
 /// A key that stays in the map over such a run, and that lies behind another one, is not passed
-/// over: there is a next entry behind that one, and it is the key's, or one before it.
+/// over: there are words of a next entry behind that one, and it is the key's, or one before it.
+pub fn no_words_of_a_key_that_stays_are_passed_over<E: Invariant, const W: usize>()
+    ensures { (plan : Plan) (opened key stays keeper seat from done last : ℕ)
+        (moments : ℕ → Moment) (now : Watching Planned) (run : IsRun E.holds plan opened now)
+        (next : Option (List ℕ)) →
+        0 < plan.roots → plan.links ≡ 1 → 2 ≤ plan.words → 0 < stays → from + done ≤ last →
+        IsMapOver E.holds plan keeper last moments →
+        AreMadeOver E.holds plan opened moments last now run →
+        HasKeyThroughout E.holds plan opened stays now run →
+        IsReadOver E.holds plan seat opened done (since from moments) →
+        IsBehind plan.roots plan.seed key stays →
+        IsNextAfter E.holds as_words plan.roots plan.seed key (moments from).section next
+        (moments (from + done)).section →
+        IsSomeAnd next (λ words. IsUpTo plan.roots plan.seed stays (key_in words)) }
+{
+    hops_are_made_by_their_run::<MapShape<E, W>>();
+    runs_are_histories::<MapShape<E, W>>();
+    linked_keys_are_found();
+}
+
+/// The same of entries.
 pub fn no_key_that_stays_is_passed_over<E: Entry<W>, const W: usize>()
     ensures { (plan : Plan) (opened key stays keeper seat from done last : ℕ)
         (moments : ℕ → Moment) (now : Watching Planned) (run : IsRun E.holds plan opened now)
@@ -161,7 +182,5 @@ pub fn no_key_that_stays_is_passed_over<E: Entry<W>, const W: usize>()
         (moments (from + done)).section →
         IsSomeAnd next (λ entry. IsUpTo plan.roots plan.seed stays (E.key_of entry)) }
 {
-    hops_are_made_by_their_run::<MapShape<E, W>>();
-    runs_are_histories::<MapShape<E, W>>();
-    linked_keys_are_found();
+    no_words_of_a_key_that_stays_are_passed_over::<E, W>();
 }
