@@ -101,8 +101,8 @@ impl<E: Invariant, const W: usize, P: Within<MapRule<E, W>>> Map<E, W, P> {
         &self.graph
     }
 
-    /// The row of each node, by constants where `W` is one: what waits for a load multiplies by no
-    /// other number.
+    /// The row of each node, by constants where `W` is not 0: what waits for a load multiplies by
+    /// no other number.
     pub(crate) fn row(&self) -> Row
         ensures { result ≡ row_of self.now.plan }
     {
@@ -131,9 +131,10 @@ impl<E: Invariant, const W: usize, P: Within<MapRule<E, W>>> Map<E, W, P> {
             IsWhole E.holds self.now.plan.words words → key_in words ≡ key → entry.new ≡ words }
     {
         let words = self.plan().words;
+        let row = self.row();
         entry[0] = key;
         for word in 1..words {
-            entry[word] = self.graph.read(seat, self.row(), node, word);
+            entry[word] = self.graph.read(seat, row, node, word);
         }
     }
 

@@ -81,6 +81,7 @@ impl<E: Invariant, const W: usize, P: Within<MapRule<E, W>>> MapKeeper<E, W, P> 
             self.copy_words(node, old);
             return Ok(true);
         }
+        // Where no node is free, nothing is written.
         self.nodes.free_node()?;
         self.copy_words(node, old);
         let Ok(_) = self.put_over(place.previous, node, words) else {
