@@ -375,7 +375,9 @@ fn keys_and_values_come_out_as_they_went_in() {
         &[(1u8, 2u16, 3u32, 4u64, 5i8, 'f'), (6, 7, 8, 9, -10, 'g')],
     );
     keeps(&[7u8, 8], &[[1u32], [u32::MAX]]);
-    keeps(&[7u8, 8], &[[u64::MAX; 20], [7; 20]]);
+    keeps(&[7u8, 8], &[[1u64, 2, u64::MAX], [3, 4, 5]]);
+    let long = |from: u64| std::array::from_fn::<u64, 20, _>(|at| from + at as u64);
+    keeps(&[7u8, 8], &[long(1), long(100)]);
 }
 
 /// A key and a value that panic as they are told.
