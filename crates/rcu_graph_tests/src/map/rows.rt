@@ -1,13 +1,13 @@
 //! Entries of as many words as their map's plan says, which are read and put in by their words.
 ghost use Rattle.std.specs.Prelude.{◌≡◌, ◌≤◌, ◌<◌, IfOk, length, slice_index};
 ghost use Rattle.rcu_live.specs.CpuSeat.{after_word_step};
-ghost use Rattle.rcu_graph.specs.Graph.{IsOutside, IsWalking};
+ghost use Rattle.rcu_graph.specs.Graph.{IsWalking};
 
 use crate::compare::compare;
 use crate::seats::{enters, exits};
-use rcu_graph::{Full, GraphEngine, Invariant, NotOpened};
+use rcu_graph::{Full, Invariant, NotOpened};
 use rcu_live::Live;
-use rcu_map::{Map, MapKeeper, MapSeat, MapShape, Put, make_plan};
+use rcu_map::{Map, MapKeeper, MapSeat, Put, make_plan};
 use rcu_seq::Fault;
 use std::alloc::{AllocError, Global};
 use std::process::Abort;
@@ -24,11 +24,10 @@ impl Invariant for Row {
 
 type Rows = Map<Row, 0>;
 
-type RowEngine = GraphEngine<4, 4, u64, MapShape<Row, 0>>;
-
-/// How many keys there are, and the most words of an entry.
+/// How many keys there are.
 const KEYS: u64 = 12;
 
+/// The most words of an entry.
 const MOST: usize = 9;
 
 /// Writes an entry of this key, with other words for each key and version.
