@@ -1,15 +1,20 @@
 //! The pairs of fanouts that the program offers: the one place where numbers choose a type.
 
-/// Calls a function over the tree of two fanouts, which stand behind the arguments that its type
-/// has before them. Fanouts that are not offered are refused by fault `BadFanout` (18).
+/// Calls a function over the tree of two fanouts, which stand for the `..` of its type. What is
+/// written behind the call stands behind it there. Fanouts that are not offered are refused by
+/// fault `BadFanout` (18).
 macro_rules! over_offered_tree {
-    ($leaf:expr, $inner:expr, $run:ident::<$($before:ident),*> $arguments:tt) => {
+    (
+        $leaf:expr,
+        $inner:expr,
+        $call:ident::<$($before:ident,)* .. $(, $behind:ident)*> $($rest:tt)*
+    ) => {
         match ($leaf, $inner) {
-            (2, 2) => $run::<$($before,)* 2, 2, R, W> $arguments,
-            (2, 3) => $run::<$($before,)* 2, 3, R, W> $arguments,
-            (4, 4) => $run::<$($before,)* 4, 4, R, W> $arguments,
-            (16, 64) => $run::<$($before,)* 16, 64, R, W> $arguments,
-            (64, 64) => $run::<$($before,)* 64, 64, R, W> $arguments,
+            (2, 2) => $call::<$($before,)* 2, 2 $(, $behind)*> $($rest)*,
+            (2, 3) => $call::<$($before,)* 2, 3 $(, $behind)*> $($rest)*,
+            (4, 4) => $call::<$($before,)* 4, 4 $(, $behind)*> $($rest)*,
+            (16, 64) => $call::<$($before,)* 16, 64 $(, $behind)*> $($rest)*,
+            (64, 64) => $call::<$($before,)* 64, 64 $(, $behind)*> $($rest)*,
             _ => Err(RunFault::Open(Fault::BadFanout)),
         }
     };

@@ -1,14 +1,16 @@
 //! The lines of two replicas, from bytes to bytes.
-ghost use Rattle.std.specs.Prelude.{◌≡◌, false};
+ghost use Rattle.std.specs.Prelude.{◌≡◌, None, false};
 ghost use Rattle.rcu_text.specs.Runs.{ends_of};
 ghost use Rattle.rcu_script.specs.Opening.{size_of_setup};
-ghost use Rattle.rcu_script.specs.PairRuns.{RunsPair, fault_beside, trees_fault};
-ghost use Rattle.rcu_script.specs.PairTexts.{IsPairText};
+ghost use Rattle.rcu_script.specs.PairRuns.{RunsPair, fault_beside};
+ghost use Rattle.rcu_script.specs.PairTexts.{IsPairText, pair_replies};
 ghost use Rattle.rcu_script.specs.RunEnds.{RunsFromOpening};
 
 use crate::offered::over_offered_tree;
+use crate::pair::machine::PairMachine;
 use crate::pair::open::open_pair;
 use crate::runs::{RunFault, Setup};
+use rcu_node::Awaited;
 use rcu_seq::Fault;
 use rcu_text::{Sink, Source, run};
 use std::alloc::Global;
@@ -35,7 +37,7 @@ pub fn run_pair<R: Source, W: Sink>(
     over_offered_tree!(
         setup.leaf,
         setup.inner,
-        run_beside::<>(alloc, setup, reader, writer)
+        run_beside::<.., R, W>(alloc, setup, reader, writer)
     )
 }
 
@@ -54,26 +56,18 @@ fn run_beside<const LEAF: u32, const INNER: u32, R: Source, W: Sink>(
     over_offered_tree!(
         setup.leaf2,
         setup.inner2,
-        run_over::<LEAF, INNER>(alloc, setup, reader, writer)
+        open_pair::<LEAF, INNER, ..>(alloc, setup.cpus, setup.last)?.run(reader, writer)
     )
 }
 
-/// Runs the lines of a pair over the trees of these fanouts.
-fn run_over<
-    const LEAF: u32,
-    const INNER: u32,
-    const LEAF2: u32,
-    const INNER2: u32,
-    R: Source,
-    W: Sink,
->(alloc: Global, setup: &Setup, reader: &mut R, writer: &mut W) -> Result<(), RunFault>
-    ensures { RunsFromOpening result
-        (trees_fault LEAF INNER LEAF2 INNER2 setup.now.cpus setup.now.last)
-        (IsPairText (size_of_setup setup.now))
-        (ends_of (R.incoming reader.old) (W.outgoing writer.old))
-        (ends_of (R.incoming reader.new) (W.outgoing writer.new)) }
-{
-    let mut pair = open_pair::<LEAF, INNER, LEAF2, INNER2>(alloc, setup.cpus, setup.last)?;
-    run(&mut pair, reader, writer)?;
-    Ok(())
+impl<A: Awaited, B: Awaited> PairMachine<A, B> {
+    /// Runs the lines of a pair on these two replicas.
+    fn run<R: Source, W: Sink>(mut self, reader: &mut R, writer: &mut W) -> Result<(), RunFault>
+        ensures { RunsFromOpening result None (λ lines text. text ≡ pair_replies self lines)
+            (ends_of (R.incoming reader.old) (W.outgoing writer.old))
+            (ends_of (R.incoming reader.new) (W.outgoing writer.new)) }
+    {
+        run(&mut self, reader, writer)?;
+        Ok(())
+    }
 }

@@ -39,7 +39,7 @@ pub fn run_script<R: Source, W: Sink>(
     over_offered_tree!(
         setup.leaf,
         setup.inner,
-        run_over::<>(alloc, setup, reader, writer)
+        run_over::<.., R, W>(alloc, setup, reader, writer)
     )
 }
 
