@@ -6,8 +6,8 @@ ghost use Rattle.rcu_live.specs.Waits.{HasRested};
 ghost use Rattle.rcu_graph.specs.Waits.{AreOf, CanWait, HasGivenUp, HasMadeRoom};
 
 use crate::keeper::Keeper;
-use crate::rule::{GraphEngine, GraphRule, GraphSeat, Shape};
-use rcu_live::Within;
+use crate::rule::{GraphRule, GraphSeat, Shape};
+use rcu_live::{Live, Within};
 use rcu_seq::{Cookie, Fault, Tag};
 use std::sync::Wait;
 
@@ -23,7 +23,7 @@ impl<F: Shape, P: Within<GraphRule<F>>> Keeper<F, P> {
     pub fn wait_until_free<const LEAF: u32, const FAN: u32, T: Drop>(
         &mut self,
         rt: &impl Wait,
-        live: &GraphEngine<LEAF, FAN, T, F, P>,
+        live: &Live<LEAF, FAN, T, P::Whole>,
         seat: &mut GraphSeat<F, P>,
     ) -> Result<(), Fault>
         requires { CanWait (engine_part P.own_plan P.begins live.now) (seat_part P.lens seat.old)

@@ -74,16 +74,11 @@ impl<F: Shape> Client for GraphRule<F> {
         plan.nodes) };
 }
 
-/// The engine of a graph, which threads share: the graph is its only client, or one of several, at
-/// this place.
-pub type GraphEngine<const LEAF: u32, const FAN: u32, T, F, P = Alone> = Live<
-    LEAF,
-    FAN,
-    T,
-    <P as Within<GraphRule<F>>>::Whole,
->;
+/// The engine of a graph, which threads share: the graph is its only client.
+pub type GraphEngine<const LEAF: u32, const FAN: u32, T, F> = Live<LEAF, FAN, T, GraphRule<F>>;
 
-/// A processor's seat of such an engine.
+/// A processor's seat of a graph's engine: the graph is its only client, or one of several, at this
+/// place.
 pub type GraphSeat<F, P = Alone> = CpuSeat<<P as Within<GraphRule<F>>>::Whole>;
 
 /// A watcher's seat of such an engine.
