@@ -255,7 +255,7 @@ void __tsan_acquire(void *place);
 /* The calls that make a full fence: rcu_end, rcu_turn, rcu_arrive, rcu_seat_quiesce,
  * rcu_seat_quiesce_since, rcu_seat_renew, rcu_seat_wake, rcu_seat_take, rcu_seat_poll,
  * rcu_links_tend, rcu_defer_run, rcu_drive, rcu_drive_for, rcu_seat_pin, rcu_seat_repin,
- * rcu_barrier_wait. */
+ * rcu_barrier_wait, rcu_map_wait. */
 
 /* ---- opening and closing */
 
@@ -916,8 +916,25 @@ uint64_t rcu_map_len(rcu_t *rcu);
 /* Looks at the number: the nodes of entries that were replaced or removed wait from now on for the
  * grace period of the cookie that this writes, and those whose grace period has passed are free. No
  * entry changes. It costs a load, and a step for each node that waits from now on or is free.
- * Where a node is wanted (31): call it, drive until the cookie is done, and call it again. */
+ * Where a node is wanted (31): call it, drive until the cookie is done, and call it again; or call
+ * rcu_map_wait. */
 uint32_t rcu_map_age(rcu_t *rcu, uint64_t *cookie);
+
+/* One step of waiting for a free node, for who drives: it looks at the number, as rcu_map_age.
+ * Where no node is free then, it takes a step of driving for the cookie of that number, as
+ * rcu_drive_for. No entry changes.
+ * Where a call that puts an entry in finds no node free (31): call this, and that again, until it
+ * is done or this is refused. In between let other threads run; the caller's own processor is idle
+ * or offline, or passes quiescent states. It orders what rcu_drive_for orders.
+ * Faults: 31 where each node has an entry, so that none becomes free before one is removed; 11
+ * where a grace period would begin, and the number is the last one.
+ * Fence: behind. */
+uint32_t rcu_map_wait_unfenced(rcu_t *rcu);
+static inline uint32_t rcu_map_wait(rcu_t *rcu) {
+    uint32_t result = rcu_map_wait_unfenced(rcu);
+    rcu_fence();
+    return result;
+}
 
 /* <<< */
 

@@ -70,6 +70,7 @@ static void refuse_engine(rcu_t *none, uint32_t fault) {
     must("rcu_map_find", rcu_map_find(none, 7, out.values, 2), fault);
     must("rcu_map_len", rcu_map_len(none), 0);
     must("rcu_map_age", rcu_map_age(none, &out.number), fault);
+    must("rcu_map_wait", rcu_map_wait(none), fault);
     rcu_close(none);
     must("rcu_close", none->at == at && !closed.at, true);
 }

@@ -203,6 +203,7 @@ static void tell_all(const char *handles, rcu_t *engine, rcu_seat_t *seat, uint6
         rcu_map_remove(engine, key, old, words),
         rcu_map_find(engine, key, old, words),
         rcu_map_age(engine, &cookie),
+        rcu_map_wait(engine),
         rcu_map_get(seat, key, old, words),
         rcu_map_next(seat, key, old, words)};
     printf("%s:", handles);
@@ -252,10 +253,19 @@ static void fill(rcu_t *engine, rcu_seat_t *seat) {
     printf("a section finds %" PRIu64 "\n", old[1]);
     must("get", rcu_map_get(seat, 2, old, 2));
     printf("then the key %" PRIu64 ", and %" PRIu64 " stays\n", old[0], old[1]);
-    printf("insert, replace, put, remove, find, age, get, next:\n");
+    printf("insert, replace, put, remove, find, age, wait, get, next:\n");
     tell_all("key 0", engine, seat, 0, 2);
     tell_all("three words", engine, seat, 3, 3);
+    must("remove", rcu_map_remove(engine, 3, old, 2));
+    for (unsigned i = 0; i < 8; i++) must("wait", rcu_map_wait(engine));
+    tell("waiting beside the section", put_two(rcu_map_put, engine, 4, 40, old));
     must("unpin", rcu_seat_unpin(seat, &depth));
+    unsigned steps = 0;
+    while (put_two(rcu_map_put, engine, 4, 40, old) == RCU_MAP_FULL) {
+        must("wait", rcu_map_wait(engine));
+        steps++;
+    }
+    printf("behind it a node was free after %u steps\n", steps);
 }
 
 static void refuse_calls(void) {

@@ -799,8 +799,22 @@ extern "C" {
     /// free. No entry changes. It costs a load, and a step for each node that waits from now on or
     /// is free.
     ///
-    /// Where a node is wanted (31): call it, drive until the cookie is done, and call it again.
+    /// Where a node is wanted (31): call it, drive until the cookie is done, and call it again; or
+    /// call `rcu_map_wait`.
     pub fn rcu_map_age(rcu: *mut rcu_t, cookie: *mut u64) -> u32;
+    /// One step of waiting for a free node, for who drives: it looks at the number, as
+    /// `rcu_map_age`. Where no node is free then, it takes a step of driving for the cookie of that
+    /// number, as `rcu_drive_for`. No entry changes.
+    ///
+    /// Where a call that puts an entry in finds no node free (31): call this, and that again, until
+    /// it is done or this is refused. In between let other threads run; the caller's own processor
+    /// is idle or offline, or passes quiescent states. It orders what `rcu_drive_for` orders.
+    ///
+    /// Faults: 31 where each node has an entry, so that none becomes free before one is removed; 11
+    /// where a grace period would begin, and the number is the last one.
+    ///
+    /// Fence: behind.
+    pub fn rcu_map_wait_unfenced(rcu: *mut rcu_t) -> u32;
 }
 
 /// Ends the grace period. Writes the new number.
@@ -1141,6 +1155,28 @@ pub unsafe fn rcu_seat_repin(seat: *mut rcu_seat_t, number: *mut u64) -> u32 {
 /// As the header says.
 pub unsafe fn rcu_barrier_wait(rcu: *mut rcu_t, left: *mut u64) -> u32 {
     let result = rcu_barrier_wait_unfenced(rcu, left);
+    fence(SeqCst);
+    result
+}
+
+/// One step of waiting for a free node, for who drives: it looks at the number, as `rcu_map_age`.
+/// Where no node is free then, it takes a step of driving for the cookie of that number, as
+/// `rcu_drive_for`. No entry changes.
+///
+/// Where a call that puts an entry in finds no node free (31): call this, and that again, until it
+/// is done or this is refused. In between let other threads run; the caller's own processor is idle
+/// or offline, or passes quiescent states. It orders what `rcu_drive_for` orders.
+///
+/// Faults: 31 where each node has an entry, so that none becomes free before one is removed; 11
+/// where a grace period would begin, and the number is the last one.
+///
+/// Fence: behind.
+///
+/// # Safety
+///
+/// As the header says.
+pub unsafe fn rcu_map_wait(rcu: *mut rcu_t) -> u32 {
+    let result = rcu_map_wait_unfenced(rcu);
     fence(SeqCst);
     result
 }

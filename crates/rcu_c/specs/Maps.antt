@@ -1,13 +1,17 @@
 -- The map of an engine, as its keeper knows it and as a seat's section reads it.
-use Rattle.std.specs.Prelude.{◌≡◌, ◌≤◌, ◌<◌, ◌==◌, ◌^◌, ℕ, if◌then◌else◌, IfNone, IsSome, List}
+use Rattle.std.specs.Prelude.{◌≡◌, ◌≢◌, ◌≤◌, ◌<◌, ◌==◌, ◌^◌, ℕ, if◌then◌else◌, IfNone, IsSome, List}
 use Rattle.std.specs.Prelude.{Option, Some, None, Result, Ok, Err, length}
 use Rattle.rcu_seq.specs.Numbers.{Number, snapshot}
+use Rattle.rcu_seq.specs.declared.cookie.Cookie.{Cookie}
 use Rattle.rcu_live.specs.CpuSeat.{after_word_step, exit_refusal}
+use Rattle.rcu_live.specs.Drive.{after_drive, drive_refusal, wants_for}
+use Rattle.rcu_live.specs.Engine.{latest_words}
 use Rattle.rcu_live.specs.Watcher.{Watching}
 use Rattle.rcu_graph.specs.Beside.{Moment}
 use Rattle.rcu_graph.specs.Graph.{IsOfSameGraph}
 use Rattle.rcu_graph.specs.Keeper.{after_look}
 use Rattle.rcu_graph.specs.Nodes.{nodes_in}
+use Rattle.rcu_graph.specs.Tended.{AreAllUsed}
 use Rattle.rcu_graph.specs.declared.keeper.Full.{Full}
 use Rattle.rcu_graph.specs.declared.known.Known.{Known}
 use Rattle.rcu_graph.specs.declared.known.Node.{Node}
@@ -21,7 +25,9 @@ use Rattle.rcu_map.specs.Keys.{key_in}
 use Rattle.rcu_map.specs.Puts.{HasAnswered, HasChanged, Holds}
 use Rattle.rcu_map.specs.Words.{as_words}
 use Rattle.rcu_map.specs.declared.put.Put.{Put}
-use Rattle.rcu_c.specs.Holding.{cpu_of, keeper_of, on_cpu, on_opened, seat_of}
+use Rattle.rcu_c.specs.Answers.{cookie_in_c, number_for}
+use Rattle.rcu_c.specs.Holding.{cpu_of, engine_of, grace_of, keeper_of, on_cpu, on_engine}
+use Rattle.rcu_c.specs.Holding.{on_opened, seat_of}
 use Rattle.rcu_c.specs.MapEntries.{IsKeyed, told}
 use Rattle.rcu_c.specs.Refusals.{by_engine, first_of}
 use Rattle.rcu_c.specs.declared.contents.Contents.{Contents}
@@ -113,6 +119,24 @@ pub record HasAgedInC (h : Option Contents) (cookie : ℕ) (now : Option Content
   pub bounded : number ≤ 2 ^ 62
   pub cookie_of : cookie ≡ snapshot number
   pub entries : AreSameEntries (map_buckets h) (map_nodes h) (map_nodes now)
+
+-- the engine of a handle took a step of driving for this cookie, or refused it, and returned this
+pub record HasDrivenFor (cookie : Cookie) (h : Option Contents) (result : ℕ)
+    (now : Option Contents) : Type 0 where
+  pub fault : result
+      ≡ number_for (drive_refusal (grace_of h) (wants_for cookie (grace_of h)))
+  pub state : result ≡ 0 → now
+      ≡ on_engine (λ e. after_drive e (wants_for cookie e.grace) (latest_words (engine_of now))) h
+  pub unchanged : result ≢ 0 → now ≡ h
+
+-- the keeper looked at a number. Where a node was free then, that was all; and else the engine took
+-- a step of driving for the cookie of that number
+pub record HasWaitedInC (h : Option Contents) (result : ℕ) (now : Option Contents) : Type 0 where
+  pub cookie : ℕ
+  pub looked : Option Contents
+  pub look : HasAgedInC h cookie looked
+  pub at_once : ¬ AreAllUsed (map_nodes looked) → (result ≡ 0) × (now ≡ looked)
+  pub driven : AreAllUsed (map_nodes looked) → HasDrivenFor (cookie_in_c cookie) looked result now
 
 -- what the section of a seat came to
 abbrev pub known_of : Option Contents → Known

@@ -133,8 +133,8 @@ pub fn sections_end_before_what_waits_for_them()
 /// Each call that changes an engine, and returns 0, is a step of a run of it: what its clause
 /// `state` says is what the step leaves, and what its faults say is why the step may be made. A
 /// departure that returns 2 or 16 is one, too. Collecting from all is none where no grace period
-/// runs: it changes nothing then. Nor is an update of the map: it leaves the running engine as it
-/// is. An engine is new as it is opened.
+/// runs: it changes nothing then. Nor is an update of the map, or a wait for a node that finds one
+/// free: it leaves the running engine as it is. An engine is new as it is opened.
 pub fn calls_are_steps_of_a_run()
     ensures new { (identity : Identity) (table wishes : TableId) (plan : Plan) (cpus last : ℕ) →
         IsNew (opened_at_first identity table wishes plan cpus last).engine }

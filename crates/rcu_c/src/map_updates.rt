@@ -2,14 +2,17 @@
 //! read the map meanwhile, and see the entries as they were before a call or as they are after it.
 ghost use Rattle.std.specs.Prelude.{◌≡◌, ◌≢◌, length};
 ghost use Rattle.rcu_map.specs.Entries.{entries_in};
+ghost use Rattle.rcu_map.specs.Waits.{AreAllLive};
 ghost use Rattle.rcu_map.specs.declared.put.Put.{Put};
 ghost use Rattle.rcu_c.specs.Answers.{number_in_c};
-ghost use Rattle.rcu_c.specs.Maps.{HasAgedInC, IsFoundInC, IsNotPutInC, IsPutInC, IsTakenOutInC};
-ghost use Rattle.rcu_c.specs.Maps.{entry_refusal, keeper_width, map_buckets, map_nodes};
-ghost use Rattle.rcu_c.specs.Maps.{width_refusal};
+ghost use Rattle.rcu_c.specs.Holding.{HoldsEngine};
+ghost use Rattle.rcu_c.specs.Maps.{HasAgedInC, HasWaitedInC, IsFoundInC, IsNotPutInC, IsPutInC};
+ghost use Rattle.rcu_c.specs.Maps.{IsTakenOutInC, entry_refusal, keeper_width, map_buckets};
+ghost use Rattle.rcu_c.specs.Maps.{map_nodes, width_refusal};
 ghost use Rattle.rcu_c.specs.Refusals.{engine_number};
 ghost use Rattle.rcu_c.specs.Staying.{BothStay};
 
+use crate::codes::code;
 use crate::handle::Rcu;
 use crate::keyed_words::tell;
 use crate::refusal::Refusal;
@@ -177,7 +180,8 @@ pub extern "C" fn rcu_map_len(rcu: &mut Rcu) -> u64
 /// grace period of the cookie that this writes, and those whose grace period has passed are free.
 /// No entry changes. It costs a load, and a step for each node that waits from now on or is free.
 ///
-/// Where a node is wanted (31): call it, drive until the cookie is done, and call it again.
+/// Where a node is wanted (31): call it, drive until the cookie is done, and call it again; or call
+/// `rcu_map_wait`.
 #[unsafe(no_mangle)]
 pub extern "C" fn rcu_map_age(rcu: &mut Rcu, cookie: &mut u64) -> u32
     ensures fault { result ≡ engine_number rcu.old.contents 0 }
@@ -192,5 +196,44 @@ pub extern "C" fn rcu_map_age(rcu: &mut Rcu, cookie: &mut u64) -> u32
             0
         }
         Err(refusal) => refusal.number(),
+    }
+}
+
+/// One step of waiting for a free node, for who drives: it looks at the number, as `rcu_map_age`.
+/// Where no node is free then, it takes a step of driving for the cookie of that number, as
+/// `rcu_drive_for`. No entry changes.
+///
+/// Where a call that puts an entry in finds no node free (31): call this, and that again, until it
+/// is done or this is refused. In between let other threads run; the caller's own processor is
+/// idle or offline, or passes quiescent states. It orders what `rcu_drive_for` orders.
+///
+/// Faults: 31 where each node has an entry, so that none becomes free before one is removed; 11
+/// where a grace period would begin, and the number is the last one.
+///
+/// Fence: behind.
+#[unsafe(no_mangle)]
+pub extern "C" fn rcu_map_wait_unfenced(rcu: &mut Rcu) -> u32
+    ensures open { HoldsEngine rcu.old.contents → HoldsEngine rcu.new.contents }
+    ensures full { AreAllLive (map_nodes rcu.old.contents) →
+        (result ≡ engine_number rcu.old.contents 31)
+        × (rcu.new.contents ≡ rcu.old.contents) }
+    ensures fault { result ≢ 0 → result ≢ 31 → result ≡ engine_number rcu.old.contents 11 }
+    ensures waited { ¬ AreAllLive (map_nodes rcu.old.contents) →
+        HasWaitedInC rcu.old.contents result rcu.new.contents }
+{
+    let opened = match rcu.engine() {
+        Ok(opened) => opened,
+        Err(refusal) => return refusal.number(),
+    };
+    if opened.map.is_all_live() {
+        return Refusal::MapFull.number();
+    }
+    let cookie = Cookie::of(Tag::of_first_epoch(opened.map.age()));
+    if opened.map.has_free_node() {
+        return 0;
+    }
+    match opened.inner.drive_for(cookie) {
+        Ok(_) => 0,
+        Err(fault) => code(fault),
     }
 }

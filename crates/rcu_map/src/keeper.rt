@@ -6,11 +6,13 @@ ghost use Rattle.rcu_graph.specs.Graph.{IsOfSameGraph};
 ghost use Rattle.rcu_graph.specs.Keeper.{IsKeeperOf, after_look};
 ghost use Rattle.rcu_graph.specs.Nodes.{node_at, nodes_in};
 ghost use Rattle.rcu_graph.specs.Steps.{IsClaimed};
+ghost use Rattle.rcu_graph.specs.Tended.{AreAllUsed};
 ghost use Rattle.rcu_map.specs.Chains.{IsMap, buckets_in, seed_in};
 ghost use Rattle.rcu_map.specs.Entries.{AreSameEntries, HasKey, IsEntry, IsEntryOf};
 ghost use Rattle.rcu_map.specs.Entries.{IsNodeOf, entries_in};
 ghost use Rattle.rcu_map.specs.Keys.{root_words};
 ghost use Rattle.rcu_map.specs.Splices.{IsPlace};
+ghost use Rattle.rcu_map.specs.Waits.{AreAllLive};
 ghost use Rattle.rcu_map.specs.Words.{as_words};
 
 use crate::bucket::bucket_of;
@@ -95,6 +97,23 @@ impl<E: Invariant, const W: usize, P: Within<MapRule<E, W>>> MapKeeper<E, W, P> 
         ensures { result ≡ entries_in (buckets_in self.now) (nodes_in self.now.view.client.known) }
     {
         self.len
+    }
+
+    /// Whether each node is live: the root of a bucket, or an entry's. Then none becomes free
+    /// before an entry is taken out.
+    pub fn is_all_live(&self) -> bool
+        ensures { IsTrue result ↔ AreAllLive (nodes_in self.now.view.client.known) }
+    {
+        let plan = self.nodes.plan();
+        self.len + plan.roots == plan.nodes
+    }
+
+    /// Whether a node is free, so that an entry can be put in.
+    pub fn has_free_node(&self) -> bool
+        ensures free { result ≡ true → ¬ AreAllUsed (nodes_in self.now.view.client.known) }
+        ensures used { result ≡ false → AreAllUsed (nodes_in self.now.view.client.known) }
+    {
+        self.nodes.free_node().is_ok()
     }
 
     /// Where a key belongs.

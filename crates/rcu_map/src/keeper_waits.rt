@@ -1,5 +1,5 @@
 //! Calls that wait until a node is free.
-ghost use Rattle.std.specs.Prelude.{◌≡◌, ◌≢◌, ◌↔◌, ◌<◌, Err, IfErr, IfOk, IsTrue, MatchResult};
+ghost use Rattle.std.specs.Prelude.{◌≡◌, ◌≢◌, ◌↔◌, ◌<◌, Err, IfErr, IfOk, MatchResult};
 ghost use Rattle.std.specs.Prelude.{OnErr, OnOk, is_some};
 ghost use Rattle.rcu_seq.specs.declared.fault.Fault.{Fault};
 ghost use Rattle.rcu_live.specs.InPart.{engine_part, seat_part};
@@ -32,14 +32,6 @@ pub(crate) fn check_outside<C: Client>(seat: &CpuSeat<C>) -> Result<(), Fault>
 }
 
 impl<E: Entry<W>, const W: usize, P: Within<MapRule<E, W>>> MapKeeper<E, W, P> {
-    /// Whether each node is live: the root of a bucket, or an entry's.
-    pub(crate) fn is_all_live(&self) -> bool
-        ensures { IsTrue result ↔ AreAllLive (nodes_in self.now.view.client.known) }
-    {
-        let plan = self.nodes.plan();
-        self.len + plan.roots == plan.nodes
-    }
-
     /// Looks at the number, and drives the engine, until a node is free.
     fn wait_until_free<const LEAF: u32, const FAN: u32, T: Drop>(
         &mut self,
