@@ -130,10 +130,10 @@ impl<E: Invariant, const W: usize, P: Within<MapRule<E, W>>> Map<E, W, P> {
             (P.lens.get seat.old.view.client).known node words →
             IsWhole E.holds self.now.plan.words words → key_in words ≡ key → entry.new ≡ words }
     {
-        let words = self.plan().words;
+        self.plan();
         let row = self.row();
         entry[0] = key;
-        for word in 1..words {
+        for word in 1..row.words {
             entry[word] = self.graph.read(seat, row, node, word);
         }
     }
