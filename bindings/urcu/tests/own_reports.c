@@ -1,13 +1,13 @@
 /* What liburcu does not have: reports, counters, and words on misuse. */
 #include "own.h"
+#include <stdatomic.h>
 #include <sys/wait.h>
 #ifndef NO_EXTRAS
 
 static struct urcu_stall said;
-static int times;
+static atomic_int times;
 static void hear(const struct urcu_stall *stall, void *context) {
-    said = *stall;
-    *(int *)context += 1;
+    if (atomic_fetch_add((atomic_int *)context, 1) == 0) said = *stall;
 }
 
 static void *wait_once(void *it) {
@@ -22,7 +22,7 @@ static int stalls(void) {
     EXTRA(on_stall)(50, hear, &times);
     open_section(&holder);
     if (pthread_create(&waiter, 0, wait_once, 0)) return 0;
-    rest(180);
+    for (int i = 0; i < 1000 && !times; i++) rest(10);
     close_section(&holder);
     pthread_join(waiter, 0);
     end_holder(&holder);
