@@ -49,13 +49,17 @@ impl<F: Version<W>, const W: usize, P: Within<CellRule<F, W>>> Cell<F, W, P> {
         Cell { graph }
     }
 
-    /// The row of each node, by constants: what waits for a load multiplies by no other number.
+    /// The rows of the nodes, by constants: what waits for a load multiplies by no other number.
     fn row(&self) -> Row
-        ensures { result ≡ row_of self.now.plan }
+        ensures { result ≡ row_of self.now }
     {
         // A borrow of a field shows the prover what the type keeps: that a node has one link.
-        let _ = &self.graph;
-        Row { links: 1, words: W }
+        let graph = &self.graph;
+        Row {
+            base: graph.base(),
+            links: 1,
+            words: W,
+        }
     }
 
     /// Loads which slot is shown, and returns it: the open section reads its version from now on,

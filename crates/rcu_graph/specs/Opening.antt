@@ -4,6 +4,7 @@ use Rattle.std.specs.Prelude.{[], length, slice_index}
 use Rattle.atomic_table.specs.Seated.{TableId}
 use Rattle.rcu_seq.specs.Memory.{tested_fault}
 use Rattle.rcu_seq.specs.declared.fault.Fault.{Fault}
+use Rattle.rcu_live.specs.Board.{Object}
 use Rattle.rcu_live.specs.Watcher.{Watching, after_word_step, watcher_at_first}
 use Rattle.rcu_live.specs.Words.{base_of}
 use Rattle.rcu_graph.specs.Nodes.{first_nodes, place_of}
@@ -24,9 +25,10 @@ pub record IsSized (plan : Plan) : Type 0 where
   pub row : plan.links + plan.words ≤ 2 ^ 32
   pub small : (plan.links + plan.words) * plan.nodes ≤ 2 ^ 32
 
--- the row of each node
-abbrev pub row_of : Plan → Row
-row_of plan = record { links = plan.links; words = plan.words }
+-- the rows of the nodes
+abbrev pub row_of : Object Plan → Row
+row_of graph =
+    record { base = graph.base; links = graph.plan.links; words = graph.plan.words }
 
 -- the fault that the tests of an opening found that has good sizes: none where it is accepted, or
 -- where memory is refused

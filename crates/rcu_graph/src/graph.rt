@@ -23,7 +23,7 @@ use std::sync::Arc;
 pub struct Graph<F: Shape, P: Within<GraphRule<F>> = Alone> {
     pub(crate) board: Arc<Board<P::Whole>, Global>,
     pub(crate) plan: Plan,
-    /// Where its words begin among those of all clients.
+    /// Where its words begin in the engine's table.
     pub(crate) base: usize,
 }
 
@@ -41,7 +41,7 @@ impl<F: Shape, P: Within<GraphRule<F>>> Model for Graph<F, P> {
 
     ghost invariant = { λ graph. record {
       planned : P.own_plan (arc_value graph.board).plan ≡ graph.plan;
-      base : graph.base ≡ P.begins 0 (arc_value graph.board).plan;
+      base : graph.base ≡ P.begins (arc_value graph.board).base (arc_value graph.board).plan;
       room : P.begins (arc_value graph.board).base (arc_value graph.board).plan
           + (first_place + (graph.plan.links + graph.plan.words) * graph.plan.nodes)
           ≤ (arc_value graph.board).table.words;
@@ -85,16 +85,30 @@ impl<F: Shape, P: Within<GraphRule<F>>> Graph<F, P> {
         self.plan
     }
 
-    /// The row of each of its nodes.
-    pub fn row(&self) -> Row
-        ensures { result ≡ row_of self.now.plan }
+    /// Where its words begin in the table of its engine.
+    pub fn base(&self) -> usize
+        ensures { result ≡ self.now.base }
     {
-        self.plan().row()
+        // A borrow of a field shows the prover what the type keeps.
+        let _ = &self.board;
+        self.base
+    }
+
+    /// The rows of its nodes.
+    pub fn row(&self) -> Row
+        ensures { result ≡ row_of self.now }
+    {
+        let plan = self.plan();
+        Row {
+            base: self.base(),
+            links: plan.links,
+            words: plan.words,
+        }
     }
 
     /// The place of the cell `k` of a node's row: its links stand there, and its words behind them.
     pub(crate) fn place(&self, row: Row, node: usize, k: usize) -> usize
-        requires row { row ≡ row_of self.now.plan }
+        requires row { row ≡ row_of self.now }
         requires node { node < self.now.plan.nodes }
         requires inside { k < self.now.plan.links + self.now.plan.words }
         ensures place { result ≡ place_of (self.now.plan.links + self.now.plan.words) node k }
@@ -110,8 +124,8 @@ impl<F: Shape, P: Within<GraphRule<F>>> Graph<F, P> {
     /// load: the section holds that one too until it closes, whole and with its words as they are
     /// (Linux's `rcu_dereference` of a `next`). The seat's view has the load as one hop more.
     ///
-    /// The row is as [`row`](Self::row) has it: who knows it as a constant spares a multiplication
-    /// between two loads of which one waits for the other.
+    /// The row is as [`row`](Self::row) has it. Who goes over many nodes keeps it, and knows its
+    /// numbers of links and words as constants, and so spares loads and a multiplication.
     pub fn follow(
         &self,
         seat: &mut GraphSeat<F, P>,
@@ -119,7 +133,7 @@ impl<F: Shape, P: Within<GraphRule<F>>> Graph<F, P> {
         from: usize,
         link: usize,
     ) -> Option<usize>
-        requires row { row ≡ row_of self.now.plan }
+        requires row { row ≡ row_of self.now }
         requires at { IsAt (F.first self.now.plan) self.now (seat_part P.lens seat.old) from }
         requires link { link < self.now.plan.links }
         ensures same { seat.new ≡ after_word_step seat.old
@@ -134,17 +148,15 @@ impl<F: Shape, P: Within<GraphRule<F>>> Graph<F, P> {
             IsAt (F.first self.now.plan) self.now (seat_part P.lens seat.new) node) }
     {
         let place = self.place(row, from, link);
-        let word = self.load::<Follow<F>>(seat, place);
-        if word == 0 {
-            return None;
-        }
-        Some((word - 1) as usize)
+        let word = self.load::<Follow<F>>(seat, row.base, place);
+        let node = word.checked_sub(1)?;
+        Some(node as usize)
     }
 
     /// Loads a word of the node that the section is on: the one that it had when the section came
     /// to it. The row is as of [`follow`](Self::follow).
     pub fn read(&self, seat: &mut GraphSeat<F, P>, row: Row, node: usize, word: usize) -> u64
-        requires row { row ≡ row_of self.now.plan }
+        requires row { row ≡ row_of self.now }
         requires at { IsAt (F.first self.now.plan) self.now (seat_part P.lens seat.old) node }
         requires word { word < self.now.plan.words }
         ensures same { seat.new ≡ seat.old }
@@ -154,6 +166,6 @@ impl<F: Shape, P: Within<GraphRule<F>>> Graph<F, P> {
         // A borrow of a field shows the prover what the type keeps: that the words fit in memory.
         let _ = &self.board;
         let place = self.place(row, node, row.links + word);
-        self.load::<Read<F>>(seat, place)
+        self.load::<Read<F>>(seat, row.base, place)
     }
 }

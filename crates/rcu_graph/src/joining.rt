@@ -42,10 +42,11 @@ impl<F: Shape, P: Within<GraphRule<F>>> Graph<F, P> {
     {
         let words = &**board;
         words.fits();
+        let behind = P::base(plan);
         let graph = Graph {
             board: Arc::try_clone(board)?,
             plan: P::plan(plan),
-            base: P::base(plan),
+            base: words.base() + behind,
         };
         let mut keeper = in_part::hand_over::<GraphRule<F>, P>(own, words);
         graph.claim(&mut keeper);

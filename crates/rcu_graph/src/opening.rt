@@ -126,11 +126,8 @@ impl<F: Shape> Graph<F> {
             watchers,
             mut own,
         } = Parts::<LEAF, FAN, T, GraphRule<F>>::open_for(alloc, cpus, last, MOST, plan)?;
-        let graph = Graph {
-            board,
-            plan,
-            base: 0,
-        };
+        let base = board.base();
+        let graph = Graph { board, plan, base };
         graph.claim(&mut own);
         Ok(Opened {
             live: engine,

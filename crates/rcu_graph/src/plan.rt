@@ -15,9 +15,12 @@ pub struct Plan {
     pub seed: u64,
 }
 
-/// What a node's row has: so many links, and behind them so many words.
+/// Where the cells of nodes stand: each node has a row of so many links, and behind them so many
+/// words.
 #[derive(Clone, Copy, Debug, PartialEq, Eq)]
 pub struct Row {
+    /// Where the graph's words begin in the table of its engine.
+    pub base: usize,
     pub links: usize,
     pub words: usize,
 }
@@ -26,8 +29,8 @@ pub struct Row {
 const MOST: usize = 1 << 32;
 
 impl Plan {
-    ghost use Rattle.std.specs.Prelude.{◌≡◌, ◌↔◌, IsTrue};
-    ghost use Rattle.rcu_graph.specs.Opening.{IsSized, row_of};
+    ghost use Rattle.std.specs.Prelude.{◌↔◌, IsTrue};
+    ghost use Rattle.rcu_graph.specs.Opening.{IsSized};
 
     /// Whether a graph may be as large as that: its roots are nodes, each node has a word, and all
     /// links and words are no more than 2^32.
@@ -44,15 +47,5 @@ impl Plan {
             return false;
         }
         matches!(row.checked_mul(self.nodes), Some(cells) if cells <= MOST)
-    }
-
-    /// The row of each of its nodes.
-    pub fn row(self) -> Row
-        ensures { result ≡ row_of self }
-    {
-        Row {
-            links: self.links,
-            words: self.words,
-        }
     }
 }

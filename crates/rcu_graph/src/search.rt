@@ -16,7 +16,7 @@ use rcu_live::Within;
 impl<F: Shape, P: Within<GraphRule<F>>> Graph<F, P> {
     /// The key of a node on which the section is.
     fn key_of(&self, seat: &mut GraphSeat<F, P>, row: Row, node: usize) -> u64
-        requires row { row ≡ row_of self.now.plan }
+        requires row { row ≡ row_of self.now }
         requires at { IsAt (F.first self.now.plan) self.now (seat_part P.lens seat.old) node }
         ensures same { seat.new ≡ seat.old }
         ensures told { (words : List ℕ) → IsOn (F.first self.now.plan) self.now.plan.roots
@@ -32,7 +32,7 @@ impl<F: Shape, P: Within<GraphRule<F>>> Graph<F, P> {
     /// none only where a hop led nowhere, or to a greater key. The row is as of
     /// [`follow`](Self::follow).
     pub fn find(&self, seat: &mut GraphSeat<F, P>, row: Row, root: usize, key: u64) -> Option<usize>
-        requires row { row ≡ row_of self.now.plan }
+        requires row { row ≡ row_of self.now }
         requires walking { IsWalking self.now (seat_part P.lens seat.old) }
         requires root { root < self.now.plan.roots }
         requires link { 0 < self.now.plan.links }

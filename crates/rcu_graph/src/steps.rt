@@ -15,8 +15,14 @@ use rcu_live::in_part::{self, Spot};
 use rcu_live::{NumberStep, Within, WordStep};
 
 impl<F: Shape, P: Within<GraphRule<F>>> Graph<F, P> {
-    /// Loads a word by a processor's seat.
-    pub(crate) fn load<M: WordStep<Planned>>(&self, seat: &mut GraphSeat<F, P>, place: usize) -> u64
+    /// Loads a word by a processor's seat. Where the graph's words begin is the caller's to keep.
+    pub(crate) fn load<M: WordStep<Planned>>(
+        &self,
+        seat: &mut GraphSeat<F, P>,
+        base: usize,
+        place: usize,
+    ) -> u64
+        requires base { base ≡ self.now.base }
         requires seat { cpu_seat.IsSeatOf self.now (seat_part P.lens seat.old) }
         requires inside { place < first_place + (self.now.plan.links + self.now.plan.words)
             * self.now.plan.nodes }
@@ -28,10 +34,7 @@ impl<F: Shape, P: Within<GraphRule<F>>> Graph<F, P> {
         ensures others { seat.new ≡ cpu_seat.after_word_step seat.old
             (P.lens.set seat.old.view.client (P.lens.get seat.new.view.client)) }
     {
-        let spot = Spot {
-            base: self.base,
-            word: place,
-        };
+        let spot = Spot { base, word: place };
         in_part::load_word::<GraphRule<F>, P, M>(seat, &*self.board, spot)
     }
 

@@ -76,13 +76,12 @@ module _ {D C : Type 0} (lens : Lens D C) where
 
   -- what a step tells of a part's word, by what it tells of the word at a place
   pub told_word : ((base : ℕ) (d : D) → lens.begins base d ≡ base + lens.begins 0 d)
-      → (tells : ℕ → C → ℕ → C → Type 0) (was : D) (x : ℕ) (now : D)
-      (front from own place word : ℕ)
-      → lens.begins from was ≡ front + own
-      → place ≡ own + word
-      → ((q : ℕ) → front + place ≡ from + q → word_of_part lens tells q was x now)
+      → (tells : ℕ → C → ℕ → C → Type 0) (was : D) (x : ℕ) (now : D) (from start index word : ℕ)
+      → lens.begins from was ≡ start
+      → index ≡ start + word
+      → ((q : ℕ) → index ≡ from + q → word_of_part lens tells q was x now)
       → of_part lens (λ c e. tells word c x e) was now
-  told_word behind tells was x now front from own place word seat there told =
+  told_word behind tells was x now from start index word seat there told =
       let far = behind from was in
       let t = told (lens.begins 0 was + word) (omega (arith, far, seat, there)) in
       (t.0, t.1 word refl)

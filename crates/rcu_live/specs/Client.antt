@@ -1,5 +1,5 @@
 -- What a client of the engine sees of the seats, and what its rule owes the engine.
-use Rattle.std.specs.Prelude.{◌≡◌, ℕ, true, List, [], ◌∷◌, ◌++◌, Option, Some, None, length}
+use Rattle.std.specs.Prelude.{◌≡◌, ℕ, ◌+◌, true, List, [], ◌∷◌, ◌++◌, Option, Some, None, length}
 use Rattle.std.specs.Prelude.{slice_index, slice_set}
 use mathlib.Core.Option.{some}
 use lib.ListN.{get_elem?}
@@ -65,6 +65,11 @@ module _ {C : Type 0} (holds : List ℕ → Views C → Type 0) (cpu section : O
       × holds (slice_set words p (change (slice_index words p)))
       (slice_set xs id (cpu, section, after))
       × tells (slice_index words p) after
+
+  -- the same by the word's index in the table, where the client's words begin at this base
+  abbrev pub AllowsAt : ℕ → ℕ → (ℕ → ℕ) → (ℕ → ℕ → C → Type 0) → Type 0
+  AllowsAt base index change tells =
+      (word : ℕ) × (index ≡ base + word) × AllowsWord word change (tells word)
 
   -- a client's look at the number
   abbrev pub AllowsNumber : (Number → C → Type 0) → Type 0

@@ -95,6 +95,13 @@ impl<P: Client> Board<P> {
         let _ = &self.table;
     }
 
+    /// Where the client's words begin in the table, behind the engine's.
+    pub fn base(&self) -> usize
+        ensures { result ≡ self.now.base }
+    {
+        own_word_index(self.cpus)
+    }
+
     /// The number of processors.
     pub fn cpus(&self) -> u32
         ensures { result ≡ self.now.cpus }

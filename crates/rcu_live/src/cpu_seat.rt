@@ -3,7 +3,7 @@ ghost use Rattle.std.specs.Prelude.{◌≡◌, ◌≢◌, ◌<◌, ◌≤◌, �
 ghost use Rattle.std.specs.Prelude.{Some, false, not};
 ghost use Rattle.std.specs.Result.{result_err};
 ghost use Rattle.rcu_live.specs.Board.{HasWord};
-ghost use Rattle.rcu_live.specs.Client.{AllowsWord};
+ghost use Rattle.rcu_live.specs.Client.{AllowsAt, AllowsWord};
 ghost use Rattle.rcu_live.specs.CpuSeat.{AcceptedAt, IsSeatOf, KnowsBy, NotedAt, RenewedAt};
 ghost use Rattle.rcu_live.specs.CpuSeat.{after_depart, after_pin, after_unpin, pin_refusal};
 ghost use Rattle.rcu_live.specs.CpuSeat.{renew_refusal, repin_refusal, unpin_refusal};
@@ -457,20 +457,21 @@ impl<P: Client> CpuSeat<P> {
             self.old.view.client word (λ n. n) (M.then word self.old.view.client) }
         ensures { KnowsBy (λ was now. M.then word was result now) self.old self.new }
     {
-        self.load_at::<M>(live.board(), word)
+        let board = live.board();
+        board.fits();
+        self.load_at::<M>(board, board.base() + word)
     }
 
-    /// The same of the place behind the engine's words, wherever the seat knows the client's.
-    pub(crate) fn load_at<M: WordStep<P::Known>>(&mut self, board: &Board<P>, place: usize) -> u64
+    /// The same by the word's index in the table, wherever the seat knows the client's words.
+    pub(crate) fn load_at<M: WordStep<P::Known>>(&mut self, board: &Board<P>, index: usize) -> u64
         requires table { self.old.table ≡ board.now.table }
-        requires inside { HasWord board.now place }
-        requires allowed { AllowsWord (P.holds board.now.plan) (Some self.old.cpu)
-            self.old.view.section
-            self.old.view.client place (λ n. n) (M.then place self.old.view.client) }
+        requires inside { index < board.now.table.words }
+        requires allowed { AllowsAt (P.holds board.now.plan) (Some self.old.cpu)
+            self.old.view.section self.old.view.client board.now.base index (λ n. n)
+            (λ word. M.then word self.old.view.client) }
         ensures { KnowsBy (λ was now. (word : ℕ) →
-            board.now.base + place ≡ self.old.view.base + word → M.then word was result now)
-            self.old self.new }
+            index ≡ self.old.view.base + word → M.then word was result now) self.old self.new }
     {
-        board.load_word::<M>(&mut self.seat, place)
+        board.load_word::<M>(&mut self.seat, index)
     }
 }

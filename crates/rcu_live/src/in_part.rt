@@ -1,5 +1,5 @@
 //! A client's steps where it may be one of several: on its own words, by the engine's seats.
-ghost use Rattle.std.specs.Prelude.{◌≡◌, ◌+◌, None, Some};
+ghost use Rattle.std.specs.Prelude.{◌≡◌, ◌+◌, ◌<◌, None, Some};
 ghost use Rattle.rcu_live.specs.Board.{HasWord};
 ghost use Rattle.rcu_live.specs.Client.{AllowsNumber, AllowsWord};
 ghost use Rattle.rcu_live.specs.CpuSeat as cpu_seat;
@@ -40,24 +40,24 @@ impl<C: Client, P: Within<C>, M: NumberStep<C::Known>> NumberStep<<P::Whole as C
     ghost then = { number_of_part P.lens M.then };
 }
 
-/// A client's word: where the client's words begin among those of the whole, and which it is.
+/// A client's word: where the client's words begin in the table, and which it is.
 #[derive(Clone, Copy)]
 pub struct Spot {
-    /// Where the client's words begin ([`Within::base`]).
+    /// Where the client's words begin: a client that keeps it spares a load a step.
     pub base: usize,
     /// Which of them it is.
     pub word: usize,
 }
 
-/// The place of the word among those of the whole.
-fn place_of<C: Client, P: Within<C>>(board: &Board<P::Whole>, spot: Spot) -> usize
-    requires base { spot.base ≡ P.begins 0 board.now.plan }
+/// The index of the word in the table.
+fn index_of<C: Client, P: Within<C>>(board: &Board<P::Whole>, spot: Spot) -> usize
+    requires base { spot.base ≡ P.begins board.now.base board.now.plan }
     requires inside { HasWord (engine_part P.own_plan P.begins board.now) spot.word }
-    ensures place { result ≡ spot.base + spot.word }
-    ensures inside { HasWord board.now result }
+    ensures index { result ≡ spot.base + spot.word }
+    ensures inside { result < board.now.table.words }
 {
     board.fits();
-    P::place(spot.base, spot.word)
+    spot.base + spot.word
 }
 
 /// Loads a client's word by a processor's seat. The client's rule may look at the open section.
@@ -68,7 +68,7 @@ pub fn load_word<C: Client, P: Within<C>, M: WordStep<C::Known>>(
 ) -> u64
     requires seat { cpu_seat.IsSeatOf (engine_part P.own_plan P.begins board.now)
         (seat_part P.lens seat.old) }
-    requires base { spot.base ≡ P.begins 0 board.now.plan }
+    requires base { spot.base ≡ P.begins board.now.base board.now.plan }
     requires inside { HasWord (engine_part P.own_plan P.begins board.now) spot.word }
     requires own { IsWordOf (C.holds (P.own_plan board.now.plan)) spot.word }
     requires allowed { AllowsWord (C.holds (P.own_plan board.now.plan)) (Some seat.old.cpu)
@@ -79,8 +79,8 @@ pub fn load_word<C: Client, P: Within<C>, M: WordStep<C::Known>>(
     ensures others { seat.new ≡ cpu_seat.after_word_step seat.old
         (P.lens.set seat.old.view.client (P.lens.get seat.new.view.client)) }
 {
-    let place = place_of::<C, P>(board, spot);
-    seat.load_at::<InPart<C, P, M>>(board, place)
+    let index = index_of::<C, P>(board, spot);
+    seat.load_at::<InPart<C, P, M>>(board, index)
 }
 
 /// Loads a client's word by a watcher.
@@ -91,7 +91,7 @@ pub fn watch_word<C: Client, P: Within<C>, M: WordStep<C::Known>>(
 ) -> u64
     requires seat { IsWatcherOf (engine_part P.own_plan P.begins board.now)
         (watcher_part P.lens seat.old) }
-    requires base { spot.base ≡ P.begins 0 board.now.plan }
+    requires base { spot.base ≡ P.begins board.now.base board.now.plan }
     requires inside { HasWord (engine_part P.own_plan P.begins board.now) spot.word }
     requires own { IsWordOf (C.holds (P.own_plan board.now.plan)) spot.word }
     requires allowed { AllowsWord (C.holds (P.own_plan board.now.plan)) None None
@@ -102,8 +102,8 @@ pub fn watch_word<C: Client, P: Within<C>, M: WordStep<C::Known>>(
     ensures others { seat.new ≡ after_word_step seat.old
         (P.lens.set seat.old.view.client (P.lens.get seat.new.view.client)) }
 {
-    let place = place_of::<C, P>(board, spot);
-    seat.load_at::<InPart<C, P, M>>(board, place)
+    let index = index_of::<C, P>(board, spot);
+    seat.load_at::<InPart<C, P, M>>(board, index)
 }
 
 /// Stores to a client's word by a watcher.
@@ -115,7 +115,7 @@ pub fn store_word<C: Client, P: Within<C>, M: WordStep<C::Known>>(
 )
     requires seat { IsWatcherOf (engine_part P.own_plan P.begins board.now)
         (watcher_part P.lens seat.old) }
-    requires base { spot.base ≡ P.begins 0 board.now.plan }
+    requires base { spot.base ≡ P.begins board.now.base board.now.plan }
     requires inside { HasWord (engine_part P.own_plan P.begins board.now) spot.word }
     requires own { IsWordOf (C.holds (P.own_plan board.now.plan)) spot.word }
     requires allowed { AllowsWord (C.holds (P.own_plan board.now.plan)) None None
@@ -126,8 +126,8 @@ pub fn store_word<C: Client, P: Within<C>, M: WordStep<C::Known>>(
     ensures others { seat.new ≡ after_word_step seat.old
         (P.lens.set seat.old.view.client (P.lens.get seat.new.view.client)) }
 {
-    let place = place_of::<C, P>(board, spot);
-    seat.store_at::<InPart<C, P, M>>(board, place, value);
+    let index = index_of::<C, P>(board, spot);
+    seat.store_at::<InPart<C, P, M>>(board, index, value);
 }
 
 /// Loads the number by a watcher: a look of the client.

@@ -32,12 +32,6 @@ pub trait Within<C: Client> {
         requires { begins 0 plan < 2 ^ 64 }
         ensures { result ≡ begins 0 plan };
 
-    /// The place of a client's word among the words of all.
-    fn place(base: usize, word: usize) -> usize
-        requires base { (plan : Self.Whole.Plan) × (base ≡ begins 0 plan) }
-        requires small { base + word < 2 ^ 64 }
-        ensures { result ≡ base + word };
-
     ghost is_lens: { IsLens lens C.idle C.closed Self.Whole.idle Self.Whole.closed };
 
     // What the first seat knows.
@@ -77,10 +71,6 @@ impl<C: Client> Within<C> for Alone {
         0
     }
 
-    fn place(_base: usize, word: usize) -> usize {
-        word
-    }
-
     ghost is_lens = { whole_is_lens _ _ };
 
     ghost is_first = { λ plan. (refl, λ base. refl) };
@@ -114,10 +104,6 @@ impl<C: Client, P: Within<C>, B: Client> Within<C> for First<P, B> {
 
     fn base(plan: <Both<P::Whole, B> as Client>::Plan) -> usize {
         P::base(plan.first)
-    }
-
-    fn place(base: usize, word: usize) -> usize {
-        P::place(base, word)
     }
 
     ghost is_lens = { in_first_is_lens _ _ _ _ _ P.is_lens _ _ };
@@ -158,10 +144,6 @@ impl<C: Client, A: Client, P: Within<C>> Within<C> for Second<A, P> {
 
     fn base(plan: <Both<A, P::Whole> as Client>::Plan) -> usize {
         plan.split + P::base(plan.second)
-    }
-
-    fn place(base: usize, word: usize) -> usize {
-        base + word
     }
 
     ghost is_lens = { in_second_is_lens _ _ _ _ _ P.is_lens _ _ };

@@ -101,15 +101,19 @@ impl<E: Invariant, const W: usize, P: Within<MapRule<E, W>>> Map<E, W, P> {
         &self.graph
     }
 
-    /// The row of each node, by constants where `W` is not 0: what waits for a load multiplies by
+    /// The rows of the nodes, by constants where `W` is not 0: what waits for a load multiplies by
     /// no other number.
     pub(crate) fn row(&self) -> Row
-        ensures { result ≡ row_of self.now.plan }
+        ensures { result ≡ row_of self.now }
     {
         // A borrow of a field shows the prover what the type keeps: that a node has one link.
         let graph = &self.graph;
         let words = if W > 0 { W } else { graph.plan().words };
-        Row { links: 1, words }
+        Row {
+            base: graph.base(),
+            links: 1,
+            words,
+        }
     }
 
     /// Writes the words of the node that the section is on, whose key was read: by a load each of

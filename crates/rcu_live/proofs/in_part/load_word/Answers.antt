@@ -1,4 +1,4 @@
-use Rattle.std.proofs.Common.{◌∙◌, ◌+◌, ℕ, ap}
+use Rattle.std.proofs.Common.{◌∙◌, ◌+◌, ℕ, ap, arith, refl}
 use Rattle.rcu_live.specs.CpuSeat as cpu_seat
 use Rattle.rcu_live.specs.SeveralLaws.{begins_behind}
 use Rattle.rcu_live.proofs.InPart.{seat_knows}
@@ -9,34 +9,30 @@ pub load_at-requires-clause-allowed : goal.load_at-requires-clause-allowed
 load_at-requires-clause-allowed g c =
     let plan = c.args.board.now.plan in
     let word = c.args.spot.word in
-    allows_word _ _ _ _ _ _ _ (g.met.P.Within.is_part plan) g.met.P.Within.is_lens.got _ _ _ word _
-    (λ n. n) (λ n. n) g.M.WordStep.then
-    (c.place_of-place.ensures.place ∙ ap (λ (n : ℕ). n + word) c.requires.base)
-    c.requires.own c.requires.allowed
+    let behind = begins_behind g.P.Within.lens _ _ _ _ g.met.P.Within.is_lens
+    (λ base. g.P.Within.begins base plan) _ (g.met.P.Within.is_first plan).1
+    c.args.board.now.base in (
+      g.P.Within.begins 0 plan + word,
+      omega (arith, c.index_of-index.ensures.index, c.requires.base, behind),
+      allows_word _ _ _ _ _ _ _ (g.met.P.Within.is_part plan) g.met.P.Within.is_lens.got _ _ _ word _
+          (λ n. n) (λ n. n) g.M.WordStep.then refl c.requires.own c.requires.allowed,
+    )
 
 pub returns-clause-part : goal.returns-clause-part
 returns-clause-part g c =
-    let plan = c.args.board.now.plan in
     let word = c.args.spot.word in
-    let behind = begins_behind g.P.Within.lens _ _ _ _ g.met.P.Within.is_lens
-    (λ base. g.P.Within.begins base plan) _ (g.met.P.Within.is_first plan).1
-    c.args.board.now.base in
     let told = told_word g.P.Within.lens g.met.P.Within.is_lens.behind g.M.WordStep.then _
-    c.load_at.result _ _ _ _ c.place_of-place.result word (c.requires.seat.1 ∙ behind)
-    (c.place_of-place.ensures.place ∙ ap (λ (n : ℕ). n + word) c.requires.base)
+    c.load_at.result _ _ _ c.index_of-index.result word c.requires.seat.1
+    (c.index_of-index.ensures.index ∙ ap (λ (n : ℕ). n + word) c.requires.base)
     c.load_at.ensures.told in
     seat_knows g.P.Within.lens g.met.P.Within.is_lens.got g.met.P.Within.is_lens.stays _ _ _
     record { state = c.load_at.ensures.state; told = told }
 
 pub returns-clause-others : goal.returns-clause-others
 returns-clause-others g c =
-    let plan = c.args.board.now.plan in
     let word = c.args.spot.word in
-    let behind = begins_behind g.P.Within.lens _ _ _ _ g.met.P.Within.is_lens
-    (λ base. g.P.Within.begins base plan) _ (g.met.P.Within.is_first plan).1
-    c.args.board.now.base in
     let told = told_word g.P.Within.lens g.met.P.Within.is_lens.behind g.M.WordStep.then _
-    c.load_at.result _ _ _ _ c.place_of-place.result word (c.requires.seat.1 ∙ behind)
-    (c.place_of-place.ensures.place ∙ ap (λ (n : ℕ). n + word) c.requires.base)
+    c.load_at.result _ _ _ c.index_of-index.result word c.requires.seat.1
+    (c.index_of-index.ensures.index ∙ ap (λ (n : ℕ). n + word) c.requires.base)
     c.load_at.ensures.told in
     c.load_at.ensures.state ∙ ap (cpu_seat.after_word_step c.args.seat.now) told.0

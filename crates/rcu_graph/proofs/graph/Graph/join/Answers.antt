@@ -11,8 +11,8 @@ use Rattle.rcu_graph.specs.declared.plan.Plan.{Plan}
 use Rattle.rcu_graph.proofs.Joins.{joined_as, joins}
 use Rattle.rcu_graph.proofs.graph.Graph.join.Goals as goal
 
-pub base-requires : goal.base-requires
-base-requires g c =
+pub base-behind-requires : goal.base-behind-requires
+base-behind-requires g c =
     let room = g.met.P.Within.has_room c.args.plan c.requires.suited in
     let words = ap (λ (o : Object g.row.P-Whole-Plan.Denot). o.table.words) c.deref-words.ensures in
     omega (arith, room.1, c.requires.words, c.fits.ensures, words)
@@ -27,6 +27,9 @@ invariant_of-graph g c =
     let words = ap (λ (o : Object g.row.P-Whole-Plan.Denot). o.table.words) c.deref-words.ensures in
     let behind = begins_behind g.P.Within.lens _ _ _ _ g.met.P.Within.is_lens
     (λ base. g.P.Within.begins base plan) _ (g.met.P.Within.is_first plan).1 engine.base in
+    let first = ap (λ (o : Object g.row.P-Whole-Plan.Denot). o.base) c.deref-words.ensures in
+    let summed : c.base.result + c.base-behind.result ≡ g.P.Within.begins engine.base plan =
+    omega (arith, c.base.ensures, c.base-behind.ensures, first, behind) in
     let own : Plan = g.P.Within.own_plan plan in
     let is : own ≡ c.plan.result = sym c.plan.ensures in
     let sized = room.0.0 in
@@ -36,8 +39,10 @@ invariant_of-graph g c =
     record {
       planned = ap (λ (o : Object g.row.P-Whole-Plan.Denot). g.P.Within.own_plan o.plan) clone
           ∙ ap g.P.Within.own_plan r.planned ∙ is;
-      base = c.base.ensures ∙ ap (g.P.Within.begins 0)
-          (sym (ap (λ (o : Object g.row.P-Whole-Plan.Denot). o.plan) clone ∙ r.planned));
+      base = summed
+          ∙ (ap (g.P.Within.begins engine.base) (sym r.planned)
+          ∙ ap (λ (o : Object g.row.P-Whole-Plan.Denot). g.P.Within.begins o.base o.plan)
+          (sym clone));
       room = subst (λ (y : Object g.row.P-Whole-Plan.Denot × Plan).
           g.P.Within.begins y.0.base y.0.plan
           + (first_place + (y.1.links + y.1.words) * y.1.nodes) ≤ y.0.table.words)

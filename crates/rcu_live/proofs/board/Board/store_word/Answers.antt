@@ -1,31 +1,21 @@
-use Rattle.std.proofs.Common.{Some, ℕ, ◌+◌, ◌<◌, ap, arith, rules, subst, sym}
+use Rattle.std.proofs.Common.{Some, ℕ, ◌<◌, rules, subst, sym}
 use Rattle.rcu_live.specs.Board.{Object}
-use Rattle.rcu_live.specs.Client.{AllowsWord}
+use Rattle.rcu_live.specs.Client.{AllowsAt}
 use Rattle.rcu_live.specs.View.{if_cpu}
 use Rattle.rcu_live.proofs.ClientSteps.{stores_client_word}
 use Rattle.rcu_live.proofs.board.Board.store_word.Goals as goal
 
-pub overflow_add-own_word_index : goal.overflow_add-own_word_index
-overflow_add-own_word_index g c =
-    let inside =
-    subst (λ (o : Object g.row.P-Plan.Denot). o.base + c.args.word < o.table.words)
-    (sym c.self.view_is) c.requires.inside in
-    omega (arith, c.own_word_index.ensures, inside, c.self.invariant.long)
-
 pub store-requires : goal.store-requires
 store-requires g c =
-    let inside =
-    subst (λ (o : Object g.row.P-Plan.Denot). o.base + c.args.word < o.table.words)
-    (sym c.self.view_is) c.requires.inside in
     let v = c.args.seat.now.me.0 in
-    let p = c.args.word in
+    let i = c.args.index in
     let allowed = subst (λ (o : Object g.row.P-Plan.Denot).
-    AllowsWord (g.P.Client.holds o.plan) (if_cpu v.role (Some v.cpu)) (if_cpu v.role v.section)
-    v.client p (λ _. c.args.value) (λ _. g.M.WordStep.then p v.client c.args.value))
-    (sym c.self.view_is) c.requires.allowed in
-    let there = ap (λ (n : ℕ). n + c.args.word) c.own_word_index.ensures in (
+    AllowsAt (g.P.Client.holds o.plan) (if_cpu v.role (Some v.cpu)) (if_cpu v.role v.section)
+    v.client o.base i (λ _. c.args.value) (λ p _. g.M.WordStep.then p v.client c.args.value))
+    (sym c.self.view_is) c.requires.allowed in (
       search rules,
-      omega (arith, c.own_word_index.ensures, inside),
+      subst (λ (o : Object g.row.P-Plan.Denot). i < o.table.words) (sym c.self.view_is)
+          c.requires.inside,
       stores_client_word (g.P.Client.holds _) _ _ _ _ _ _ _ _ g.M.WordStep.then c.self.invariant.key
-          c.self.invariant.some there allowed,
+          c.self.invariant.some allowed.1 allowed.2,
     )

@@ -24,7 +24,7 @@ follow-requires g c =
     (let wide = c.self.invariant.wide in omega (arith, wide)) inside
     (may.on inside) in
     record {
-      row = c.row.ensures ∙ ap (λ (map : Object Plan). row_of map.plan) back;
+      row = c.row.ensures ∙ ap row_of back;
       at = record {
         walking = may.walking;
         words = o.words;
