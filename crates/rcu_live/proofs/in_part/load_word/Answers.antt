@@ -14,8 +14,8 @@ load_at-requires-clause-allowed g c =
     c.args.board.now.base in (
       g.P.Within.begins 0 plan + word,
       omega (arith, c.index_of-index.ensures.index, c.requires.base, behind),
-      allows_word _ _ _ _ _ _ _ (g.met.P.Within.is_part plan) g.met.P.Within.is_lens.got _ _ _ word _
-          (λ n. n) (λ n. n) g.M.WordStep.then refl c.requires.own c.requires.allowed,
+      allows_word _ _ _ _ _ _ _ (g.met.P.Within.is_part plan) g.met.P.Within.is_lens.got _ _ _
+          word _ (λ n. n) (λ n. n) g.M.WordStep.then refl c.requires.own c.requires.allowed,
     )
 
 pub returns-clause-part : goal.returns-clause-part

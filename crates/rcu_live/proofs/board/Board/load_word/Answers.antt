@@ -1,4 +1,4 @@
-use Rattle.std.proofs.Common.{Some, ℕ, ◌<◌, rules, subst, sym}
+use Rattle.std.proofs.Common.{Some, ◌<◌, rules, subst, sym}
 use Rattle.rcu_live.specs.Board.{Object}
 use Rattle.rcu_live.specs.Client.{AllowsAt}
 use Rattle.rcu_live.specs.View.{if_cpu}
