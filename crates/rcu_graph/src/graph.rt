@@ -149,8 +149,10 @@ impl<F: Shape, P: Within<GraphRule<F>>> Graph<F, P> {
     {
         let place = self.place(row, from, link);
         let word = self.load::<Follow<F>>(seat, row.base, place);
-        let node = word.checked_sub(1)?;
-        Some(node as usize)
+        if word == 0 {
+            return None;
+        }
+        Some((word - 1) as usize)
     }
 
     /// Loads a word of the node that the section is on: the one that it had when the section came

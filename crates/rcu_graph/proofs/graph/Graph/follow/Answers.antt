@@ -1,5 +1,4 @@
-use Rattle.std.proofs.Common.{◌≡◌, ◌∙◌, ℕ, suc, ap, arith, refl, subst, sym}
-use Rattle.rcu_graph.specs.Graph.{word_to}
+use Rattle.std.proofs.Common.{◌≡◌, ℕ, ◌-◌, suc, refl, subst, arith}
 use Rattle.rcu_graph.specs.Steps.{Followed}
 use Rattle.rcu_graph.proofs.Allowed.{follow_allowed}
 use Rattle.rcu_graph.proofs.Planned.{followed_of}
@@ -16,12 +15,10 @@ load-word-requires-clause-allowed g c =
     (c.requires.at.words, c.requires.at.on)
     c.requires.link c.place-place.ensures.place
 
-pub returns-in_err-node-clause-came : goal.returns-in_err-node-clause-came
-returns-in_err-node-clause-came g c = λ words on.
+pub returns-then-word-eq0-clause-came : goal.returns-then-word-eq0-clause-came
+returns-then-word-eq0-clause-came g c = λ words on.
     let at = c.requires.at in
-    let none = c.in_err-node.ensures in
-    let is : c.load-word.result ≡ word_to c.from_residual.result =
-    omega (arith, none) ∙ ap word_to (sym c.from_residual.ensures) in
+    let is : c.load-word.result ≡ 0 = omega (arith, c.if-word-eq0.true) in
     subst (λ (x : ℕ). Followed (g.F.Shape.fits c.args.self.now.plan)
     (g.F.Shape.joins c.args.self.now.plan c.args.link words) c.args.self.now.plan.words
     c.args.self.now.plan.nodes (g.P.Within.lens.get c.args.seat.now.view.client).known c.args.from
@@ -34,8 +31,8 @@ returns-in_err-node-clause-came g c = λ words on.
     words at.walking.seat_of.planned c.load-word.ensures.part.told c.requires.link
     c.place-place.ensures.place on)
 
-pub returns-in_err-node-clause-walking : goal.returns-in_err-node-clause-walking
-returns-in_err-node-clause-walking g c =
+pub returns-then-word-eq0-clause-walking : goal.returns-then-word-eq0-clause-walking
+returns-then-word-eq0-clause-walking g c =
     let at = c.requires.at in
     followed_walks _ _ _ _ _ _ _ _ _ _ c.load-word.ensures.part.state
     c.load-word.ensures.part.told.0 at.walking
@@ -48,8 +45,8 @@ returns-in_err-node-clause-walking g c =
 pub returns-clause-came : goal.returns-clause-came
 returns-clause-came g c = λ words on.
     let at = c.requires.at in
-    let is : c.load-word.result ≡ suc c.in_ok-node.node =
-    omega (arith, c.in_ok-node.ensures) in
+    let is : c.load-word.result ≡ suc (c.load-word.result - 1) =
+    omega (arith, c.if-word-eq0.false) in
     subst (λ (x : ℕ). Followed (g.F.Shape.fits c.args.self.now.plan)
     (g.F.Shape.joins c.args.self.now.plan c.args.link words) c.args.self.now.plan.words
     c.args.self.now.plan.nodes (g.P.Within.lens.get c.args.seat.now.view.client).known c.args.from
@@ -76,8 +73,8 @@ returns-clause-walking g c =
 pub returns-clause-on : goal.returns-clause-on
 returns-clause-on g c =
     let at = c.requires.at in
-    let some : c.load-word.result ≡ suc c.in_ok-node.node =
-    omega (arith, c.in_ok-node.ensures) in
+    let some : c.load-word.result ≡ suc (c.load-word.result - 1) =
+    omega (arith, c.if-word-eq0.false) in
     followed_at (g.F.Shape.fits c.args.self.now.plan)
     (g.F.Shape.joins c.args.self.now.plan c.args.link at.words) c.args.self.now.plan.words
     c.args.self.now.plan.nodes _ _ _ _ _ _ _ c.load-word.ensures.part.state
