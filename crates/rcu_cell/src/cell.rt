@@ -7,7 +7,7 @@ ghost use Rattle.rcu_graph.specs.Opening.{row_of};
 ghost use Rattle.rcu_cell.specs.Cell.{IsLoaded, ReadsSlot, version_in};
 
 use crate::shape::{CellRule, CellSeat, OneLink, Version};
-use rcu_graph::{Graph, Row};
+use rcu_graph::{Graph, Plan, Row};
 use rcu_live::{Alone, Within};
 use std::marker::Model;
 
@@ -57,8 +57,11 @@ impl<F: Version<W>, const W: usize, P: Within<CellRule<F, W>>> Cell<F, W, P> {
         let graph = &self.graph;
         Row {
             base: graph.base(),
-            links: 1,
-            words: W,
+            plan: Plan {
+                links: 1,
+                words: W,
+                ..graph.plan()
+            },
         }
     }
 

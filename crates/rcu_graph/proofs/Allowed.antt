@@ -39,14 +39,14 @@ module _ (fits : Plan → List ℕ → Type 0) (joins : Plan → ℕ → List �
       → IsReader was.known
       → (words : List ℕ) × IsOn (first plan) plan.roots was.known i words
       → l < plan.links
-      → place ≡ place_of (plan.links + plan.words) i l
+      → place ≡ place_of plan.roots plan.links plan.words i l
       → AllowsWord (IsKeptBy fits joins first plan) cpu section was place (λ n. n)
       (tells_follow fits joins first place was)
   follow_allowed i l place is_open reads =
       subst (λ (p : Plan).
       ((words : List ℕ) × IsOn (first p) p.roots was.known i words)
       → l < p.links
-      → place ≡ place_of (p.links + p.words) i l
+      → place ≡ place_of p.roots p.links p.words i l
       → AllowsWord (IsKeptBy fits joins first p) cpu section was place (λ n. n)
       (tells_follow fits joins first place was))
       is (λ on low e.
@@ -61,14 +61,14 @@ module _ (fits : Plan → List ℕ → Type 0) (joins : Plan → ℕ → List �
       → IsReader was.known
       → (words : List ℕ) × IsOn (first plan) plan.roots was.known i words
       → k < plan.words
-      → place ≡ place_of (plan.links + plan.words) i (plan.links + k)
+      → place ≡ place_of plan.roots plan.links plan.words i (plan.links + k)
       → AllowsWord (IsKeptBy fits joins first plan) cpu section was place (λ n. n)
       (tells_read first place was)
   read_allowed i k place is_open reads =
       subst (λ (p : Plan).
       ((words : List ℕ) × IsOn (first p) p.roots was.known i words)
       → k < p.words
-      → place ≡ place_of (p.links + p.words) i (p.links + k)
+      → place ≡ place_of p.roots p.links p.words i (p.links + k)
       → AllowsWord (IsKeptBy fits joins first p) cpu section was place (λ n. n)
       (tells_read first place was))
       is (λ on low e.
@@ -83,18 +83,18 @@ module _ (fits : Plan → List ℕ → Type 0) (joins : Plan → ℕ → List �
       → i < length (nodes_in was.known)
       → state_at (nodes_in was.known) i ≡ Free
       → k < plan.words
-      → place ≡ place_of (plan.links + plan.words) i (plan.links + k)
+      → place ≡ place_of plan.roots plan.links plan.words i (plan.links + k)
       → AllowsWord (IsKeptBy fits joins first plan) cpu section was place (λ _. x)
       (λ _. tells_write place was x)
   write_allowed i k place x keeps bound free =
       subst (λ (p : Plan).
       k < p.words
-      → place ≡ place_of (p.links + p.words) i (p.links + k)
+      → place ≡ place_of p.roots p.links p.words i (p.links + k)
       → AllowsWord (IsKeptBy fits joins first p) cpu section was place (λ _. x)
       (λ _. tells_write place was x))
       is (λ low e.
       word_at fits joins first cpu section was q refl place (λ _. x)
-      (λ _. IsWritten q.links q.words place was.known x)
+      (λ _. IsWritten q.roots q.links q.words place was.known x)
       (writes_at (fits q) (joins q) (first q) q.roots q.links q.words q.nodes cpu section was.known
       i k place x keeps bound free low e))
 
@@ -104,18 +104,18 @@ module _ (fits : Plan → List ℕ → Type 0) (joins : Plan → ℕ → List �
       → i < length (nodes_in was.known)
       → state_at (nodes_in was.known) i ≡ Free
       → l < plan.links
-      → place ≡ place_of (plan.links + plan.words) i l
+      → place ≡ place_of plan.roots plan.links plan.words i l
       → AllowsWord (IsKeptBy fits joins first plan) cpu section was place (λ _. x)
       (λ _. tells_write_link place was x)
   write_link_allowed i l place x keeps bound free =
       subst (λ (p : Plan).
       l < p.links
-      → place ≡ place_of (p.links + p.words) i l
+      → place ≡ place_of p.roots p.links p.words i l
       → AllowsWord (IsKeptBy fits joins first p) cpu section was place (λ _. x)
       (λ _. tells_write_link place was x))
       is (λ low e.
       word_at fits joins first cpu section was q refl place (λ _. x)
-      (λ _. IsLinkWritten q.links q.words place was.known x)
+      (λ _. IsLinkWritten q.roots q.links q.words place was.known x)
       (writes_link_at (fits q) (joins q) (first q) q.roots q.links q.words q.nodes cpu section
       was.known
       i l place x keeps bound free low e))
@@ -128,7 +128,7 @@ module _ (fits : Plan → List ℕ → Type 0) (joins : Plan → ℕ → List �
       → l < plan.links
       → state_at (nodes_in was.known) i ≡ Live
       → IsTarget (joins plan l) (node_at (nodes_in was.known) i).words (nodes_in was.known) x
-      → place ≡ place_of (plan.links + plan.words) i l
+      → place ≡ place_of plan.roots plan.links plan.words i l
       → AllowsWord (IsKeptBy fits joins first plan) cpu section was place (λ _. x)
       (λ _. tells_link place was x)
   link_allowed i l place x keeps bound =
@@ -136,12 +136,12 @@ module _ (fits : Plan → List ℕ → Type 0) (joins : Plan → ℕ → List �
       l < p.links
       → state_at (nodes_in was.known) i ≡ Live
       → IsTarget (joins p l) (node_at (nodes_in was.known) i).words (nodes_in was.known) x
-      → place ≡ place_of (p.links + p.words) i l
+      → place ≡ place_of p.roots p.links p.words i l
       → AllowsWord (IsKeptBy fits joins first p) cpu section was place (λ _. x)
       (λ _. tells_link place was x))
       is (λ low live target e.
       word_at fits joins first cpu section was q refl place (λ _. x)
-      (λ _. IsLinked q.links q.words place was.known x)
+      (λ _. IsLinked q.roots q.links q.words place was.known x)
       (links_at (fits q) (joins q) (first q) q.roots q.links q.words q.nodes cpu section was.known
       i l place x keeps bound low live target e))
 
@@ -154,7 +154,7 @@ module _ (fits : Plan → List ℕ → Type 0) (joins : Plan → ℕ → List �
       → state_at (nodes_in was.known) i ≡ Live
       → IsReady (fits plan) (joins plan) plan.links (nodes_in was.known) j
       → joins plan l (node_at (nodes_in was.known) i).words (node_at (nodes_in was.known) j).words
-      → place ≡ place_of (plan.links + plan.words) i l
+      → place ≡ place_of plan.roots plan.links plan.words i l
       → x ≡ suc j
       → AllowsWord (IsKeptBy fits joins first plan) cpu section was place (λ _. x)
       (λ _. tells_publish place was x)
@@ -164,13 +164,13 @@ module _ (fits : Plan → List ℕ → Type 0) (joins : Plan → ℕ → List �
       → state_at (nodes_in was.known) i ≡ Live
       → IsReady (fits p) (joins p) p.links (nodes_in was.known) j
       → joins p l (node_at (nodes_in was.known) i).words (node_at (nodes_in was.known) j).words
-      → place ≡ place_of (p.links + p.words) i l
+      → place ≡ place_of p.roots p.links p.words i l
       → x ≡ suc j
       → AllowsWord (IsKeptBy fits joins first p) cpu section was place (λ _. x)
       (λ _. tells_publish place was x))
       is (λ low live ready joined e same.
       word_at fits joins first cpu section was q refl place (λ _. x)
-      (λ _. IsPublished q.links q.words place was.known x)
+      (λ _. IsPublished q.roots q.links q.words place was.known x)
       (publishes_at (fits q) (joins q) (first q) q.roots q.links q.words q.nodes cpu section
       was.known
       i l j place x keeps bound bound_j low live ready joined e same))
@@ -183,7 +183,7 @@ module _ (fits : Plan → List ℕ → Type 0) (joins : Plan → ℕ → List �
       → plan.roots ≤ i
       → state_at (nodes_in was.known) i ≡ Live
       → IsUnlinked plan.links (nodes_in was.known) i
-      → place ≡ place_of (plan.links + plan.words) i 0
+      → place ≡ place_of plan.roots plan.links plan.words i 0
       → AllowsWord (IsKeptBy fits joins first plan) cpu section was place (λ n. n)
       (tells_leave place was)
   leave_allowed i place keeps bound =
@@ -192,12 +192,12 @@ module _ (fits : Plan → List ℕ → Type 0) (joins : Plan → ℕ → List �
       → p.roots ≤ i
       → state_at (nodes_in was.known) i ≡ Live
       → IsUnlinked p.links (nodes_in was.known) i
-      → place ≡ place_of (p.links + p.words) i 0
+      → place ≡ place_of p.roots p.links p.words i 0
       → AllowsWord (IsKeptBy fits joins first p) cpu section was place (λ n. n)
       (tells_leave place was))
       is (λ some past live unlinked e.
       word_at fits joins first cpu section was q refl place (λ n. n)
-      (IsLeft q.links q.words place was.known)
+      (IsLeft q.roots q.links q.words place was.known)
       (leaves_at (fits q) (joins q) (first q) q.roots q.links q.words q.nodes cpu section was.known
       i place keeps bound some past live unlinked e))
 

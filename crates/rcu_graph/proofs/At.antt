@@ -22,7 +22,7 @@ module _ (fits : List ℕ → Type 0) (joins : ℕ → List ℕ → List ℕ →
       → IsReader was
       → (words : List ℕ) × IsOn first roots was i words
       → l < links
-      → place ≡ place_of (links + width) i l
+      → place ≡ place_of roots links width i l
       → AllowsWord (IsKept fits joins first roots links width count) cpu section was place (λ n. n)
       (IsFollowed fits joins first roots links width count place was)
   follows_at cpu None was i l place is_open reads on low e = absurd (cc)
@@ -36,7 +36,7 @@ module _ (fits : List ℕ → Type 0) (joins : ℕ → List ℕ → List ℕ →
       → IsReader was
       → (words : List ℕ) × IsOn first roots was i words
       → k < width
-      → place ≡ place_of (links + width) i (links + k)
+      → place ≡ place_of roots links width i (links + k)
       → AllowsWord (IsKept fits joins first roots links width count) cpu section was place (λ n. n)
       (IsRead first roots links width place was)
   reads_at cpu None was i k place is_open reads on low e = absurd (cc)
@@ -51,15 +51,15 @@ module _ (fits : List ℕ → Type 0) (joins : ℕ → List ℕ → List ℕ →
       → i < length (nodes_in was)
       → state_at (nodes_in was) i ≡ Free
       → k < width
-      → place ≡ place_of (links + width) i (links + k)
+      → place ≡ place_of roots links width i (links + k)
       → AllowsWord (IsKept fits joins first roots links width count) cpu section was place (λ _. x)
-      (λ _ now. IsWritten links width place was x now)
+      (λ _ now. IsWritten roots links width place was x now)
   writes_at cpu section Idle i k place x keeps bound free low e = absurd keeps
   writes_at cpu section Owner i k place x keeps bound free low e = absurd keeps
   writes_at cpu section (Reader held) i k place x keeps bound free low e = absurd keeps
   writes_at cpu section (Keeper t s b) i k place x keeps bound free low e =
       subst (λ (p : ℕ). AllowsWord (IsKept fits joins first roots links width count) cpu section
-      (Keeper t s b) p (λ _. x) (λ _ now. IsWritten links width p (Keeper t s b) x now))
+      (Keeper t s b) p (λ _. x) (λ _ now. IsWritten roots links width p (Keeper t s b) x now))
       (sym e)
       (writes fits joins first roots links width count cpu section t i k x s b bound free low)
 
@@ -68,15 +68,15 @@ module _ (fits : List ℕ → Type 0) (joins : ℕ → List ℕ → List ℕ →
       → i < length (nodes_in was)
       → state_at (nodes_in was) i ≡ Free
       → l < links
-      → place ≡ place_of (links + width) i l
+      → place ≡ place_of roots links width i l
       → AllowsWord (IsKept fits joins first roots links width count) cpu section was place (λ _. x)
-      (λ _ now. IsLinkWritten links width place was x now)
+      (λ _ now. IsLinkWritten roots links width place was x now)
   writes_link_at cpu section Idle i l place x keeps bound free low e = absurd keeps
   writes_link_at cpu section Owner i l place x keeps bound free low e = absurd keeps
   writes_link_at cpu section (Reader held) i l place x keeps bound free low e = absurd keeps
   writes_link_at cpu section (Keeper t s b) i l place x keeps bound free low e =
       subst (λ (p : ℕ). AllowsWord (IsKept fits joins first roots links width count) cpu section
-      (Keeper t s b) p (λ _. x) (λ _ now. IsLinkWritten links width p (Keeper t s b) x now))
+      (Keeper t s b) p (λ _. x) (λ _ now. IsLinkWritten roots links width p (Keeper t s b) x now))
       (sym e)
       (links_to fits joins first roots links width count cpu section t i l x s b (λ _. b) bound low
       (inl free))
@@ -87,15 +87,15 @@ module _ (fits : List ℕ → Type 0) (joins : ℕ → List ℕ → List ℕ →
       → l < links
       → state_at (nodes_in was) i ≡ Live
       → IsTarget (joins l) (node_at (nodes_in was) i).words (nodes_in was) x
-      → place ≡ place_of (links + width) i l
+      → place ≡ place_of roots links width i l
       → AllowsWord (IsKept fits joins first roots links width count) cpu section was place (λ _. x)
-      (λ _ now. IsLinked links width place was x now)
+      (λ _ now. IsLinked roots links width place was x now)
   links_at cpu section Idle i l place x keeps bound low live target e = absurd keeps
   links_at cpu section Owner i l place x keeps bound low live target e = absurd keeps
   links_at cpu section (Reader held) i l place x keeps bound low live target e = absurd keeps
   links_at cpu section (Keeper t s b) i l place x keeps bound low live target e =
       subst (λ (p : ℕ). AllowsWord (IsKept fits joins first roots links width count) cpu section
-      (Keeper t s b) p (λ _. x) (λ _ now. IsLinked links width p (Keeper t s b) x now))
+      (Keeper t s b) p (λ _. x) (λ _ now. IsLinked roots links width p (Keeper t s b) x now))
       (sym e)
       (links_to fits joins first roots links width count cpu section t i l x s b (λ n. n ∷ b) bound
       low (inr (live, target)))
@@ -108,17 +108,18 @@ module _ (fits : List ℕ → Type 0) (joins : ℕ → List ℕ → List ℕ →
       → state_at (nodes_in was) i ≡ Live
       → IsReady fits joins links (nodes_in was) j
       → joins l (node_at (nodes_in was) i).words (node_at (nodes_in was) j).words
-      → place ≡ place_of (links + width) i l
+      → place ≡ place_of roots links width i l
       → x ≡ suc j
       → AllowsWord (IsKept fits joins first roots links width count) cpu section was place (λ _. x)
-      (λ _ now. IsPublished links width place was x now)
+      (λ _ now. IsPublished roots links width place was x now)
   publishes_at cpu section Idle i l j place x keeps a b low live ready joined e is = absurd keeps
   publishes_at cpu section Owner i l j place x keeps a b low live ready joined e is = absurd keeps
   publishes_at cpu section (Reader held) i l j place x keeps a b low live ready joined e is =
       absurd keeps
   publishes_at cpu section (Keeper t s c) i l j place x keeps a b low live ready joined e is =
       subst (λ (y : ℕ × ℕ). AllowsWord (IsKept fits joins first roots links width count) cpu section
-      (Keeper t s c) y.0 (λ _. y.1) (λ _ now. IsPublished links width y.0 (Keeper t s c) y.1 now))
+      (Keeper t s c) y.0 (λ _. y.1)
+      (λ _ now. IsPublished roots links width y.0 (Keeper t s c) y.1 now))
       (λ z. (sym e z, sym is z))
       (publishes fits joins first roots links width count cpu section t i l j s c a b low live
       ready.free ready.whole ready.led joined)
@@ -130,15 +131,15 @@ module _ (fits : List ℕ → Type 0) (joins : ℕ → List ℕ → List ℕ →
       → roots ≤ i
       → state_at (nodes_in was) i ≡ Live
       → IsUnlinked links (nodes_in was) i
-      → place ≡ place_of (links + width) i 0
+      → place ≡ place_of roots links width i 0
       → AllowsWord (IsKept fits joins first roots links width count) cpu section was place (λ n. n)
-      (IsLeft links width place was)
+      (IsLeft roots links width place was)
   leaves_at cpu section Idle i place keeps bound low past live unlinked e = absurd keeps
   leaves_at cpu section Owner i place keeps bound low past live unlinked e = absurd keeps
   leaves_at cpu section (Reader held) i place keeps bound low past live unlinked e = absurd keeps
   leaves_at cpu section (Keeper t s b) i place keeps bound low past live unlinked e =
       subst (λ (p : ℕ). AllowsWord (IsKept fits joins first roots links width count) cpu section
-      (Keeper t s b) p (λ n. n) (IsLeft links width p (Keeper t s b)))
+      (Keeper t s b) p (λ n. n) (IsLeft roots links width p (Keeper t s b)))
       (sym e)
       (leaves fits joins first roots links width count cpu section t i 0 s b bound low past live
       unlinked)

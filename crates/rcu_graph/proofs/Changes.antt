@@ -7,11 +7,11 @@ use Rattle.std.proofs.lemmas.List.{get_or-set_same, get_or-set_other, set-append
 use Rattle.std.proofs.lemmas.List.{set-append_right}
 use mathlib.Core.Option.{some, some-injective}
 use mathlib.Core.Logic.{dite}
-use native.Mathlib.Decide.{ℕ_discrete}
+use native.Mathlib.Decide.{dec_le, ℕ_discrete}
 use lib.ListN.{get_elem?, length-map}
 use Rattle.atomic_table.proofs.Lists.{at_map, set_here, set_else}
 use Rattle.rcu_live.proofs.ClientLemmas.{at_map_back}
-use Rattle.rcu_live.proofs.ClientRows.{inside, place_inside, places_differ, reseat, word_told}
+use Rattle.rcu_live.proofs.ClientRows.{inside, reseat}
 use Rattle.rcu_graph.specs.Nodes.{IsBy, IsTarget, IsUnlinked, IsUsed, Outlives, aged, aged_node}
 use Rattle.rcu_graph.specs.Nodes.{aged_state, first_place, in_state, linked_to, place_of, row_of}
 use Rattle.rcu_graph.specs.Nodes.{worded}
@@ -19,6 +19,7 @@ use Rattle.rcu_graph.specs.Rule.{AreKept, IsLed, Leads}
 use Rattle.rcu_graph.specs.declared.known.Node.{Node}
 use Rattle.rcu_graph.specs.declared.node_state.NodeState.{NodeState}
 use Rattle.rcu_graph.specs.declared.node_state.NodeState.TheVariants.{Free, Live, Left, Retired}
+use Rattle.rcu_graph.proofs.Cells.{place_inside_all, told}
 use Rattle.rcu_graph.proofs.States.{by_aged, live_outlived, none_outlives, not_both, outlives_aged}
 use Rattle.rcu_graph.proofs.States.{used_aged}
 
@@ -26,26 +27,33 @@ nowhere : (j : ℕ) → 0 ≡ suc j → ⊥
 nowhere j e = omega (arith, e)
 
 -- a place of a row is stored, and the row has that
-stored_row : (row count i q x : ℕ) (ws cells : List ℕ)
+stored_row : (roots links width count i q x : ℕ) (ws cells : List ℕ)
+    → roots ≤ count
     → i < count
-    → q < row
-    → length cells ≡ row
-    → length ws ≡ first_place + row * count
-    → ((k : ℕ) → k < row → slice_index ws (place_of row i k) ≡ slice_index cells k)
-    → (k : ℕ) → k < row
-    → slice_index (set ws (place_of row i q) x) (place_of row i k) ≡ slice_index (set cells q x) k
-stored_row row count i q x ws cells low small size long same k high =
+    → q < links + width
+    → length cells ≡ links + width
+    → length ws ≡ first_place + (links + width) * count
+    → ((k : ℕ) → k < links + width → slice_index ws (place_of roots links width i k)
+    ≡ slice_index cells k)
+    → (k : ℕ) → k < links + width
+    → slice_index (set ws (place_of roots links width i q) x) (place_of roots links width i k)
+    ≡ slice_index (set cells q x) k
+stored_row roots links width count i q x ws cells many low small size long same k high =
     dite (ℕ_discrete k q)
     (λ (e : k ≡ q). subst (λ (m : ℕ).
-    get_or (set ws (place_of row i q) x) (place_of row i m) 0 ≡ get_or (set cells q x) m 0)
+    get_or (set ws p x) (place_of roots links width i m) 0 ≡ get_or (set cells q x) m 0)
     (sym e)
-    (get_or-set_same ws (place_of row i q) x 0
-    (let p = place_inside first_place row count i q low small in omega (arith, p, long))
+    (get_or-set_same ws p x 0
+    (let inside = place_inside_all roots links width count i q many low small in
+    omega (arith, inside, long))
     ∙ sym (get_or-set_same cells q x 0 (omega (arith, small, size)))))
     (λ (ne : k ≢ q).
-    get_or-set_other ws (place_of row i q) (place_of row i k) x 0
-    (λ e. ne (word_told first_place row i i k q refl e))
+    get_or-set_other ws p (place_of roots links width i k) x 0
+    (λ e. ne (told roots links width i i k q high small e).1)
     ∙ (same k high ∙ sym (get_or-set_other cells q k x 0 ne)))
+  where
+    p : ℕ
+    p = place_of roots links width i q
 
 module _ (fits : List ℕ → Type 0) (joins : ℕ → List ℕ → List ℕ → Type 0) (first : ℕ → List ℕ)
     (roots links width count : ℕ) where
@@ -80,10 +88,10 @@ module _ (fits : List ℕ → Type 0) (joins : ℕ → List ℕ → List ℕ →
       → (i < roots → (w.state ≡ Live) × (w.words ≡ v.words))
       → length w.links ≡ links
       → length w.words ≡ width
-      → ((k : ℕ) → k < links + width → slice_index new (place_of (links + width) i k)
+      → ((k : ℕ) → k < links + width → slice_index new (place_of roots links width i k)
       ≡ slice_index (row_of w) k)
-      → ((j k : ℕ) → j ≢ i → k < links + width → slice_index new (place_of (links + width) j k)
-      ≡ slice_index ws (place_of (links + width) j k))
+      → ((j k : ℕ) → j ≢ i → k < links + width → slice_index new (place_of roots links width j k)
+      ≡ slice_index ws (place_of roots links width j k))
       → (IsUsed w.state → fits w.words)
       → IsBy t w.state
       → (IsUsed w.state → IsLed joins links (set s i w) w)
@@ -115,7 +123,7 @@ module _ (fits : List ℕ → Type 0) (joins : ℕ → List ℕ → List ℕ →
     linked = reseat (λ j u. length u.links ≡ links) s i w many (λ j u ne e. h.linked j u e);
     sized = reseat (λ j u. length u.words ≡ width) s i w size (λ j u ne e. h.sized j u e);
     written = reseat (λ j u.
-        (k : ℕ) → k < links + width → slice_index new (place_of (links + width) j k)
+        (k : ℕ) → k < links + width → slice_index new (place_of roots links width j k)
         ≡ slice_index (row_of u) k)
         s i w mine (λ j u ne e k low. others j k ne low ∙ h.written j u e k low);
     whole = reseat (λ j u. IsUsed u.state → fits u.words) s i w fit (λ j u ne e. h.whole j u e);
@@ -156,6 +164,18 @@ module _ (fits : List ℕ → Type 0) (joins : ℕ → List ℕ → List ℕ →
   root_is ws s t i v h at low = let r = h.rooted i low in
       ap (λ (x : Node). x.state) (some-injective _ _ (sym at ∙ r.1)) ∙ r.2
 
+  -- each root is a node
+  few_roots : (ws : List ℕ) (s : List Node) (t : ℕ)
+      → AreKept fits joins first roots links width count ws s t
+      → roots ≤ count
+  few_roots ws s t h = by (dec_le roots count)
+    where
+      by : Dec (roots ≤ count) → roots ≤ count
+      by (yes few) = few
+      by (no more) =
+          let r = h.rooted count (omega (arith, more)) in
+          let low = inside s count r.0 r.1 in absurd (omega (arith, low, h.few))
+
   row_long : (ws : List ℕ) (s : List Node) (t i : ℕ) (v : Node)
       → AreKept fits joins first roots links width count ws s t
       → get_elem? s i ≡ some v → length (row_of v) ≡ links + width
@@ -173,11 +193,10 @@ module _ (fits : List ℕ → Type 0) (joins : ℕ → List ℕ → List ℕ →
       → get_elem? s i ≡ some v
       → l < links
       → (v.state ≡ Free) ⊎ ((v.state ≡ Live) × IsTarget (joins l) v.words s x)
-      → AreKept fits joins first roots links width count (set ws (place_of (links + width) i l) x)
+      → AreKept fits joins first roots links width count (set ws (place_of roots links width i l) x)
       (set s i (linked_to l x v)) t
   link_stored ws s t i l x v h at low may =
-      let row : ℕ = links + width in
-      let p : ℕ = place_of row i l in
+      let p : ℕ = place_of roots links width i l in
       let w : Node = linked_to l x v in
       let bound : i < length s = inside s i v at in
       let many : length v.links ≡ links = h.linked i v at in
@@ -186,11 +205,12 @@ module _ (fits : List ℕ → Type 0) (joins : ℕ → List ℕ → List ℕ →
       renode ws (set ws p x) s t i v w h at (length-set ws p x)
       (λ r. (root_is ws s t i v h at r, refl)) (length-set v.links l x ∙ many) (h.sized i v at)
       (λ k high.
-      stored_row row count i l x ws (row_of v) (omega (arith, bound, h.few)) (omega (arith, low))
+      stored_row roots links width count i l x ws (row_of v) (few_roots ws s t h)
+      (omega (arith, bound, h.few)) (omega (arith, low))
       (row_long ws s t i v h at) h.long (h.written i v at) k high
       ∙ ap (λ (cells : List ℕ). slice_index cells k) is_row)
-      (λ j k ne high. get_or-set_other ws p (place_of row j k) x 0
-      (places_differ first_place row j i k l ne high (omega (arith, low))))
+      (λ j k ne high. get_or-set_other ws p (place_of roots links width j k) x 0
+      (λ e. ne (told roots links width j i k l high (omega (arith, low)) e).0))
       (h.whole i v at) (h.by i v at)
       (λ used m k small link. dite (ℕ_discrete m l)
       (λ (is : m ≡ l). to_target used m k small is link may)
@@ -230,11 +250,10 @@ module _ (fits : List ℕ → Type 0) (joins : ℕ → List ℕ → List ℕ →
       → k < width
       → v.state ≡ Free
       → AreKept fits joins first roots links width count
-      (set ws (place_of (links + width) i (links + k)) x) (set s i (worded k x v)) t
+      (set ws (place_of roots links width i (links + k)) x) (set s i (worded k x v)) t
   word_stored ws s t i k x v h at low free =
-      let row : ℕ = links + width in
       let q : ℕ = links + k in
-      let p : ℕ = place_of row i q in
+      let p : ℕ = place_of roots links width i q in
       let w : Node = worded k x v in
       let bound : i < length s = inside s i v at in
       let many : length v.links ≡ links = h.linked i v at in
@@ -246,11 +265,12 @@ module _ (fits : List ℕ → Type 0) (joins : ℕ → List ℕ → List ℕ →
       (λ r. absurd (not_both v.state (root_is ws s t i v h at r) free)) many
       (length-set v.words k x ∙ h.sized i v at)
       (λ m high.
-      stored_row row count i q x ws (row_of v) (omega (arith, bound, h.few)) (omega (arith, low))
+      stored_row roots links width count i q x ws (row_of v) (few_roots ws s t h)
+      (omega (arith, bound, h.few)) (omega (arith, low))
       (row_long ws s t i v h at) h.long (h.written i v at) m high
       ∙ ap (λ (cells : List ℕ). slice_index cells m) is_row)
-      (λ j m ne high. get_or-set_other ws p (place_of row j m) x 0
-      (places_differ first_place row j i m q ne high (omega (arith, low))))
+      (λ j m ne high. get_or-set_other ws p (place_of roots links width j m) x 0
+      (λ e. ne (told roots links width j i m q high (omega (arith, low)) e).0))
       (λ used. absurd (subst IsUsed free used)) (h.by i v at)
       (λ used. absurd (subst IsUsed free used))
       (λ j l u e used lasts joined small link.
@@ -338,7 +358,7 @@ module _ (fits : List ℕ → Type 0) (joins : ℕ → List ℕ → List ℕ →
     written = λ j u e.
         let b = at_map_back (aged_node n m) s j u e in
         subst (λ (x : Node).
-        (k : ℕ) → k < links + width → slice_index ws (place_of (links + width) j k)
+        (k : ℕ) → k < links + width → slice_index ws (place_of roots links width j k)
         ≡ slice_index (row_of x) k)
         b.2 (h.written j b.0 b.1);
     whole = λ j u e.

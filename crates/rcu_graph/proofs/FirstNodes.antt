@@ -21,7 +21,7 @@ is_below i n e = grind (arith, nat_tests)
 pub below : (i n : ℕ) → nat_lt i n ≡ true → i < n
 below i n e = grind (arith, nat_tests)
 
-not_below : (i n : ℕ) → n ≤ i → nat_lt i n ≡ false
+pub not_below : (i n : ℕ) → n ≤ i → nat_lt i n ≡ false
 not_below i n e = grind (arith, nat_tests)
 
 module _ (links width count : ℕ) (first : ℕ → List ℕ) where

@@ -161,7 +161,7 @@ module _ (fits : Plan → List ℕ → Type 0) (joins : Plan → ℕ → List �
   write_goes node word value low free short =
       let place : ℕ = cell_of plan node (plan.links + word) in
       let r = word_at fits joins first None None (of_plan plan before.keeper) plan refl place
-      (λ _. value) (λ _. IsWritten plan.links plan.words place before.keeper value)
+      (λ _. value) (λ _. IsWritten plan.roots plan.links plan.words place before.keeper value)
       (writes_at (fits plan) (joins plan) (first plan) plan.roots plan.links plan.words plan.nodes
       None None before.keeper node word place value can.kept.keeps low free short refl)
       number before.words before.seats keeper can.kept.rule can.current can.lone
@@ -183,7 +183,7 @@ module _ (fits : Plan → List ℕ → Type 0) (joins : Plan → ℕ → List �
   write_link_goes node link value low free short =
       let place : ℕ = cell_of plan node link in
       let r = word_at fits joins first None None (of_plan plan before.keeper) plan refl place
-      (λ _. value) (λ _. IsLinkWritten plan.links plan.words place before.keeper value)
+      (λ _. value) (λ _. IsLinkWritten plan.roots plan.links plan.words place before.keeper value)
       (writes_link_at (fits plan) (joins plan) (first plan) plan.roots plan.links plan.words
       plan.nodes None None before.keeper node link place value can.kept.keeps low free short refl)
       number before.words before.seats keeper can.kept.rule can.current can.lone
@@ -207,7 +207,7 @@ module _ (fits : Plan → List ℕ → Type 0) (joins : Plan → ℕ → List �
   link_goes node link value low short live target =
       let place : ℕ = cell_of plan node link in
       let r = word_at fits joins first None None (of_plan plan before.keeper) plan refl place
-      (λ _. value) (λ _. IsLinked plan.links plan.words place before.keeper value)
+      (λ _. value) (λ _. IsLinked plan.roots plan.links plan.words place before.keeper value)
       (links_at (fits plan) (joins plan) (first plan) plan.roots plan.links plan.words
       plan.nodes None None before.keeper node link place value can.kept.keeps low short live target
       refl)
@@ -235,7 +235,7 @@ module _ (fits : Plan → List ℕ → Type 0) (joins : Plan → ℕ → List �
   publish_goes from link to low inner short live ready joined =
       let place : ℕ = cell_of plan from link in
       let r = word_at fits joins first None None (of_plan plan before.keeper) plan refl place
-      (λ _. suc to) (λ _. IsPublished plan.links plan.words place before.keeper (suc to))
+      (λ _. suc to) (λ _. IsPublished plan.roots plan.links plan.words place before.keeper (suc to))
       (publishes_at (fits plan) (joins plan) (first plan) plan.roots plan.links plan.words
       plan.nodes None None before.keeper from link to place (suc to) can.kept.keeps low inner short
       live ready joined refl refl)
@@ -259,7 +259,7 @@ module _ (fits : Plan → List ℕ → Type 0) (joins : Plan → ℕ → List �
   leave_goes node low short past live unlinked =
       let place : ℕ = cell_of plan node 0 in
       let r = word_at fits joins first None None (of_plan plan before.keeper) plan refl place
-      (λ n. n) (IsLeft plan.links plan.words place before.keeper)
+      (λ n. n) (IsLeft plan.roots plan.links plan.words place before.keeper)
       (leaves_at (fits plan) (joins plan) (first plan) plan.roots plan.links plan.words
       plan.nodes None None before.keeper node place can.kept.keeps low short past live unlinked
       refl)

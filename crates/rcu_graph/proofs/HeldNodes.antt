@@ -50,7 +50,7 @@ module _ (fits : List ℕ → Type 0) (joins : ℕ → List ℕ → List ℕ →
       → IsReader known
       → IsHeld known i words
       → k < width
-      → slice_index ws (place_of (links + width) i (links + k)) ≡ slice_index words k
+      → slice_index ws (place_of roots links width i (links + k)) ≡ slice_index words k
   word_held ws xs h id i k cpu section known words at reads held low =
       let r = holds_it ws xs h id i cpu section known words at reads held in
       let many : length r.on.links ≡ links = h.kept.linked i r.on r.here in
@@ -69,8 +69,8 @@ module _ (fits : List ℕ → Type 0) (joins : ℕ → List ℕ → List ℕ →
       → IsHeld was i words
       → IsHeld now i words
       → k < width
-      → slice_index after (place_of (links + width) i (links + k))
-      ≡ slice_index before (place_of (links + width) i (links + k))
+      → slice_index after (place_of roots links width i (links + k))
+      ≡ slice_index before (place_of roots links width i (links + k))
   words_kept before after xs ys id i k cpu section here later was now words h h' at at'
       reads reads' held held' low =
       word_held after ys h' id i k here later now words at' reads' held' low
@@ -125,7 +125,7 @@ module _ (fits : List ℕ → Type 0) (joins : ℕ → List ℕ → List ℕ →
       → get_elem? nodes i ≡ some v
       → v.state ≡ Live
       → l < links
-      → slice_index table (place_of (links + width) i l) ≡ suc j
+      → slice_index table (place_of roots links width i l) ≡ suc j
       → (to : Node) × (get_elem? nodes j ≡ some to) × (to.state ≡ Live) × joins l v.words to.words
   live_leads table xs keeper i l j latest who own nodes stored v h kept at live low link =
       let k = h.seats keeper who own (Keeper latest nodes stored) kept in
@@ -171,8 +171,8 @@ module _ (fits : List ℕ → Type 0) (joins : ℕ → List ℕ → List ℕ →
       → IsReader was
       → IsOn first roots was i words
       → l < links
-      → IsFollowed fits joins first roots links width count (place_of (links + width) i l) was
-      (slice_index table (place_of (links + width) i l)) now
+      → IsFollowed fits joins first roots links width count (place_of roots links width i l) was
+      (slice_index table (place_of roots links width i l)) now
       → (hop : Hop)
       × (hops_in now ≡ hop ∷ hops_in was)
       × (hop.from ≡ i)
@@ -181,7 +181,7 @@ module _ (fits : List ℕ → Type 0) (joins : ℕ → List ℕ → List ℕ →
   hop_true_then table later_table xs ys keeper id i l latest who own cpu section
       later_who later_own later_cpu later_section nodes stored was now words h h' kept still at then
       reads on low told =
-      let x : ℕ = slice_index table (place_of (links + width) i l) in
+      let x : ℕ = slice_index table (place_of roots links width i l) in
       let f : Followed fits (joins l words) width count was i l x now =
       told i l words low refl on in
       let hop : Hop = record { from = i; link = l; to = x; words = f.words } in
@@ -201,8 +201,8 @@ module _ (fits : List ℕ → Type 0) (joins : ℕ → List ℕ → List ℕ →
       )
     where
       came : (f : Followed fits (joins l words) width count was i l
-          (slice_index table (place_of (links + width) i l)) now) (j : ℕ)
-          → slice_index table (place_of (links + width) i l) ≡ suc j
+          (slice_index table (place_of roots links width i l)) now) (j : ℕ)
+          → slice_index table (place_of roots links width i l) ≡ suc j
           → f.words ≡ (node_at nodes j).words
       came f j e =
           let known = h'.seats keeper later_who later_own (Keeper latest nodes stored) still in
@@ -211,7 +211,7 @@ module _ (fits : List ℕ → Type 0) (joins : ℕ → List ℕ → List ℕ →
             record {
               from = i;
               link = l;
-              to = slice_index table (place_of (links + width) i l);
+              to = slice_index table (place_of roots links width i l);
               words = f.words;
             },
             refl,
@@ -234,8 +234,8 @@ module _ (fits : List ℕ → Type 0) (joins : ℕ → List ℕ → List ℕ →
       → IsReader was
       → IsOn first roots was i words
       → l < links
-      → IsFollowed fits joins first roots links width count (place_of (links + width) i l) was
-      (slice_index table (place_of (links + width) i l)) now
+      → IsFollowed fits joins first roots links width count (place_of roots links width i l) was
+      (slice_index table (place_of roots links width i l)) now
       → (hop : Hop)
       × (hops_in now ≡ hop ∷ hops_in was)
       × (hop.from ≡ i)
@@ -295,7 +295,7 @@ module _ (fits : List ℕ → Type 0) (joins : ℕ → List ℕ → List ℕ →
           ap (λ (s : List Node). get_elem? s i) (sym k.1) ∙ there i live in
           let many : length (node_at nodes i).links ≡ links =
           h.kept.linked i (node_at nodes i) at in
-          let word : slice_index table (place_of (links + width) i 0) ≡ suc j =
+          let word : slice_index table (place_of roots links width i 0) ≡ suc j =
           h.kept.written i (node_at nodes i) at 0 (omega (arith, some_link))
           ∙ (get_or_append_left (node_at nodes i).links (node_at nodes i).words 0 0
           (omega (arith, some_link, many))

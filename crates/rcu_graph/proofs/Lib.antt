@@ -1,4 +1,5 @@
 pub mod States
+mod Cells
 pub mod Changes
 pub mod Moves
 pub mod Planned

@@ -13,9 +13,9 @@ use native.Mathlib.Decide.{ℕ_discrete}
 use lib.ListN.{get_elem?}
 use Rattle.atomic_table.proofs.Lists.{at_map, set_here, set_else}
 use Rattle.rcu_live.specs.Client.{Views, AllowsNumber, AllowsWord}
-use Rattle.rcu_live.proofs.ClientRows.{at_inside, inside, reseat, row_told, word_told}
+use Rattle.rcu_live.proofs.ClientRows.{at_inside, inside, reseat}
 use Rattle.rcu_graph.specs.Nodes.{IsHeld, IsOn, IsReader, IsTarget, IsUnlinked, MayRead, after_hop}
-use Rattle.rcu_graph.specs.Nodes.{aged, aged_node, first_nodes, first_place, hops_in, in_state}
+use Rattle.rcu_graph.specs.Nodes.{aged, aged_node, first_nodes, hops_in, in_state}
 use Rattle.rcu_graph.specs.Nodes.{linked_to, no_node, node_at, place_of, renewed, row_of, worded}
 use Rattle.rcu_graph.specs.Rule.{AreKept, IsKept, Knows, Leads, Reading}
 use Rattle.rcu_graph.specs.Stability.{SeatKnows, one_changes}
@@ -27,6 +27,7 @@ use Rattle.rcu_graph.specs.declared.known.Known.TheVariants.{Idle, Owner, Reader
 use Rattle.rcu_graph.specs.declared.known.Node.{Node}
 use Rattle.rcu_graph.specs.declared.node_state.NodeState.TheVariants.{Free, Live, Left}
 use Rattle.rcu_graph.proofs.Changes.{link_stored, node_left, nodes_aged, promoted, word_stored}
+use Rattle.rcu_graph.proofs.Cells.{told}
 use Rattle.rcu_graph.proofs.States.{may_aged, may_follow, may_is_used, not_both}
 
 number_of_some : (a b : ℕ) → Some a ≡ Some b → a ≡ b
@@ -106,9 +107,9 @@ module _ (fits : List ℕ → Type 0) (joins : ℕ → List ℕ → List ℕ →
       → (after : Known)
       × IsKept fits joins first roots links width count ws (set xs id (cpu, Some at, after))
       × Followed fits (joins l words) width count was i l
-      (slice_index ws (place_of (links + width) i l)) after
+      (slice_index ws (place_of roots links width i l)) after
   comes ws xs h id cpu at was i l v words there reads here same may low =
-      let x : ℕ = slice_index ws (place_of (links + width) i l) in
+      let x : ℕ = slice_index ws (place_of roots links width i l) in
       let many : length v.links ≡ links = h.kept.linked i v here in
       let found : x ≡ slice_index v.links l =
       h.kept.written i v here l (omega (arith, low))
@@ -179,10 +180,10 @@ module _ (fits : List ℕ → Type 0) (joins : ℕ → List ℕ → List ℕ →
       → IsOn first roots was i words
       → l < links
       → AllowsWord (IsKept fits joins first roots links width count) cpu (Some at) was
-      (place_of (links + width) i l) (λ n. n)
-      (IsFollowed fits joins first roots links width count (place_of (links + width) i l) was)
+      (place_of roots links width i l) (λ n. n)
+      (IsFollowed fits joins first roots links width count (place_of roots links width i l) was)
   follows cpu at was i l words reads on low n ws xs id h are lone there =
-      let p : ℕ = place_of (links + width) i l in
+      let p : ℕ = place_of roots links width i l in
       let o = is_on ws h.nodes h.latest h.keeper id at i was words h.kept reads
       (h.seats id cpu (Some at) was there) on in
       let t = comes ws xs h id cpu at was i l o.0 words there reads o.1 o.2 o.3 low in (
@@ -191,9 +192,10 @@ module _ (fits : List ℕ → Type 0) (joins : ℕ → List ℕ → List ℕ →
             (set xs id (cpu, Some at, t.0)))
             (sym (set-get_or ws p 0)) t.1,
         λ i' l' words' low' e on'.
-            let one : i ≡ i' = row_told first_place (links + width) i i' l l' (omega (arith, low))
+            let cell = told roots links width i i' l l' (omega (arith, low))
             (omega (arith, low')) e in
-            let two : l ≡ l' = word_told first_place (links + width) i i' l l' one e in
+            let one : i ≡ i' = cell.0 in
+            let two : l ≡ l' = cell.1 in
             let o' = is_on ws h.nodes h.latest h.keeper id at i' was words' h.kept reads
             (h.seats id cpu (Some at) was there) on' in
             let node : o.0 ≡ o'.0 =
@@ -210,10 +212,10 @@ module _ (fits : List ℕ → Type 0) (joins : ℕ → List ℕ → List ℕ →
       → IsOn first roots was i words
       → k < width
       → AllowsWord (IsKept fits joins first roots links width count) cpu (Some at) was
-      (place_of (links + width) i (links + k)) (λ n. n)
-      (IsRead first roots links width (place_of (links + width) i (links + k)) was)
+      (place_of roots links width i (links + k)) (λ n. n)
+      (IsRead first roots links width (place_of roots links width i (links + k)) was)
   reads_word cpu at was i k words reads on low n ws xs id h are lone there =
-      let p : ℕ = place_of (links + width) i (links + k) in
+      let p : ℕ = place_of roots links width i (links + k) in
       let knows = h.seats id cpu (Some at) was there in (
         was,
         subst (λ (cells : List ℕ). IsKept fits joins first roots links width count cells
@@ -222,10 +224,10 @@ module _ (fits : List ℕ → Type 0) (joins : ℕ → List ℕ → List ℕ →
         (
           refl,
           λ i' k' words' low' e on'.
-              let one : i ≡ i' = row_told first_place (links + width) i i' (links + k) (links + k')
-              (omega (arith, low)) (omega (arith, low')) e in
-              let two : links + k ≡ links + k' =
-              word_told first_place (links + width) i i' (links + k) (links + k') one e in
+              let cell = told roots links width i i' (links + k) (links + k') (omega (arith, low))
+              (omega (arith, low')) e in
+              let one : i ≡ i' = cell.0 in
+              let two : links + k ≡ links + k' = cell.1 in
               let o =
               is_on ws h.nodes h.latest h.keeper id at i' was words' h.kept reads knows on' in
               let many : length o.0.links ≡ links = h.kept.linked i' o.0 o.1 in
@@ -326,22 +328,23 @@ module _ (fits : List ℕ → Type 0) (joins : ℕ → List ℕ → List ℕ →
       → (node_at s i).state ≡ Free
       → k < width
       → AllowsWord (IsKept fits joins first roots links width count) cpu section (Keeper t s b)
-      (place_of (links + width) i (links + k)) (λ _. x)
-      (λ _ now. IsWritten links width (place_of (links + width) i (links + k)) (Keeper t s b) x now)
+      (place_of roots links width i (links + k)) (λ _. x)
+      (λ _ now. IsWritten roots links width (place_of roots links width i (links + k))
+      (Keeper t s b) x now)
   writes cpu section t i k x s b bound free low n ws xs id h are lone there =
       let v : Node = node_at s i in
       let at : get_elem? s i ≡ some v = at_inside s i no_node bound in (
         Keeper t (set s i (worded k x v)) b,
-        renews ws (set ws (place_of (links + width) i (links + k)) x) xs h id cpu section t s
+        renews ws (set ws (place_of roots links width i (links + k)) x) xs h id cpu section t s
             b b i v (worded k x v) there at
             (λ was.
             word_stored fits joins first roots links width count ws s t i k x v was at low free)
             (λ a may. absurd (subst (MayRead a) free may)),
         λ i' k' low' e.
-            let one : i ≡ i' = row_told first_place (links + width) i i' (links + k) (links + k')
-            (omega (arith, low)) (omega (arith, low')) e in
-            let both : links + k ≡ links + k' =
-            word_told first_place (links + width) i i' (links + k) (links + k') one e in
+            let cell = told roots links width i i' (links + k) (links + k') (omega (arith, low))
+            (omega (arith, low')) e in
+            let one : i ≡ i' = cell.0 in
+            let both : links + k ≡ links + k' = cell.1 in
             let two : k ≡ k' = omega (arith, both) in
             ap (λ (y : ℕ × ℕ). Keeper t (renewed s y.0 (worded y.1 x)) b) (λ z. (one z, two z)),
       )
@@ -355,23 +358,24 @@ module _ (fits : List ℕ → Type 0) (joins : ℕ → List ℕ → List ℕ →
       → ((node_at s i).state ≡ Free)
       ⊎ (((node_at s i).state ≡ Live) × IsTarget (joins l) (node_at s i).words s x)
       → AllowsWord (IsKept fits joins first roots links width count) cpu section (Keeper t s b)
-      (place_of (links + width) i l) (λ _. x)
+      (place_of roots links width i l) (λ _. x)
       (λ _ now. (i' l' : ℕ) → l' < links
-      → place_of (links + width) i l ≡ place_of (links + width) i' l'
+      → place_of roots links width i l ≡ place_of roots links width i' l'
       → now ≡ Keeper t (renewed s i' (linked_to l' x)) (stored (renewed s i' (linked_to l' x))))
   links_to cpu section t i l x s b stored bound low allowed n ws xs id h are lone there =
       let v : Node = node_at s i in
       let at : get_elem? s i ≡ some v = at_inside s i no_node bound in (
         Keeper t (set s i (linked_to l x v)) (stored (set s i (linked_to l x v))),
-        renews ws (set ws (place_of (links + width) i l) x) xs h id cpu section t s b
+        renews ws (set ws (place_of roots links width i l) x) xs h id cpu section t s b
             (stored (set s i (linked_to l x v))) i v (linked_to l x v) there at
             (λ was.
             link_stored fits joins first roots links width count ws s t i l x v was at low allowed)
             (λ a may. (refl, may)),
         λ i' l' low' e.
-            let one : i ≡ i' = row_told first_place (links + width) i i' l l' (omega (arith, low))
+            let cell = told roots links width i i' l l' (omega (arith, low))
             (omega (arith, low')) e in
-            let two : l ≡ l' = word_told first_place (links + width) i i' l l' one e in
+            let one : i ≡ i' = cell.0 in
+            let two : l ≡ l' = cell.1 in
             ap (λ (y : ℕ × ℕ). Keeper t (renewed s y.0 (linked_to y.1 x))
             (stored (renewed s y.0 (linked_to y.1 x)))) (λ z. (one z, two z)),
       )
@@ -388,8 +392,9 @@ module _ (fits : List ℕ → Type 0) (joins : ℕ → List ℕ → List ℕ →
       (slice_index (node_at s j).links m))
       → joins l (node_at s i).words (node_at s j).words
       → AllowsWord (IsKept fits joins first roots links width count) cpu section (Keeper t s b)
-      (place_of (links + width) i l) (λ _. suc j)
-      (λ _ now. IsPublished links width (place_of (links + width) i l) (Keeper t s b) (suc j) now)
+      (place_of roots links width i l) (λ _. suc j)
+      (λ _ now. IsPublished roots links width (place_of roots links width i l) (Keeper t s b)
+      (suc j) now)
   publishes cpu section t i l j s b bound low_j low live free fit targets joined n ws xs id h
       are lone there =
       let u : Node = node_at s j in
@@ -403,7 +408,7 @@ module _ (fits : List ℕ → Type 0) (joins : ℕ → List ℕ → List ℕ →
       (let q = length-set s j (in_state Live u) in omega (arith, q, bound)) in
       let w : Node = linked_to l (suc j) v in
       let xs₁ : Views Known = set xs id (cpu, section, Keeper t s₁ b) in
-      let p : ℕ = place_of (links + width) i l in
+      let p : ℕ = place_of roots links width i l in
       let mid : IsKept fits joins first roots links width count ws xs₁ =
       renews ws ws xs h id cpu section t s b b j u (in_state Live u) there at_j
       (λ was.
@@ -432,9 +437,10 @@ module _ (fits : List ℕ → Type 0) (joins : ℕ → List ℕ → List ℕ →
             (set-set xs id (cpu, section, Keeper t s₁ b)
             (cpu, section, Keeper t (set s₁ i w) (set s₁ i w ∷ b))) after,
         λ i' l' j' low' e f.
-            let one : i ≡ i' = row_told first_place (links + width) i i' l l' (omega (arith, low))
+            let cell = told roots links width i i' l l' (omega (arith, low))
             (omega (arith, low')) e in
-            let two : l ≡ l' = word_told first_place (links + width) i i' l l' one e in
+            let one : i ≡ i' = cell.0 in
+            let two : l ≡ l' = cell.1 in
             let three : j ≡ j' = suc_inj f in
             ap (λ (y : ℕ × ℕ × ℕ).
             let n = renewed (renewed s y.2 (in_state Live)) y.0 (linked_to y.1 (suc j)) in
@@ -450,11 +456,11 @@ module _ (fits : List ℕ → Type 0) (joins : ℕ → List ℕ → List ℕ →
       → (node_at s i).state ≡ Live
       → IsUnlinked links s i
       → AllowsWord (IsKept fits joins first roots links width count) cpu section (Keeper t s b)
-      (place_of (links + width) i k) (λ n. n)
-      (IsLeft links width (place_of (links + width) i k) (Keeper t s b))
+      (place_of roots links width i k) (λ n. n)
+      (IsLeft roots links width (place_of roots links width i k) (Keeper t s b))
   leaves cpu section t i k s b bound low past live unlinked n ws xs id h are lone there =
       let v : Node = node_at s i in
-      let p : ℕ = place_of (links + width) i k in
+      let p : ℕ = place_of roots links width i k in
       let at : get_elem? s i ≡ some v = at_inside s i no_node bound in (
         Keeper t (set s i (in_state Left v)) b,
         subst (λ (cells : List ℕ). IsKept fits joins first roots links width count cells
@@ -465,7 +471,7 @@ module _ (fits : List ℕ → Type 0) (joins : ℕ → List ℕ → List ℕ →
             node_left fits joins first roots links width count ws s t i v was at live past unlinked)
             (λ a may. (refl, tt))),
         λ i' k' low' e. ap (λ (m : ℕ). Keeper t (renewed s m (in_state Left)) b)
-            (row_told first_place (links + width) i i' k k' low low' e),
+            (told roots links width i i' k k' low low' e).0,
       )
 
   -- the keeper's look: what no section may be on any more is free

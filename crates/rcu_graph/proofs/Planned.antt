@@ -1,5 +1,5 @@
 -- What a rule allows that does not speak of the plan, the one that does allows too.
-use Rattle.std.proofs.Common.{◌≡◌, ◌+◌, ◌<◌, ℕ, zero, suc, List, [], ◌∷◌, Option, Some, refl}
+use Rattle.std.proofs.Common.{◌≡◌, ◌<◌, ℕ, zero, suc, List, [], ◌∷◌, Option, Some, refl}
 use Rattle.std.proofs.Common.{sym, ap, ◌∙◌, subst, map}
 use Rattle.std.proofs.lemmas.List.{map-set}
 use Rattle.std.specs.Prelude.{slice_index, slice_set}
@@ -131,7 +131,7 @@ pub followed_of : (fits : Plan → List ℕ → Type 0) (joins : Plan → ℕ �
     → was.plan ≡ plan
     → tells_follow fits joins first place was x now
     → l < plan.links
-    → place ≡ place_of (plan.links + plan.words) i l
+    → place ≡ place_of plan.roots plan.links plan.words i l
     → IsOn (first plan) plan.roots was.known i words
     → Followed (fits plan) (joins plan l words) plan.words plan.nodes was.known i l x now.known
 followed_of fits joins first plan was now i l place x words planned told low at on = told_at

@@ -26,6 +26,7 @@ use Rattle.rcu_graph.specs.declared.known.Known.TheVariants.{Reader}
 use Rattle.rcu_graph.specs.declared.known.Node.{Node}
 use Rattle.rcu_graph.specs.declared.known.Planned.{Planned}
 use Rattle.rcu_graph.specs.declared.node_state.NodeState.TheVariants.{Live}
+use Rattle.rcu_graph.proofs.Cells.{told}
 use Rattle.rcu_graph.proofs.GoingOn.{some_is_some}
 use Rattle.rcu_graph.proofs.States.{not_both}
 use Rattle.rcu_graph.proofs.Stores.{move_grows}
@@ -80,7 +81,7 @@ kept_first = record {
   linked = each _ _ _ (λ i v. length v.links ≡ 1) refl refl refl;
   sized = each _ _ _ (λ i v. length v.words ≡ 1) refl refl refl;
   written = each _ _ _ (λ i v. (k : ℕ) → k < 2
-      → slice_index (small_words 0) (place_of 2 i k) ≡ slice_index (row_of v) k)
+      → slice_index (small_words 0) (place_of 1 1 1 i k) ≡ slice_index (row_of v) k)
       (both _ refl refl) (both _ refl refl) (both _ refl refl);
   whole = λ i v e used. tt;
   by = each _ _ _ (λ i v. IsBy 0 v.state) tt tt tt;
@@ -100,7 +101,7 @@ kept_then t = record {
   linked = each _ _ _ (λ i v. length v.links ≡ 1) refl refl refl;
   sized = each _ _ _ (λ i v. length v.words ≡ 1) refl refl refl;
   written = each _ _ _ (λ i v. (k : ℕ) → k < 2
-      → slice_index (small_words 1) (place_of 2 i k) ≡ slice_index (row_of v) k)
+      → slice_index (small_words 1) (place_of 1 1 1 i k) ≡ slice_index (row_of v) k)
       (both _ refl refl) (both _ refl refl) (both _ refl refl);
   whole = λ i v e used. tt;
   by = each _ _ _ (λ i v. IsBy 0 v.state) tt tt tt;
@@ -209,13 +210,14 @@ moments_at (suc zero) = moment_at 0 (first_hop ∷ []) (holds_first 0)
 moments_at (suc (suc zero)) = moment_at 1 (first_hop ∷ []) (holds_first 1)
 moments_at (suc (suc (suc t))) = moment_at 1 (second_hop ∷ first_hop ∷ []) (holds_both 0)
 
-told_published : (i l j : ℕ) → l < 1 → 18 ≡ place_of 2 i l → 3 ≡ suc j
+told_published : (i l j : ℕ) → l < 1 → 18 ≡ place_of 1 1 1 i l → 3 ≡ suc j
     → small_keeper 1
     ≡ storing (small_keeper 0) (renewed (renewed (small_nodes 0) j (in_state Live)) i
     (linked_to l 3))
 told_published i l j low at to =
-    let e : 1 ≡ i = omega (arith, low, at) in
-    let f : 0 ≡ l = omega (arith, low, at) in
+    let cell = told 1 1 1 1 i 0 l (omega arith) (omega (arith, low)) at in
+    let e : 1 ≡ i = cell.0 in
+    let f : 0 ≡ l = cell.1 in
     let g : 2 ≡ j = omega (arith, to) in
     subst (λ (n : ℕ × ℕ × ℕ). small_keeper 1
     ≡ storing (small_keeper 0) (renewed (renewed (small_nodes 0) n.2 (in_state Live)) n.0
@@ -244,23 +246,25 @@ comes hops hop i l j words from along to low size up = record {
   led = inr (j, to, record { inside = low; size = size; whole = tt; joined = up });
 }
 
-told_first : (i l : ℕ) (words : List ℕ) → l < 1 → 16 ≡ place_of 2 i l
+told_first : (i l : ℕ) (words : List ℕ) → l < 1 → 16 ≡ place_of 1 1 1 i l
     → IsOn (small_first small_plan) 1 (Reader []) i words
     → Comes [] first_hop i l words
 told_first i l words low at (inl root) =
-    comes [] first_hop i l 1 words (omega (arith, low, at)) (omega (arith, low, at)) refl
-    (omega arith) refl
+    let cell = told 1 1 1 0 i 0 l (omega arith) (omega (arith, low)) at in
+    comes [] first_hop i l 1 words cell.0 cell.1 refl (omega arith) refl
     (subst (λ (w : List ℕ). slice_index w 0 < 5) root.1 (omega arith))
 told_first i l words low at (inr held) = absurd (some-ne-none held.1 (sym held.2))
 
-told_second : (i l : ℕ) (words : List ℕ) → l < 1 → 18 ≡ place_of 2 i l
+told_second : (i l : ℕ) (words : List ℕ) → l < 1 → 18 ≡ place_of 1 1 1 i l
     → IsOn (small_first small_plan) 1 (Reader (first_hop ∷ [])) i words
     → Comes (first_hop ∷ []) second_hop i l words
 told_second i l words low at (inl root) =
-    let inside = root.0 in absurd (omega (arith, low, at, inside))
+    let cell = told 1 1 1 1 i 0 l (omega arith) (omega (arith, low)) at in
+    let inside = root.0 in
+    absurd (omega (arith, cell.0, inside))
 told_second i l words low at (inr held) =
-    comes (first_hop ∷ []) second_hop i l 2 words (omega (arith, low, at))
-    (omega (arith, low, at)) refl (omega arith) refl
+    let cell = told 1 1 1 1 i 0 l (omega arith) (omega (arith, low)) at in
+    comes (first_hop ∷ []) second_hop i l 2 words cell.0 cell.1 refl (omega arith) refl
     (subst (λ (w : List ℕ). slice_index w 0 < 7) (sym (held_first i words held)) (omega arith))
 
 keeper_moves : (t : ℕ) → t < 3
@@ -327,8 +331,10 @@ small_not_before (followed node link words low on told same) =
     let hop = same_hop _ _ _ _ f.is in
     let from : 1 ≡ node = ap (λ (h : Hop). h.from) hop in
     let along : 0 ≡ link = ap (λ (h : Hop). h.link) hop in
-    let to : 3 ≡ slice_index (small_words 0) (place_of 2 node link) = ap (λ (h : Hop). h.to) hop in
-    let found : 3 ≡ 0 = subst (λ (n : ℕ × ℕ). 3 ≡ slice_index (small_words 0) (place_of 2 n.0 n.1))
+    let to : 3 ≡ slice_index (small_words 0) (place_of 1 1 1 node link) =
+    ap (λ (h : Hop). h.to) hop in
+    let found : 3 ≡ 0 = subst (λ (n : ℕ × ℕ).
+    3 ≡ slice_index (small_words 0) (place_of 1 1 1 n.0 n.1))
     (λ x. (sym from x, sym along x)) to in
     absurd (omega (arith, found))
 

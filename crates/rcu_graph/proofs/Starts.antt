@@ -16,7 +16,7 @@ use lib.ListN.{get_elem?}
 use Rattle.atomic_table.proofs.Lists.{at_map}
 use Rattle.rcu_live.specs.Client.{ClientView}
 use Rattle.rcu_live.proofs.ClientLemmas.{at_map_back}
-use Rattle.rcu_live.proofs.ClientRows.{at_inside, inside, row_told, word_told}
+use Rattle.rcu_live.proofs.ClientRows.{at_inside, inside}
 use Rattle.rcu_graph.specs.Nodes.{IsBy, IsUsed, first_node, first_place, first_nodes, free_node}
 use Rattle.rcu_graph.specs.Nodes.{place_of, root, row_of}
 use Rattle.rcu_graph.specs.Opening.{AreFirst}
@@ -25,6 +25,7 @@ use Rattle.rcu_graph.specs.declared.known.Known.{Known}
 use Rattle.rcu_graph.specs.declared.known.Known.TheVariants.{Owner}
 use Rattle.rcu_graph.specs.declared.known.Node.{Node}
 use Rattle.rcu_graph.proofs.FirstNodes.{below, is_below}
+use Rattle.rcu_graph.proofs.Cells.{side_by_side, told}
 
 at_range : (n i x : ℕ) → get_elem? (range_with_len 0 n) i ≡ some x → (x ≡ i) × (i < n)
 at_range n i x e =
@@ -47,22 +48,25 @@ not_below : (i n : ℕ) → nat_lt i n ≡ false → n ≤ i
 not_below i n e = grind (arith, nat_tests)
 
 -- a row of zeros and of words, where they stand so
-row_is : (links width row i : ℕ) (behind words : List ℕ)
+row_is : (roots links width i : ℕ) (behind words : List ℕ)
     → length words ≡ width
-    → ((l : ℕ) → l < links → slice_index behind (place_of row i l) ≡ 0)
-    → ((k : ℕ) → k < width → slice_index behind (place_of row i (links + k)) ≡ slice_index words k)
+    → ((l : ℕ) → l < links → slice_index behind (place_of roots links width i l) ≡ 0)
+    → ((k : ℕ) → k < width → slice_index behind (place_of roots links width i (links + k))
+    ≡ slice_index words k)
     → (k : ℕ) → k < links + width
-    → slice_index behind (place_of row i k) ≡ slice_index (replicate links 0 ++ words) k
-row_is links width row i behind words size zeros same k low = by (dec_le links k)
+    → slice_index behind (place_of roots links width i k)
+    ≡ slice_index (replicate links 0 ++ words) k
+row_is roots links width i behind words size zeros same k low = by (dec_le links k)
   where
     many : length {A = ℕ} (replicate links 0) ≡ links
     many = length-replicate links 0
 
     by : Dec (links ≤ k)
-        → slice_index behind (place_of row i k) ≡ slice_index (replicate links 0 ++ words) k
+        → slice_index behind (place_of roots links width i k)
+        ≡ slice_index (replicate links 0 ++ words) k
     by (yes high) =
         let back : links + (k - links) ≡ k = omega (arith, high) in
-        ap (λ (m : ℕ). slice_index behind (place_of row i m)) (sym back)
+        ap (λ (m : ℕ). slice_index behind (place_of roots links width i m)) (sym back)
         ∙ (same (k - links) (omega (arith, high, low))
         ∙ sym (get_or-append_right (replicate links 0) words links k 0 many high))
     by (no high) =
@@ -117,7 +121,7 @@ module _ (fits : List ℕ → Type 0) (joins : ℕ → List ℕ → List ℕ →
       → length behind ≡ first_place + (links + width) * count
       → ((i : ℕ) → i < roots → length (first i) ≡ width)
       → ((i : ℕ) → i < roots → fits (first i))
-      → AreFirst first roots links width behind
+      → AreFirst first roots roots links width behind
       → IsKept fits joins first roots links width count behind ((None, None, Owner) ∷ [])
   starts behind many long size whole h = record {
     nodes = first_nodes links width first roots count;
@@ -139,12 +143,12 @@ module _ (fits : List ℕ → Type 0) (joins : ℕ → List ℕ → List ℕ →
       sized = each (λ i v. length v.words ≡ width) (λ i low r. size i r)
           (λ i low r. length-replicate width 0);
       written = each (λ i v.
-          (k : ℕ) → k < links + width → slice_index behind (place_of (links + width) i k)
+          (k : ℕ) → k < links + width → slice_index behind (place_of roots links width i k)
           ≡ slice_index (row_of v) k)
-          (λ i low r. row_is links width (links + width) i behind (first i) (size i r)
+          (λ i low r. row_is roots links width i behind (first i) (size i r)
           (λ l small. h.no_links i l small)
           (λ k small. h.stored i k r small))
-          (λ i low r. row_is links width (links + width) i behind (replicate width 0)
+          (λ i low r. row_is roots links width i behind (replicate width 0)
           (length-replicate width 0) (λ l small. h.no_links i l small)
           (λ k small. h.rest i k r small ∙ sym (get_or-replicate width k 0 0 small)));
       whole = each (λ i v. IsUsed v.state → fits v.words) (λ i low r used. whole i r)
@@ -159,12 +163,12 @@ module _ (fits : List ℕ → Type 0) (joins : ℕ → List ℕ → List ℕ →
   }
 
 -- nothing is stored yet
-pub none_stored : (first : ℕ → List ℕ) (links width n : ℕ)
-    → AreFirst first 0 links width (replicate n 0)
-none_stored first links width n = record {
-  no_links = λ i l low. zeros n (place_of (links + width) i l);
+pub none_stored : (first : ℕ → List ℕ) (roots links width n : ℕ)
+    → AreFirst first 0 roots links width (replicate n 0)
+none_stored first roots links width n = record {
+  no_links = λ i l low. zeros n (place_of roots links width i l);
   stored = λ i k low small. absurd (omega (arith, low));
-  rest = λ i k low small. zeros n (place_of (links + width) i (links + k));
+  rest = λ i k low small. zeros n (place_of roots links width i (links + k));
 }
   where
     zeros : (m p : ℕ) → slice_index (replicate m 0) p ≡ 0
@@ -173,45 +177,44 @@ none_stored first links width n = record {
     zeros (suc m) (suc p) = zeros m p
 
 -- the words of one root more
-pub one_stored : (first : ℕ → List ℕ) (r links width place : ℕ) (old new : List ℕ)
-    → AreFirst first r links width old
-    → place ≡ place_of (links + width) r links
+pub one_stored : (first : ℕ → List ℕ) (r roots links width place : ℕ) (old new : List ℕ)
+    → AreFirst first r roots links width old
+    → place ≡ place_of roots links width r links
     → ((k : ℕ) → k < width → slice_index new (place + k) ≡ slice_index (first r) k)
     → ((p : ℕ) → ((k : ℕ) → k < width → p ≢ place + k) → slice_index new p ≡ slice_index old p)
-    → AreFirst first (r + 1) links width new
-one_stored first r links width place old new h is mine others = record {
-  no_links = λ i l low. others (place_of (links + width) i l)
+    → AreFirst first (r + 1) roots links width new
+one_stored first r roots links width place old new h is mine others = record {
+  no_links = λ i l low. others (place_of roots links width i l)
       (λ k small e. link_apart i l k low small (e ∙ shifted k))
       ∙ h.no_links i l low;
   stored = λ i k low small. dite (ℕ_discrete i r)
       (λ (e : i ≡ r).
-      ap (λ (j : ℕ). slice_index new (place_of (links + width) j (links + k))) e
+      ap (λ (j : ℕ). slice_index new (place_of roots links width j (links + k))) e
       ∙ (ap (λ (p : ℕ). slice_index new p) (sym (shifted k))
       ∙ (mine k small ∙ ap (λ (j : ℕ). slice_index (first j) k) (sym e))))
       (λ (ne : i ≢ r).
-      others (place_of (links + width) i (links + k))
+      others (place_of roots links width i (links + k))
       (λ m little e. word_apart i k m ne small little (e ∙ shifted m))
       ∙ h.stored i k (omega (arith, low, ne)) small);
   rest = λ i k low small.
-      others (place_of (links + width) i (links + k))
+      others (place_of roots links width i (links + k))
       (λ m little e.
       word_apart i k m (λ (same : i ≡ r). omega (arith, low, same)) small little (e ∙ shifted m))
       ∙ h.rest i k (omega (arith, low)) small;
 }
   where
-    shifted : (k : ℕ) → place + k ≡ place_of (links + width) r (links + k)
-    shifted k = omega (arith, is)
+    shifted : (k : ℕ) → place + k ≡ place_of roots links width r (links + k)
+    shifted k = ap (λ (p : ℕ). p + k) is ∙ side_by_side roots links width r k
 
     link_apart : (i l k : ℕ) → l < links → k < width
-        → place_of (links + width) i l ≢ place_of (links + width) r (links + k)
+        → place_of roots links width i l ≢ place_of roots links width r (links + k)
     link_apart i l k low small e =
-        let same : i ≡ r = row_told first_place (links + width) i r l (links + k)
-        (omega (arith, low)) (omega (arith, small)) e in
-        let at : l ≡ links + k = word_told first_place (links + width) i r l (links + k) same e in
-        omega (arith, at, low)
+        let cell = told roots links width i r l (links + k) (omega (arith, low))
+        (omega (arith, small)) e in
+        let at : l ≡ links + k = cell.1 in omega (arith, at, low)
 
     word_apart : (i k m : ℕ) → i ≢ r → k < width → m < width
-        → place_of (links + width) i (links + k) ≢ place_of (links + width) r (links + m)
+        → place_of roots links width i (links + k) ≢ place_of roots links width r (links + m)
     word_apart i k m ne small little e =
-        ne (row_told first_place (links + width) i r (links + k) (links + m) (omega (arith, small))
-        (omega (arith, little)) e)
+        ne (told roots links width i r (links + k) (links + m) (omega (arith, small))
+        (omega (arith, little)) e).0

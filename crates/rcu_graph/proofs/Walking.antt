@@ -123,3 +123,12 @@ same_watches graph before after same watches = record {
   engine = (same.table ∙ watches.engine.0, same.base ∙ watches.engine.1);
   planned = same.plan ∙ watches.planned;
 }
+
+-- it found this word
+pub followed_to : (fits joins : List ℕ → Type 0) (width count : ℕ) (was : Known) (i l x y : ℕ)
+    (now : Known)
+    → x ≡ y
+    → Followed fits joins width count was i l x now
+    → Followed fits joins width count was i l y now
+followed_to fits joins width count was i l x y now is f =
+    subst (λ (n : ℕ). Followed fits joins width count was i l n now) is f

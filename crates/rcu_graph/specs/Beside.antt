@@ -41,7 +41,7 @@ pub record IsChainOf (joins : Plan → ℕ → List ℕ → List ℕ → Type 0)
 
 -- the place of the k-th of a node's links and words
 abbrev pub cell_of : Plan → ℕ → ℕ → ℕ
-cell_of plan = place_of (plan.links + plan.words)
+cell_of plan = place_of plan.roots plan.links plan.words
 
 module _ (plan : Plan) (before after : Moment) where
   -- the keeper made a step at a place, where it stored this value or found it: it knows then what

@@ -1,6 +1,6 @@
 -- Nodes that lead to one another: what state each is in, and what a look at the number makes of it.
-use Rattle.std.specs.Prelude.{◌≡◌, ◌≢◌, ℕ, suc, ◌+◌, ◌*◌, ◌⊎◌, ◌<◌, ◌≤◌, if◌then◌else◌, Bool, true}
-use Rattle.std.specs.Prelude.{false, List, [], ◌++◌, ◌∷◌, map, replicate, slice_index}
+use Rattle.std.specs.Prelude.{◌≡◌, ◌≢◌, ℕ, suc, ◌+◌, ◌-◌, ◌*◌, ◌⊎◌, ◌<◌, ◌≤◌, if◌then◌else◌, Bool}
+use Rattle.std.specs.Prelude.{true, false, List, [], ◌++◌, ◌∷◌, map, replicate, slice_index}
 use Rattle.std.specs.Prelude.{slice_index_or, slice_set, nat_lt}
 use Rattle.std.specs.Coded.{Unit-prop}
 use Rattle.std.specs.List.{range_with_len}
@@ -19,9 +19,15 @@ use Rattle.rcu_graph.specs.declared.node_state.NodeState.TheVariants.{Free, Live
 abbrev pub first_place : ℕ
 first_place = 16
 
--- the place of the k-th of a node's links and words, of rows of so many of both
-abbrev pub place_of : ℕ → ℕ → ℕ → ℕ
-place_of row i k = first_place + row * i + k
+-- the place of the k-th of a node's links and words. The links of the roots stand side by side, so
+-- that a line of a cache has those of many, and behind them the words of the roots. Each other node
+-- has a row of both, which stands where it would if the roots had such rows
+abbrev pub place_of : ℕ → ℕ → ℕ → ℕ → ℕ → ℕ
+place_of roots links width i k =
+    if nat_lt i roots
+    then (if nat_lt k links then first_place + links * i + k
+    else first_place + links * roots + width * i + (k - links))
+    else first_place + (links + width) * i + k
 
 -- a section that began at a number may be on a node in this state
 abbrev pub MayRead : Number → NodeState → Type 0

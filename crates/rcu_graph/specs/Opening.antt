@@ -27,8 +27,7 @@ pub record IsSized (plan : Plan) : Type 0 where
 
 -- the rows of the nodes
 abbrev pub row_of : Object Plan → Row
-row_of graph =
-    record { base = graph.base; links = graph.plan.links; words = graph.plan.words }
+row_of graph = record { base = graph.base; plan = graph.plan }
 
 -- the fault that the tests of an opening found that has good sizes: none where it is accepted, or
 -- where memory is refused
@@ -42,16 +41,18 @@ pub record AreWhole (fits : List ℕ → Type 0) (first : ℕ → List ℕ) (pla
   pub sized : (i : ℕ) → i < plan.roots → length (first i) ≡ plan.words
   pub fit : (i : ℕ) → i < plan.roots → fits (first i)
 
--- so many first nodes have their first words, and each link and each other word is 0
-pub record AreFirst (first : ℕ → List ℕ) (roots links width : ℕ) (words : List ℕ) : Type 0 where
-  pub no_links : (i l : ℕ) → l < links → slice_index words (place_of (links + width) i l) ≡ 0
+-- so many first nodes have their first words, of so many roots, and each link and each other word
+-- is 0
+pub record AreFirst (first : ℕ → List ℕ) (many roots links width : ℕ)
+    (words : List ℕ) : Type 0 where
+  pub no_links : (i l : ℕ) → l < links → slice_index words (place_of roots links width i l) ≡ 0
   pub stored : (i k : ℕ)
-      → i < roots
+      → i < many
       → k < width
-      → slice_index words (place_of (links + width) i (links + k))
+      → slice_index words (place_of roots links width i (links + k))
       ≡ slice_index (first i) k
-  pub rest : (i k : ℕ) → roots ≤ i → k < width
-      → slice_index words (place_of (links + width) i (links + k)) ≡ 0
+  pub rest : (i k : ℕ) → many ≤ i → k < width
+      → slice_index words (place_of roots links width i (links + k)) ≡ 0
 
 -- what it knows who keeps the nodes of a graph of this plan, as they are at first
 abbrev pub claimed_first : (ℕ → List ℕ) → Plan → Planned

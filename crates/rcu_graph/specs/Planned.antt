@@ -75,19 +75,19 @@ tells_claim first = tells_word (λ plan place was x now.
     IsClaimed (first plan) plan.roots plan.links plan.words plan.nodes now)
 
 abbrev pub tells_write : ℕ → Planned → ℕ → Planned → Type 0
-tells_write = tells_word (λ plan. IsWritten plan.links plan.words)
+tells_write = tells_word (λ plan. IsWritten plan.roots plan.links plan.words)
 
 abbrev pub tells_write_link : ℕ → Planned → ℕ → Planned → Type 0
-tells_write_link = tells_word (λ plan. IsLinkWritten plan.links plan.words)
+tells_write_link = tells_word (λ plan. IsLinkWritten plan.roots plan.links plan.words)
 
 abbrev pub tells_link : ℕ → Planned → ℕ → Planned → Type 0
-tells_link = tells_word (λ plan. IsLinked plan.links plan.words)
+tells_link = tells_word (λ plan. IsLinked plan.roots plan.links plan.words)
 
 abbrev pub tells_publish : ℕ → Planned → ℕ → Planned → Type 0
-tells_publish = tells_word (λ plan. IsPublished plan.links plan.words)
+tells_publish = tells_word (λ plan. IsPublished plan.roots plan.links plan.words)
 
 abbrev pub tells_leave : ℕ → Planned → ℕ → Planned → Type 0
-tells_leave = tells_word (λ plan. IsLeft plan.links plan.words)
+tells_leave = tells_word (λ plan. IsLeft plan.roots plan.links plan.words)
 
 abbrev pub tells_age : Planned → ℕ → Planned → Type 0
 tells_age = tells_number IsAged

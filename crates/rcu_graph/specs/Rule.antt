@@ -57,7 +57,7 @@ pub record AreKept (fits : List ℕ → Type 0) (joins : ℕ → List ℕ → Li
   pub linked : (i : ℕ) (v : Node) → get_elem? nodes i ≡ some v → length v.links ≡ links
   pub sized : (i : ℕ) (v : Node) → get_elem? nodes i ≡ some v → length v.words ≡ width
   pub written : (i : ℕ) (v : Node) → get_elem? nodes i ≡ some v → (k : ℕ) → k < links + width
-      → slice_index words (place_of (links + width) i k) ≡ slice_index (row_of v) k
+      → slice_index words (place_of roots links width i k) ≡ slice_index (row_of v) k
   pub whole : (i : ℕ) (v : Node) → get_elem? nodes i ≡ some v → IsUsed v.state → fits v.words
   pub by : (i : ℕ) (v : Node) → get_elem? nodes i ≡ some v → IsBy latest v.state
   pub led : (i : ℕ) (v : Node) → get_elem? nodes i ≡ some v → IsUsed v.state

@@ -34,7 +34,7 @@ abbrev pub IsFollowed : (List ℕ → Type 0)
     → (ℕ → List ℕ → List ℕ → Type 0) → (ℕ → List ℕ) → ℕ → ℕ → ℕ → ℕ → ℕ → Known → ℕ → Known → Type 0
 IsFollowed fits joins first roots links width count place was x now =
     (i l : ℕ) (words : List ℕ)
-    → l < links → place ≡ place_of (links + width) i l → IsOn first roots was i words
+    → l < links → place ≡ place_of roots links width i l → IsOn first roots was i words
     → Followed fits (joins l words) width count was i l x now
 
 -- a word of a node was loaded: the one that it had when the section came to it
@@ -42,7 +42,7 @@ abbrev pub IsRead : (ℕ → List ℕ) → ℕ → ℕ → ℕ → ℕ → Known
 IsRead first roots links width place was x now =
     (now ≡ was)
     × ((i k : ℕ) (words : List ℕ)
-    → k < width → place ≡ place_of (links + width) i (links + k) → IsOn first roots was i words
+    → k < width → place ≡ place_of roots links width i (links + k) → IsOn first roots was i words
     → x ≡ slice_index words k)
 
 -- the nodes are kept from now on, as they were at first
@@ -59,35 +59,35 @@ abbrev pub storing : Known → List Node → Known
 storing was nodes = Keeper (latest_in was) nodes (nodes ∷ stored_in was)
 
 -- a word of a free node was stored, and a link of one
-abbrev pub IsWritten : ℕ → ℕ → ℕ → Known → ℕ → Known → Type 0
-IsWritten links width place was x now =
-    (i k : ℕ) → k < width → place ≡ place_of (links + width) i (links + k)
+abbrev pub IsWritten : ℕ → ℕ → ℕ → ℕ → Known → ℕ → Known → Type 0
+IsWritten roots links width place was x now =
+    (i k : ℕ) → k < width → place ≡ place_of roots links width i (links + k)
     → now ≡ keeping was (renewed (nodes_in was) i (worded k x))
 
-abbrev pub IsLinkWritten : ℕ → ℕ → ℕ → Known → ℕ → Known → Type 0
-IsLinkWritten links width place was x now =
-    (i l : ℕ) → l < links → place ≡ place_of (links + width) i l
+abbrev pub IsLinkWritten : ℕ → ℕ → ℕ → ℕ → Known → ℕ → Known → Type 0
+IsLinkWritten roots links width place was x now =
+    (i l : ℕ) → l < links → place ≡ place_of roots links width i l
     → now ≡ keeping was (renewed (nodes_in was) i (linked_to l x))
 
 -- a link of a live node was stored
-abbrev pub IsLinked : ℕ → ℕ → ℕ → Known → ℕ → Known → Type 0
-IsLinked links width place was x now =
-    (i l : ℕ) → l < links → place ≡ place_of (links + width) i l
+abbrev pub IsLinked : ℕ → ℕ → ℕ → ℕ → Known → ℕ → Known → Type 0
+IsLinked roots links width place was x now =
+    (i l : ℕ) → l < links → place ≡ place_of roots links width i l
     → now ≡ storing was (renewed (nodes_in was) i (linked_to l x))
 
 -- one was stored that leads to a node which is live from now on
-abbrev pub IsPublished : ℕ → ℕ → ℕ → Known → ℕ → Known → Type 0
-IsPublished links width place was x now =
+abbrev pub IsPublished : ℕ → ℕ → ℕ → ℕ → Known → ℕ → Known → Type 0
+IsPublished roots links width place was x now =
     (i l j : ℕ)
     → l < links
-    → place ≡ place_of (links + width) i l
+    → place ≡ place_of roots links width i l
     → x ≡ suc j
     → now ≡ storing was (renewed (renewed (nodes_in was) j (in_state Live)) i (linked_to l x))
 
 -- a node was left
-abbrev pub IsLeft : ℕ → ℕ → ℕ → Known → ℕ → Known → Type 0
-IsLeft links width place was x now =
-    (i k : ℕ) → k < links + width → place ≡ place_of (links + width) i k
+abbrev pub IsLeft : ℕ → ℕ → ℕ → ℕ → Known → ℕ → Known → Type 0
+IsLeft roots links width place was x now =
+    (i k : ℕ) → k < links + width → place ≡ place_of roots links width i k
     → now ≡ keeping was (renewed (nodes_in was) i (in_state Left))
 
 -- the nodes are a look at the number older

@@ -30,17 +30,12 @@ pub(crate) fn first_words<F: Shape>(alloc: Global, plan: Plan) -> Result<Vec<u64
     ensures length { IfOk result (λ behind. length behind.items
         ≡ first_place + (plan.links + plan.words) * plan.nodes) }
     ensures first { IfOk result (λ behind.
-        AreFirst (F.first plan) plan.roots plan.links plan.words behind.items) }
+        AreFirst (F.first plan) plan.roots plan.roots plan.links plan.words behind.items) }
 {
     let row = plan.links + plan.words;
     let mut behind = vec![in alloc; 0u64; FIRST + row * plan.nodes]?;
     for root in 0..plan.roots {
-        store_root::<F>(
-            &mut behind,
-            plan,
-            root,
-            place_of(row, plan.nodes, root, plan.links),
-        );
+        store_root::<F>(&mut behind, plan, root, place_of(plan, root, plan.links));
     }
     Ok(behind)
 }

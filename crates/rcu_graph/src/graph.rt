@@ -1,6 +1,6 @@
 //! A graph of nodes: what a section reads of it, without a lock, a wait or a store.
 ghost use Rattle.std.specs.Prelude.{◌≡◌, ◌≤◌, ◌+◌, ◌*◌, ◌^◌, ◌<◌, ℕ, IfOk, IfSome, List};
-ghost use Rattle.std.specs.Prelude.{slice_index};
+ghost use Rattle.std.specs.Prelude.{slice_index, suc};
 ghost use Rattle.std.specs.Arc.{arc_value};
 ghost use Rattle.rcu_live.specs.CpuSeat.{after_word_step};
 ghost use Rattle.rcu_live.specs.InPart.{engine_part, seat_part};
@@ -98,26 +98,52 @@ impl<F: Shape, P: Within<GraphRule<F>>> Graph<F, P> {
     pub fn row(&self) -> Row
         ensures { result ≡ row_of self.now }
     {
-        let plan = self.plan();
         Row {
             base: self.base(),
-            links: plan.links,
-            words: plan.words,
+            plan: self.plan(),
         }
     }
 
-    /// The place of the cell `k` of a node's row: its links stand there, and its words behind them.
+    /// The place of the cell `k` of a node: its links are the first ones, and its words are behind
+    /// them.
     pub(crate) fn place(&self, row: Row, node: usize, k: usize) -> usize
         requires row { row ≡ row_of self.now }
         requires node { node < self.now.plan.nodes }
         requires inside { k < self.now.plan.links + self.now.plan.words }
-        ensures place { result ≡ place_of (self.now.plan.links + self.now.plan.words) node k }
+        ensures place { result
+            ≡ place_of self.now.plan.roots self.now.plan.links self.now.plan.words node k }
         ensures inside { result < first_place + (self.now.plan.links + self.now.plan.words)
             * self.now.plan.nodes }
     {
         // A borrow of a field shows the prover what the type keeps: that the words fit in memory.
-        let plan = &self.plan;
-        place_of(row.links + row.words, plan.nodes, node, k)
+        let _ = &self.board;
+        place_of(row.plan, node, k)
+    }
+
+    /// As [`follow`](Self::follow), by the link's word: 0 leads nowhere, and else it is one more
+    /// than the node.
+    pub(crate) fn follow_word(
+        &self,
+        seat: &mut GraphSeat<F, P>,
+        row: Row,
+        from: usize,
+        link: usize,
+    ) -> u64
+        requires row { row ≡ row_of self.now }
+        requires at { IsAt (F.first self.now.plan) self.now (seat_part P.lens seat.old) from }
+        requires link { link < self.now.plan.links }
+        ensures same { seat.new ≡ after_word_step seat.old
+            (P.lens.set seat.old.view.client (P.lens.get seat.new.view.client)) }
+        ensures walking { IsWalking self.now (seat_part P.lens seat.new) }
+        ensures came { (words : List ℕ) → IsOn (F.first self.now.plan) self.now.plan.roots
+            (P.lens.get seat.old.view.client).known from words →
+            Followed (F.fits self.now.plan) (F.joins self.now.plan link words) self.now.plan.words
+            self.now.plan.nodes (P.lens.get seat.old.view.client).known from link result
+            (P.lens.get seat.new.view.client).known }
+        ensures on { (node : ℕ) → result ≡ suc node →
+            IsAt (F.first self.now.plan) self.now (seat_part P.lens seat.new) node }
+    {
+        self.load_cell::<Follow<F>>(seat, row, from, link)
     }
 
     /// Loads a link of the node that the section is on, and returns the node that it led to at that
@@ -147,8 +173,7 @@ impl<F: Shape, P: Within<GraphRule<F>>> Graph<F, P> {
         ensures on { IfSome result (λ node.
             IsAt (F.first self.now.plan) self.now (seat_part P.lens seat.new) node) }
     {
-        let place = self.place(row, from, link);
-        let word = self.load::<Follow<F>>(seat, row.base, place);
+        let word = self.follow_word(seat, row, from, link);
         if word == 0 {
             return None;
         }
@@ -167,7 +192,6 @@ impl<F: Shape, P: Within<GraphRule<F>>> Graph<F, P> {
     {
         // A borrow of a field shows the prover what the type keeps: that the words fit in memory.
         let _ = &self.board;
-        let place = self.place(row, node, row.links + word);
-        self.load::<Read<F>>(seat, row.base, place)
+        self.load_cell::<Read<F>>(seat, row, node, row.plan.links + word)
     }
 }

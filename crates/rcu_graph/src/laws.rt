@@ -39,8 +39,8 @@ pub fn held_nodes_keep_their_words<F: Shape>()
         get_elem? xs seat ≡ some (cpu, section, was) → get_elem? ys seat ≡ some (here, later, now) →
         IsReader was.known → IsReader now.known → IsHeld was.known node words →
         IsHeld now.known node words → word < plan.words →
-        slice_index after (place_of (plan.links + plan.words) node (plan.links + word))
-        ≡ slice_index before (place_of (plan.links + plan.words) node (plan.links + word)) }
+        slice_index after (place_of plan.roots plan.links plan.words node (plan.links + word))
+        ≡ slice_index before (place_of plan.roots plan.links plan.words node (plan.links + word)) }
 {}
 
 /// No node that the keeper knows as free, so that it may write there, is held by a seat.
@@ -76,7 +76,7 @@ pub fn live_nodes_lead_to_live_nodes<F: Shape>()
         IsKeptBy F.fits F.joins F.first plan table xs →
         get_elem? xs keeper ≡ some (who, own, of_plan plan (Keeper latest nodes stored)) →
         get_elem? nodes node ≡ some v → v.state ≡ Live → link < plan.links →
-        slice_index table (place_of (plan.links + plan.words) node link) ≡ suc next →
+        slice_index table (place_of plan.roots plan.links plan.words node link) ≡ suc next →
         (to : Node) × (get_elem? nodes next ≡ some to) × (to.state ≡ Live)
         × F.joins plan link v.words to.words }
 {}
@@ -94,8 +94,9 @@ pub fn hops_are_true_of_the_nodes<F: Shape>()
         get_elem? xs keeper ≡ some (who, own, of_plan plan (Keeper latest nodes stored)) →
         get_elem? xs seat ≡ some (cpu, section, was) → IsReader was.known →
         IsOn (F.first plan) plan.roots was.known node words → link < plan.links →
-        tells_follow F.fits F.joins F.first (place_of (plan.links + plan.words) node link) was
-        (slice_index table (place_of (plan.links + plan.words) node link)) now →
+        tells_follow F.fits F.joins F.first
+        (place_of plan.roots plan.links plan.words node link) was
+        (slice_index table (place_of plan.roots plan.links plan.words node link)) now →
         (hop : Hop) × (hops_in now.known ≡ hop ∷ hops_in was.known) × (hop.from ≡ node)
         × (hop.link ≡ link) × IsTrueOf nodes hop }
 {}

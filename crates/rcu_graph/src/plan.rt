@@ -15,14 +15,13 @@ pub struct Plan {
     pub seed: u64,
 }
 
-/// Where the cells of nodes stand: each node has a row of so many links, and behind them so many
-/// words.
+/// Where the links and the words of nodes stand in the table of an engine.
 #[derive(Clone, Copy, Debug, PartialEq, Eq)]
 pub struct Row {
-    /// Where the graph's words begin in the table of its engine.
+    /// Where the graph's words begin.
     pub base: usize,
-    pub links: usize,
-    pub words: usize,
+    /// How large the graph is.
+    pub plan: Plan,
 }
 
 /// How many links and words a graph has at most.

@@ -51,9 +51,11 @@ impl<F: Shape, P: Within<GraphRule<F>>> Graph<F, P> {
         let mut on = root;
         let mut least = 0;
         'chain: loop {
-            let Some(next) = self.follow(seat, row, on, 0) else {
+            let word = self.follow_word(seat, row, on, 0);
+            if word == 0 {
                 return None;
-            };
+            }
+            let next = (word - 1) as usize;
             let found = self.key_of(seat, row, next);
             if found == key {
                 return Some(next);

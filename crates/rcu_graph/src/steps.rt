@@ -5,11 +5,15 @@ ghost use Rattle.rcu_live.specs.CpuSeat as cpu_seat;
 ghost use Rattle.rcu_live.specs.InPart.{seat_part, watcher_part};
 ghost use Rattle.rcu_live.specs.Watcher.{IsWatcherOf, KnowsAt, KnowsBy, after_number_step};
 ghost use Rattle.rcu_live.specs.Watcher.{after_word_step};
+ghost use Rattle.rcu_graph.specs.Beside.{cell_of};
 ghost use Rattle.rcu_graph.specs.Nodes.{first_place};
+ghost use Rattle.rcu_graph.specs.Opening.{row_of};
 ghost use Rattle.rcu_graph.specs.Planned.{IsKeptBy};
 
 use crate::graph::Graph;
 use crate::known::Planned;
+use crate::places::{root_place, row_place};
+use crate::plan::Row;
 use crate::rule::{GraphRule, GraphSeat, GraphWatcher, Shape};
 use rcu_live::in_part::{self, Spot};
 use rcu_live::{NumberStep, Within, WordStep};
@@ -36,6 +40,39 @@ impl<F: Shape, P: Within<GraphRule<F>>> Graph<F, P> {
     {
         let spot = Spot { base, word: place };
         in_part::load_word::<GraphRule<F>, P, M>(seat, &*self.board, spot)
+    }
+
+    /// Loads the cell `k` of a node by a processor's seat. A walk comes to a root first, and to
+    /// others then: by two loads its hops wait for no place that depends on which it is.
+    pub(crate) fn load_cell<M: WordStep<Planned>>(
+        &self,
+        seat: &mut GraphSeat<F, P>,
+        row: Row,
+        node: usize,
+        k: usize,
+    ) -> u64
+        requires seat { cpu_seat.IsSeatOf self.now (seat_part P.lens seat.old) }
+        requires row { row ≡ row_of self.now }
+        requires node { node < self.now.plan.nodes }
+        requires inside { k < self.now.plan.links + self.now.plan.words }
+        requires allowed { AllowsWord (IsKeptBy F.fits F.joins F.first self.now.plan)
+            (Some seat.old.cpu) seat.old.view.section (P.lens.get seat.old.view.client)
+            (cell_of self.now.plan node k) (λ n. n)
+            (M.then (cell_of self.now.plan node k) (P.lens.get seat.old.view.client)) }
+        ensures part { cpu_seat.KnowsBy
+            (λ was now. M.then (cell_of self.now.plan node k) was result now)
+            (seat_part P.lens seat.old) (seat_part P.lens seat.new) }
+        ensures others { seat.new ≡ cpu_seat.after_word_step seat.old
+            (P.lens.set seat.old.view.client (P.lens.get seat.new.view.client)) }
+    {
+        // A borrow of a field shows the prover what the type keeps: that the words fit in memory.
+        let _ = &self.board;
+        if node < row.plan.roots {
+            let place = root_place(row.plan, node, k);
+            return self.load::<M>(seat, row.base, place);
+        }
+        let place = row_place(row.plan, node, k);
+        self.load::<M>(seat, row.base, place)
     }
 
     /// Loads a word by a watcher.

@@ -108,11 +108,15 @@ impl<E: Invariant, const W: usize, P: Within<MapRule<E, W>>> Map<E, W, P> {
     {
         // A borrow of a field shows the prover what the type keeps: that a node has one link.
         let graph = &self.graph;
-        let words = if W > 0 { W } else { graph.plan().words };
+        let plan = graph.plan();
+        let words = if W > 0 { W } else { plan.words };
         Row {
             base: graph.base(),
-            links: 1,
-            words,
+            plan: Plan {
+                links: 1,
+                words,
+                ..plan
+            },
         }
     }
 
@@ -137,7 +141,7 @@ impl<E: Invariant, const W: usize, P: Within<MapRule<E, W>>> Map<E, W, P> {
         self.plan();
         let row = self.row();
         entry[0] = key;
-        for word in 1..row.words {
+        for word in 1..row.plan.words {
             entry[word] = self.graph.read(seat, row, node, word);
         }
     }

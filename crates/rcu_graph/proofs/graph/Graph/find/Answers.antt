@@ -1,5 +1,5 @@
 use Rattle.std.proofs.Common.{◌≡◌, ◌∙◌, ℕ, ◌<◌, ◌≤◌, List, Some, None, refl, sym, subst, inl, inr}
-use Rattle.std.proofs.Common.{ap, arith}
+use Rattle.std.proofs.Common.{◌-◌, suc, ap, arith}
 use Rattle.std.specs.Prelude.{slice_index}
 use Rattle.rcu_live.specs.CpuSeat.{Seated, after_word_step}
 use Rattle.rcu_live.specs.InPart.{seat_part}
@@ -8,7 +8,7 @@ use Rattle.rcu_graph.specs.Graph.{IsAt, IsWalking}
 use Rattle.rcu_graph.specs.Nodes.{IsOn, IsReader}
 use Rattle.rcu_graph.specs.Search.{IsFound, IsSearched}
 use Rattle.rcu_graph.proofs.Searching.{IsOnPath, arrives, goes_on, sets_out}
-use Rattle.rcu_graph.proofs.Walking.{came_holds, came_to, found_it, walks_at}
+use Rattle.rcu_graph.proofs.Walking.{came_holds, came_to, followed_to, found_it, walks_at}
 use Rattle.rcu_graph.proofs.graph.Graph.find.Goals as goal
 
 pub chain-init : goal.chain-init
@@ -26,8 +26,8 @@ chain-init g c = record {
   path = sets_out c.args.root c.args.key (g.P.Within.lens.get c.args.seat.now.view.client).known;
 }
 
-pub follow-requires : goal.follow-requires
-follow-requires g c =
+pub follow_word-word-requires : goal.follow_word-word-requires
+follow_word-word-requires g c =
     let i = c.chain.invariant in
     record {
       row = c.requires.row;
@@ -40,31 +40,42 @@ follow-requires g c =
     }
 
 pub key_of-found-requires : goal.key_of-found-requires
-key_of-found-requires g c = record { row = c.requires.row; at = c.in-Some.ensures.on }
+key_of-found-requires g c =
+    let some : c.follow_word-word.result ≡ suc (c.follow_word-word.result - 1) =
+    omega (arith, c.if-word-eq0.false) in
+    record {
+      row = c.requires.row;
+      at = c.follow_word-word.ensures.on (c.follow_word-word.result - 1) some;
+    }
 
 pub returns-then-found-key-clause-walking : goal.returns-then-found-key-clause-walking
 returns-then-found-key-clause-walking g c =
     subst (λ (s : Seated g.row.P-Whole-Known.Denot). IsWalking c.args.self.now
     (seat_part g.P.Within.lens s))
-    (sym c.key_of-found.ensures.same) c.in-Some.ensures.walking
+    (sym c.key_of-found.ensures.same) c.follow_word-word.ensures.walking
 
 pub returns-then-found-key-clause-on : goal.returns-then-found-key-clause-on
 returns-then-found-key-clause-on g c =
+    let some : c.follow_word-word.result ≡ suc (c.follow_word-word.result - 1) =
+    omega (arith, c.if-word-eq0.false) in
     subst
     (λ (s : Seated g.row.P-Whole-Known.Denot).
     IsAt (g.F.Shape.first c.args.self.now.plan) c.args.self.now (seat_part g.P.Within.lens s)
-    c.in-Some.next)
-    (sym c.key_of-found.ensures.same) c.in-Some.ensures.on
+    (c.follow_word-word.result - 1))
+    (sym c.key_of-found.ensures.same)
+    (c.follow_word-word.ensures.on (c.follow_word-word.result - 1) some)
 
 pub returns-then-found-key-clause-found : goal.returns-then-found-key-clause-found
 returns-then-found-key-clause-found g c =
     let on = c.chain.invariant.on in
-    let f = c.in-Some.ensures.came on.0 on.1 in
+    let some : c.follow_word-word.result ≡ suc (c.follow_word-word.result - 1) =
+    omega (arith, c.if-word-eq0.false) in
+    let f = followed_to _ _ _ _ _ _ _ _ _ _ some (c.follow_word-word.ensures.came on.0 on.1) in
     let held = came_holds _ _ _ _ _ _ _ _ _ f in
     subst (λ (s : Seated g.row.P-Whole-Known.Denot). IsFound (g.F.Shape.fits c.args.self.now.plan)
     c.args.key
     (g.P.Within.lens.get s.view.client).known
-    c.in-Some.next)
+    (c.follow_word-word.result - 1))
     (sym c.key_of-found.ensures.same)
     (found_it _ _ _ _ _ _ _ _ _ _ _ f (c.key_of-found.ensures.told f.words (inr held))
     c.if-found-key.true)
@@ -72,21 +83,25 @@ returns-then-found-key-clause-found g c =
 pub returns-then-found-key-clause-searched : goal.returns-then-found-key-clause-searched
 returns-then-found-key-clause-searched g c =
     let i = c.chain.invariant in
-    let f = c.in-Some.ensures.came i.on.0 i.on.1 in
+    let some : c.follow_word-word.result ≡ suc (c.follow_word-word.result - 1) =
+    omega (arith, c.if-word-eq0.false) in
+    let f = followed_to _ _ _ _ _ _ _ _ _ _ some (c.follow_word-word.ensures.came i.on.0 i.on.1) in
     let held = came_holds _ _ _ _ _ _ _ _ _ f in
     let told = c.key_of-found.ensures.told f.words (inr held) in
     subst (λ (s : Seated g.row.P-Whole-Known.Denot).
     IsSearched c.args.root c.args.key (g.P.Within.lens.get c.args.seat.now.view.client).known
-    (Some c.in-Some.next)
+    (Some (c.follow_word-word.result - 1))
     (g.P.Within.lens.get s.view.client).known)
     (sym c.key_of-found.ensures.same)
-    (arrives _ _ _ _ _ _ _ _ _ _ _ (Some c.in-Some.next) i.path f
+    (arrives _ _ _ _ _ _ _ _ _ _ _ (Some (c.follow_word-word.result - 1)) i.path f
     (refl, omega (arith, told, c.if-found-key.true)))
 
 pub returns-then-found-key-2-clause-searched : goal.returns-then-found-key-2-clause-searched
 returns-then-found-key-2-clause-searched g c =
     let i = c.chain.invariant in
-    let f = c.in-Some.ensures.came i.on.0 i.on.1 in
+    let some : c.follow_word-word.result ≡ suc (c.follow_word-word.result - 1) =
+    omega (arith, c.if-word-eq0.false) in
+    let f = followed_to _ _ _ _ _ _ _ _ _ _ some (c.follow_word-word.ensures.came i.on.0 i.on.1) in
     let held = came_holds _ _ _ _ _ _ _ _ _ f in
     let told = c.key_of-found.ensures.told f.words (inr held) in
     subst (λ (s : Seated g.row.P-Whole-Known.Denot).
@@ -95,22 +110,26 @@ returns-then-found-key-2-clause-searched g c =
     (sym c.key_of-found.ensures.same)
     (arrives _ _ _ _ _ _ _ _ _ _ _ None i.path f (inr (omega (arith, told, c.if-found-key-2.true))))
 
-pub returns-in_default-clause-searched : goal.returns-in_default-clause-searched
-returns-in_default-clause-searched g c =
+pub returns-then-word-eq0-clause-searched : goal.returns-then-word-eq0-clause-searched
+returns-then-word-eq0-clause-searched g c =
     let i = c.chain.invariant in
-    let f = c.in_default.ensures.came i.on.0 i.on.1 in
+    let none : c.follow_word-word.result ≡ 0 = omega (arith, c.if-word-eq0.true) in
+    let f = followed_to _ _ _ _ _ _ _ _ _ _ none
+    (c.follow_word-word.ensures.came i.on.0 i.on.1) in
     arrives _ _ _ _ _ _ _ _ _ _ _ None i.path f (inl refl)
 
 pub returns-then-found-key-2-clause-walking : goal.returns-then-found-key-2-clause-walking
 returns-then-found-key-2-clause-walking g c =
     subst (λ (s : Seated g.row.P-Whole-Known.Denot). IsWalking c.args.self.now
     (seat_part g.P.Within.lens s))
-    (sym c.key_of-found.ensures.same) c.in-Some.ensures.walking
+    (sym c.key_of-found.ensures.same) c.follow_word-word.ensures.walking
 
 pub chain-smaller : goal.chain-smaller
 chain-smaller g c =
     let on = c.chain.invariant.on in
-    let f = c.in-Some.ensures.came on.0 on.1 in
+    let some : c.follow_word-word.result ≡ suc (c.follow_word-word.result - 1) =
+    omega (arith, c.if-word-eq0.false) in
+    let f = followed_to _ _ _ _ _ _ _ _ _ _ some (c.follow_word-word.ensures.came on.0 on.1) in
     let came = came_to _ _ _ _ _ _ _ _ _ f in
     let held = came_holds _ _ _ _ _ _ _ _ _ f in
     let up : slice_index on.0 0 < slice_index f.words 0 =
@@ -121,7 +140,9 @@ chain-smaller g c =
 pub chain-preserved : goal.chain-preserved
 chain-preserved g c =
     let i = c.chain.invariant in
-    let f = c.in-Some.ensures.came i.on.0 i.on.1 in
+    let some : c.follow_word-word.result ≡ suc (c.follow_word-word.result - 1) =
+    omega (arith, c.if-word-eq0.false) in
+    let f = followed_to _ _ _ _ _ _ _ _ _ _ some (c.follow_word-word.ensures.came i.on.0 i.on.1) in
     let came = came_to _ _ _ _ _ _ _ _ _ f in
     let held = came_holds _ _ _ _ _ _ _ _ _ f in
     let told = c.key_of-found.ensures.told f.words (inr held) in
@@ -130,25 +151,25 @@ chain-preserved g c =
           (g.P.Within.lens.set c.args.seat.now.view.client (g.P.Within.lens.get s.view.client)))
           (sym c.key_of-found.ensures.same)
           (seat_again g.P.Within.lens g.met.P.Within.is_lens.again c.args.seat.now c.chain.seat
-          c.follow.new.seat i.same c.in-Some.ensures.same);
+          c.follow_word-word.new.seat i.same c.follow_word-word.ensures.same);
       planned =
           ap (λ (s : Seated g.row.P-Whole-Known.Denot). (g.P.Within.lens.get s.view.client).plan)
           c.key_of-found.ensures.same
-          ∙ (c.in-Some.ensures.walking.seat_of.planned
+          ∙ (c.follow_word-word.ensures.walking.seat_of.planned
           ∙ sym c.requires.walking.seat_of.planned);
       reader = subst (λ (s : Seated g.row.P-Whole-Known.Denot). IsReader
           (g.P.Within.lens.get s.view.client).known)
-          (sym c.key_of-found.ensures.same) c.in-Some.ensures.walking.reads;
+          (sym c.key_of-found.ensures.same) c.follow_word-word.ensures.walking.reads;
       inside = came.inside;
       on = subst (λ (s : Seated g.row.P-Whole-Known.Denot).
           (words : List ℕ)
           × IsOn (g.F.Shape.first c.args.self.now.plan) c.args.self.now.plan.roots
-          (g.P.Within.lens.get s.view.client).known c.in-Some.next words
+          (g.P.Within.lens.get s.view.client).known (c.follow_word-word.result - 1) words
           × (c.key_of-found.result ≤ slice_index words 0))
           (sym c.key_of-found.ensures.same) (f.words, inr held, omega (arith, told));
       path = subst (λ (s : Seated g.row.P-Whole-Known.Denot). IsOnPath c.args.root c.args.key
           (g.P.Within.lens.get c.args.seat.now.view.client).known
-          (g.P.Within.lens.get s.view.client).known c.in-Some.next)
+          (g.P.Within.lens.get s.view.client).known (c.follow_word-word.result - 1))
           (sym c.key_of-found.ensures.same)
           (goes_on _ _ _ _ _ _ _ _ _ _ _ i.path f
           (omega (arith, told, c.if-found-key.false, c.if-found-key-2.false)));

@@ -27,7 +27,7 @@ returns-clause-keeper g c =
     let is = same_plan c.args.self.now _ c.self.inside.plan
     c.self.view_is c.self.invariant.planned in
     keeps_on _ _ _ _ _ _ e.state e.told.0
-    (told_at (λ (p : Plan). IsLeft p.links p.words) c.place-place.result
+    (told_at (λ (p : Plan). IsLeft p.roots p.links p.words) c.place-place.result
     (g.P.Within.lens.get c.args.seat.now.view.client) c.watch.result
     (g.P.Within.lens.get c.watch.new.seat.view.client)
     c.args.self.now.plan k.watches.planned e.told c.args.node 0
@@ -41,7 +41,7 @@ returns-clause-state g c =
     let k = c.requires.keeper in
     let is = same_plan c.args.self.now _ c.self.inside.plan
     c.self.view_is c.self.invariant.planned in
-    let known = told_at (λ (p : Plan). IsLeft p.links p.words) c.place-place.result
+    let known = told_at (λ (p : Plan). IsLeft p.roots p.links p.words) c.place-place.result
     (g.P.Within.lens.get c.args.seat.now.view.client) c.watch.result
     (g.P.Within.lens.get c.watch.new.seat.view.client)
     c.args.self.now.plan k.watches.planned e.told c.args.node 0

@@ -18,7 +18,8 @@ store-requires-clause-allowed g c =
     c.requires.keeper.keeps (omega (arith, c.requires.keeper.few, c.requires.node))
     c.requires.free c.requires.word
     (subst (λ (p : Plan). c.place-place.result
-    ≡ place_of (c.args.self.now.plan.links + c.args.self.now.plan.words) c.args.node
+    ≡ place_of c.args.self.now.plan.roots c.args.self.now.plan.links c.args.self.now.plan.words
+    c.args.node
     (p.links + c.args.word))
     (sym is) c.place-place.ensures.place)
 
@@ -29,12 +30,13 @@ returns-clause-keeper g c =
     let is = same_plan c.args.self.now _ c.self.inside.plan
     c.self.view_is c.self.invariant.planned in
     keeps_on _ _ _ _ _ _ e.state e.told.0
-    (told_at (λ (p : Plan). IsWritten p.links p.words) c.place-place.result
+    (told_at (λ (p : Plan). IsWritten p.roots p.links p.words) c.place-place.result
     (g.P.Within.lens.get c.args.seat.now.view.client) c.args.value
     (g.P.Within.lens.get c.store.new.seat.view.client)
     c.args.self.now.plan k.watches.planned e.told c.args.node c.args.word c.requires.word
     (subst (λ (p : Plan). c.place-place.result
-    ≡ place_of (c.args.self.now.plan.links + c.args.self.now.plan.words) c.args.node
+    ≡ place_of c.args.self.now.plan.roots c.args.self.now.plan.links c.args.self.now.plan.words
+    c.args.node
     (p.links + c.args.word))
     (sym is) c.place-place.ensures.place))
     (length-set _ _ _ ∙ k.few) k

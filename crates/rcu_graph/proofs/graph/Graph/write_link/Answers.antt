@@ -21,7 +21,7 @@ returns-clause-keeper g c =
     let e = c.store.ensures.part in
     let k = c.requires.keeper in
     keeps_on _ _ _ _ _ _ e.state e.told.0
-    (told_at (λ (p : Plan). IsLinkWritten p.links p.words) c.place-place.result
+    (told_at (λ (p : Plan). IsLinkWritten p.roots p.links p.words) c.place-place.result
     (g.P.Within.lens.get c.args.seat.now.view.client) c.args.value
     (g.P.Within.lens.get c.store.new.seat.view.client)
     c.args.self.now.plan k.watches.planned e.told c.args.node c.args.link c.requires.link
