@@ -1,17 +1,21 @@
 -- Who keeps the nodes keeps them after each of its steps.
-use Rattle.std.proofs.Common.{◌≡◌, ℕ, List, [], length, refl, sym, ap, ◌∙◌, subst}
+use Rattle.std.proofs.Common.{◌≡◌, ◌<◌, ℕ, suc, List, [], length, refl, sym, ap, ◌∙◌, subst}
 use Rattle.std.proofs.lemmas.List.FromFn.{length-map-range_with_len}
 use Rattle.rcu_live.specs.Board.{Object}
 use Rattle.rcu_live.specs.Watcher.{Watching, after_word_step, watcher_at_first}
 use Rattle.rcu_graph.specs.Graph.{IsWatcherOf}
-use Rattle.rcu_graph.specs.Keeper.{IsKeeperOf}
-use Rattle.rcu_graph.specs.Nodes.{first_node, first_nodes}
-use Rattle.rcu_graph.specs.Planned.{knowing}
+use Rattle.rcu_graph.specs.Keeper.{IsKeeperOf, after_publish, stored_to}
+use Rattle.rcu_graph.specs.Nodes.{first_node, first_nodes, in_state, linked_to, nodes_in}
+use Rattle.rcu_graph.specs.Nodes.{place_of, renewed}
+use Rattle.rcu_graph.specs.Planned.{knowing, tells_publish}
+use Rattle.rcu_graph.specs.Steps.{IsPublished}
 use Rattle.rcu_graph.specs.declared.known.Known.{Known}
 use Rattle.rcu_graph.specs.declared.known.Planned.{Planned}
 use Rattle.rcu_graph.specs.declared.known.Known.TheVariants.{Keeper, Owner}
 use Rattle.rcu_graph.specs.declared.known.Node.{Node}
+use Rattle.rcu_graph.specs.declared.node_state.NodeState.TheVariants.{Live}
 use Rattle.rcu_graph.specs.declared.plan.Plan.{Plan}
+use Rattle.rcu_graph.proofs.Planned.{told_at}
 
 -- a watcher of the graph is one still where its nodes change
 pub watches_on : (graph : Object Plan) (s : Watching Planned) (known : Known)
@@ -39,6 +43,24 @@ keeps_on graph old new latest nodes stored same stays is few k =
       keeps = tt;
       few = few;
     })
+
+-- where a link was stored that leads to a node which is live then, it was led to that one
+pub led_to : (old new : Watching Planned) (plan : Plan) (place from link to x : ℕ)
+    → new ≡ after_word_step old new.view.client
+    → old.view.client.plan ≡ plan
+    → tells_publish place old.view.client x new.view.client
+    → link < plan.links
+    → place ≡ place_of plan.roots plan.links plan.words from link
+    → x ≡ suc to
+    → new ≡ after_publish old from link to
+led_to old new plan place from link to x same planned told low at more =
+    let known = told_at (λ (p : Plan). IsPublished p.roots p.links p.words) place old.view.client x
+    new.view.client plan planned told from link to low at more in
+    same
+    ∙ ((λ i. after_word_step old (record { plan = told.0 i; known = known i }))
+    ∙ ap (λ (y : ℕ). stored_to old
+    (renewed (renewed (nodes_in old.view.client.known) to (in_state Live)) from (linked_to link y)))
+    more)
 
 -- the watcher that has claimed the nodes as they are at first
 pub keeps_first : (plan : Plan) (base : ℕ) (first : ℕ → List ℕ) (graph : Object Plan)

@@ -1,14 +1,9 @@
-use Rattle.std.proofs.Common.{◌≡◌, ◌+◌, ◌∙◌, ℕ, suc, ap, arith, length-set}
+use Rattle.std.proofs.Common.{◌∙◌, arith, length-set}
 use Rattle.rcu_live.specs.InPart.{watcher_part}
-use Rattle.rcu_live.specs.Watcher.{Watching, after_word_step}
-use Rattle.rcu_graph.specs.Keeper.{stored_to}
-use Rattle.rcu_graph.specs.Nodes.{in_state, linked_to, nodes_in, renewed}
 use Rattle.rcu_graph.specs.Steps.{IsPublished}
-use Rattle.rcu_graph.specs.declared.known.Planned.{Planned}
-use Rattle.rcu_graph.specs.declared.node_state.NodeState.TheVariants.{Live}
 use Rattle.rcu_graph.specs.declared.plan.Plan.{Plan}
 use Rattle.rcu_graph.proofs.Allowed.{publish_allowed}
-use Rattle.rcu_graph.proofs.Keeping.{keeps_on}
+use Rattle.rcu_graph.proofs.Keeping.{keeps_on, led_to}
 use Rattle.rcu_graph.proofs.Planned.{told_at}
 use Rattle.rcu_graph.proofs.graph.Graph.publish.Goals as goal
 
@@ -39,18 +34,7 @@ returns-clause-keeper g c =
 pub returns-clause-state : goal.returns-clause-state
 returns-clause-state g c =
     let e = c.store.ensures.part in
-    let known = told_at (λ (p : Plan). IsPublished p.roots p.links p.words) c.place-place.result
-    (g.P.Within.lens.get c.args.seat.now.view.client) _
-    (g.P.Within.lens.get c.store.new.seat.view.client) c.args.self.now.plan
-    c.requires.keeper.watches.planned e.told c.args.from c.args.link c.args.to c.requires.link
-    c.place-place.ensures.place (omega arith) in
-    let more : c.args.to + 1 ≡ suc c.args.to = omega arith in
-    e.state ∙ ((λ i. after_word_step (watcher_part g.P.Within.lens c.args.seat.now)
-    (record { plan = e.told.0 i; known = known i }))
-    ∙ ap (λ (x : ℕ). published x) more)
-  where
-    published : ℕ → Watching Planned
-    published x =
-        let was = watcher_part g.P.Within.lens c.args.seat.now in
-        stored_to was (renewed (renewed (nodes_in was.view.client.known) c.args.to (in_state Live))
-        c.args.from (linked_to c.args.link x))
+    led_to (watcher_part g.P.Within.lens c.args.seat.now)
+    (watcher_part g.P.Within.lens c.store.new.seat) c.args.self.now.plan _ c.args.from c.args.link
+    c.args.to _ e.state c.requires.keeper.watches.planned e.told c.requires.link
+    c.place-place.ensures.place (omega arith)
