@@ -4,7 +4,7 @@ use Rattle.std.proofs.Common.{set, refl, sym, ap, ◌∙◌, subst, arith}
 use mathlib.Core.Option.{some}
 use Rattle.atomic_table.proofs.Lists.{at_map}
 use Rattle.rcu_seq.specs.Numbers.{Number}
-use Rattle.rcu_live.specs.Client.{AllowsNumber, AllowsWord, AreLone, AreOpen, Views}
+use Rattle.rcu_live.specs.Client.{AllowsAt, AllowsNumber, AllowsWord, AreLone, AreOpen, Views}
 use Rattle.rcu_live.specs.Several.{IsPart, IsWordOf, Lens, number_of_part, of_part}
 use Rattle.rcu_live.specs.Several.{shown_part, word_of_part}
 use Rattle.rcu_live.proofs.ClientLemmas.{at_map_back}
@@ -60,6 +60,21 @@ module _ {D C : Type 0} (lens : Lens D C) where
                 (λ i. (next i, found i, sym same i)) u.2,
           ),
         )
+
+    -- the same by the index in the table, where the words of the whole and those of the part begin
+    -- further on
+    pub allows_at : (p start from index : ℕ) (change seen : ℕ → ℕ) (tells : ℕ → C → ℕ → C → Type 0)
+        → from ≡ start + base
+        → index ≡ from + p
+        → IsWordOf rule p
+        → AllowsWord rule cpu section (lens.get d) p change (λ n. tells p (lens.get d) (seen n))
+        → AllowsAt whole cpu section d start index change
+        (λ place n. word_of_part lens tells place d (seen n))
+    allows_at p start from index change seen tells behind there has allowed = (
+      base + p,
+      omega (arith, behind, there),
+      allows_word p (base + p) change seen tells refl has allowed,
+    )
 
     pub allows_number : (tells : C → Number → C → Type 0)
         → AllowsNumber rule cpu section (lens.get d) (tells (lens.get d))

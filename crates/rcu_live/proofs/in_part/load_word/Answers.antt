@@ -1,22 +1,21 @@
-use Rattle.std.proofs.Common.{◌∙◌, ◌+◌, ℕ, ap, arith, refl}
+use Rattle.std.proofs.Common.{◌∙◌, ◌+◌, ℕ, ap}
 use Rattle.rcu_live.specs.CpuSeat as cpu_seat
 use Rattle.rcu_live.specs.SeveralLaws.{begins_behind}
 use Rattle.rcu_live.proofs.InPart.{seat_knows}
-use Rattle.rcu_live.proofs.Several.{allows_word, told_word}
+use Rattle.rcu_live.proofs.Several.{allows_at, told_word}
 use Rattle.rcu_live.proofs.in_part.load_word.Goals as goal
 
 pub load_at-requires-clause-allowed : goal.load_at-requires-clause-allowed
 load_at-requires-clause-allowed g c =
     let plan = c.args.board.now.plan in
-    let word = c.args.spot.word in
-    let behind = begins_behind g.P.Within.lens _ _ _ _ g.met.P.Within.is_lens
-    (λ base. g.P.Within.begins base plan) _ (g.met.P.Within.is_first plan).1
-    c.args.board.now.base in (
-      g.P.Within.begins 0 plan + word,
-      omega (arith, c.index_of-index.ensures.index, c.requires.base, behind),
-      allows_word _ _ _ _ _ _ _ (g.met.P.Within.is_part plan) g.met.P.Within.is_lens.got _ _ _
-          word _ (λ n. n) (λ n. n) g.M.WordStep.then refl c.requires.own c.requires.allowed,
-    )
+    let base = c.args.board.now.base in
+    allows_at _ _ _ _ _ _ _ (g.met.P.Within.is_part plan) g.met.P.Within.is_lens.got _ _ _
+    c.args.spot.word base (g.P.Within.begins base plan) _ (λ n. n) (λ n. n)
+    g.M.WordStep.then
+    (begins_behind g.P.Within.lens _ _ _ _ g.met.P.Within.is_lens
+    (λ base. g.P.Within.begins base plan) _ (g.met.P.Within.is_first plan).1 base)
+    (c.index_of-index.ensures.index ∙ ap (λ (n : ℕ). n + c.args.spot.word) c.requires.base)
+    c.requires.own c.requires.allowed
 
 pub returns-clause-part : goal.returns-clause-part
 returns-clause-part g c =
