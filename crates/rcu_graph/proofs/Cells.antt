@@ -1,5 +1,5 @@
 -- Each link and each word of a node has a place of its own, inside all rows.
-use Rattle.std.proofs.Common.{◌≡◌, ℕ, ◌+◌, ◌-◌, ◌*◌, ◌<◌, ◌≤◌, Bool, ap, sym}
+use Rattle.std.proofs.Common.{◌≡◌, ℕ, ◌+◌, ◌-◌, ◌*◌, ◌<◌, ◌≤◌, suc, Bool, true, ap, sym}
 use Rattle.std.proofs.Common.{◌∙◌, arith}
 use Rattle.std.specs.Prelude.{if◌then◌else◌, nat_lt}
 use Rattle.std.proofs.Math.Nat.{add-mul}
@@ -13,28 +13,28 @@ module _ (roots links width : ℕ) where
   abbrev at : ℕ → ℕ → ℕ
   at = place_of roots links width
 
+  -- the place by what the tests tell of the node and of the cell
+  abbrev cell : Bool → Bool → ℕ → ℕ → ℕ
+  cell is_root is_link i k =
+      if is_root
+      then (if is_link then first_place + links * i + k
+      else first_place + links * roots + width * i + (k - links))
+      else first_place + (links + width) * i + k
+
   link_of_root : (i k : ℕ) → i < roots → k < links → at i k ≡ first_place + links * i + k
   link_of_root i k low small =
-      ap (λ (b : Bool). if b then (if nat_lt k links then first_place + links * i + k
-      else first_place + links * roots + width * i + (k - links))
-      else first_place + (links + width) * i + k) (is_below i roots low)
-      ∙ ap (λ (b : Bool). if b then first_place + links * i + k
-      else first_place + links * roots + width * i + (k - links)) (is_below k links small)
+      ap (λ (b : Bool). cell b (nat_lt k links) i k) (is_below i roots low)
+      ∙ ap (λ (b : Bool). cell true b i k) (is_below k links small)
 
   word_of_root : (i k : ℕ) → i < roots → links ≤ k
       → at i k ≡ first_place + links * roots + width * i + (k - links)
   word_of_root i k low high =
-      ap (λ (b : Bool). if b then (if nat_lt k links then first_place + links * i + k
-      else first_place + links * roots + width * i + (k - links))
-      else first_place + (links + width) * i + k) (is_below i roots low)
-      ∙ ap (λ (b : Bool). if b then first_place + links * i + k
-      else first_place + links * roots + width * i + (k - links)) (not_below k links high)
+      ap (λ (b : Bool). cell b (nat_lt k links) i k) (is_below i roots low)
+      ∙ ap (λ (b : Bool). cell true b i k) (not_below k links high)
 
   cell_of_other : (i k : ℕ) → roots ≤ i → at i k ≡ first_place + (links + width) * i + k
   cell_of_other i k high =
-      ap (λ (b : Bool). if b then (if nat_lt k links then first_place + links * i + k
-      else first_place + links * roots + width * i + (k - links))
-      else first_place + (links + width) * i + k) (not_below i roots high)
+      ap (λ (b : Bool). cell b (nat_lt k links) i k) (not_below i roots high)
 
   -- the links and the words of the roots fill as many places as rows of them would
   both : first_place + links * roots + width * roots ≡ first_place + (links + width) * roots
@@ -136,3 +136,22 @@ module _ (roots links width : ℕ) where
           let low : i < roots = omega (arith, high) in
           let first = word_of_root i links low (omega arith) in
           let this = word_of_root i (links + k) low (omega arith) in omega (arith, first, this)
+
+  -- nothing stands before the first place
+  pub behind_first : (i k : ℕ) → first_place ≤ at i k
+  behind_first i k = by (dec_le roots i) (dec_le links k)
+    where
+      by : Dec (roots ≤ i) → Dec (links ≤ k) → first_place ≤ at i k
+      by (yes high) _ = let is = cell_of_other i k high in omega (arith, is)
+      by (no high) (yes word) =
+          let is = word_of_root i k (omega (arith, high)) word in omega (arith, is)
+      by (no high) (no link) =
+          let is = link_of_root i k (omega (arith, high)) (omega (arith, link)) in omega (arith, is)
+
+  -- the links of a root stand behind those of the one before
+  pub next_root : (i k : ℕ) → suc i < roots → k < links → at (suc i) k ≡ at i k + links
+  next_root i k low small =
+      let this = link_of_root i k (omega (arith, low)) small in
+      let next = link_of_root (suc i) k low small in
+      let more : links * suc i ≡ links + links * i = grind arith in
+      omega (arith, this, next, more)

@@ -1,6 +1,6 @@
-//! What the rule says of nodes that open sections hold, and of what their hops find, over the
-//! definitions alone.
-ghost use Rattle.std.specs.Prelude.{◌≡◌, ◌≢◌, ◌<◌, ◌≤◌, ◌+◌, ◌↔◌, ◌++◌, ◌∷◌, Bool};
+//! Where the cells of nodes stand, and what the rule says of nodes that open sections hold and of
+//! what their hops find, over the definitions alone.
+ghost use Rattle.std.specs.Prelude.{◌≡◌, ◌≢◌, ◌<◌, ◌≤◌, ◌+◌, ◌*◌, ◌↔◌, ◌++◌, ◌∷◌, Bool};
 ghost use Rattle.std.specs.Prelude.{IsSome, IsTrue};
 ghost use Rattle.std.specs.Prelude.{List, Option, Some, ℕ, slice_index, slice_set, suc, true};
 ghost use mathlib.Core.Option.{some};
@@ -14,8 +14,8 @@ ghost use Rattle.rcu_graph.specs.Beside.{AreOnChain, IsChainOf, IsKeptOver, IsOp
 ghost use Rattle.rcu_graph.specs.Beside.{nodes_at};
 ghost use Rattle.rcu_graph.specs.Keeper.{after_leave, after_link, after_look, after_publish};
 ghost use Rattle.rcu_graph.specs.Keeper.{after_write, after_write_link};
-ghost use Rattle.rcu_graph.specs.Nodes.{IsHeld, IsOn, IsReader, hops_in, nodes_in, place_of};
-ghost use Rattle.rcu_graph.specs.Nodes.{state_at, stored_in};
+ghost use Rattle.rcu_graph.specs.Nodes.{IsHeld, IsOn, IsReader, first_place, hops_in};
+ghost use Rattle.rcu_graph.specs.Nodes.{nodes_in, place_of, state_at, stored_in};
 ghost use Rattle.rcu_graph.specs.Planned.{IsKeptBy, of_plan, tells_follow};
 ghost use Rattle.rcu_graph.specs.Search.{Ascends, IsSearched};
 ghost use Rattle.rcu_graph.specs.declared.known.Hop.{Hop};
@@ -27,6 +27,25 @@ ghost use Rattle.rcu_graph.specs.declared.node_state.NodeState.TheVariants.{Free
 ghost use Rattle.rcu_graph.specs.declared.plan.Plan.{Plan};
 
 use crate::rule::Shape;
+
+/// Each link and each word of a node has a place of its own, among as many as all have together.
+/// The words of a node stand side by side, and so do the links of one root and of the next.
+pub fn each_cell_has_a_place_of_its_own()
+    ensures own { (plan : Plan) (node other k l : ℕ) → k < plan.links + plan.words →
+        l < plan.links + plan.words → place_of plan.roots plan.links plan.words node k
+        ≡ place_of plan.roots plan.links plan.words other l → (node ≡ other) × (k ≡ l) }
+    ensures inside { (plan : Plan) (node k : ℕ) → plan.roots ≤ plan.nodes → node < plan.nodes →
+        k < plan.links + plan.words →
+        (first_place ≤ place_of plan.roots plan.links plan.words node k)
+        × (place_of plan.roots plan.links plan.words node k
+        < first_place + (plan.links + plan.words) * plan.nodes) }
+    ensures words { (plan : Plan) (node word : ℕ) →
+        place_of plan.roots plan.links plan.words node (plan.links + word)
+        ≡ place_of plan.roots plan.links plan.words node plan.links + word }
+    ensures links_of_roots { (plan : Plan) (root k : ℕ) → suc root < plan.roots → k < plan.links →
+        place_of plan.roots plan.links plan.words (suc root) k
+        ≡ place_of plan.roots plan.links plan.words root k + plan.links }
+{}
 
 /// At two moments the rule holds, and a seat holds the same node. Then the node's words are the
 /// same at both: it was not used again between them.
