@@ -3,11 +3,11 @@ ghost use Rattle.std.specs.Prelude.{◌≡◌, ◌<◌, slice_index};
 ghost use Rattle.rcu_live.specs.CpuSeat.{after_word_step};
 ghost use Rattle.rcu_live.specs.InPart.{seat_part};
 ghost use Rattle.rcu_graph.specs.Graph.{IsWalking};
-ghost use Rattle.rcu_graph.specs.Opening.{row_of};
+ghost use Rattle.rcu_graph.specs.Opening.{layout_of};
 ghost use Rattle.rcu_cell.specs.Cell.{IsLoaded, ReadsSlot, version_in};
 
 use crate::shape::{CellRule, CellSeat, OneLink, Version};
-use rcu_graph::{Graph, Plan, Row};
+use rcu_graph::{Graph, Layout, Plan};
 use rcu_live::{Alone, Within};
 use std::marker::Model;
 
@@ -49,13 +49,14 @@ impl<F: Version<W>, const W: usize, P: Within<CellRule<F, W>>> Cell<F, W, P> {
         Cell { graph }
     }
 
-    /// The rows of the nodes, by constants: what waits for a load multiplies by no other number.
-    fn row(&self) -> Row
-        ensures { result ≡ row_of self.now }
+    /// Where the nodes' links and words stand, by constants: what waits for a load multiplies by no
+    /// other number.
+    fn layout(&self) -> Layout
+        ensures { result ≡ layout_of self.now }
     {
         // A borrow of a field shows the prover what the type keeps: that a node has one link.
         let graph = &self.graph;
-        Row {
+        Layout {
             base: graph.base(),
             plan: Plan {
                 links: 1,
@@ -78,7 +79,7 @@ impl<F: Version<W>, const W: usize, P: Within<CellRule<F, W>>> Cell<F, W, P> {
         // A borrow of a field shows the prover what the type keeps: that there is one root.
         let graph = &self.graph;
         graph.plan();
-        graph.follow(seat, self.row(), 0, 0).unwrap_or(0)
+        graph.follow(seat, self.layout(), 0, 0).unwrap_or(0)
     }
 
     /// Loads a word of the version that the section reads: the one that it had when it was loaded.
@@ -92,6 +93,6 @@ impl<F: Version<W>, const W: usize, P: Within<CellRule<F, W>>> Cell<F, W, P> {
         // A borrow of a field shows the prover what the type keeps: that there is one root.
         let graph = &self.graph;
         graph.plan();
-        graph.read(seat, self.row(), slot, word)
+        graph.read(seat, self.layout(), slot, word)
     }
 }

@@ -1,9 +1,10 @@
 -- Why a step on a graph is allowed, whose size the seat knows.
-use Rattle.std.proofs.Common.{◌≡◌, ℕ, suc, ◌+◌, ◌*◌, ◌<◌, ◌≤◌, List, length, Option, arith, refl}
-use Rattle.std.proofs.Common.{subst}
+use Rattle.std.proofs.Common.{◌≡◌, ℕ, suc, ◌+◌, ◌*◌, ◌<◌, ◌≤◌, List, length, Option, ap, arith}
+use Rattle.std.proofs.Common.{◌∙◌, refl, subst, sym}
 use Rattle.std.specs.Prelude.{IsSome}
 use Rattle.rcu_live.specs.Client.{AllowsNumber, AllowsWord}
 use Rattle.rcu_live.specs.Several.{IsWordOf}
+use Rattle.rcu_graph.specs.Beside.{cell_of}
 use Rattle.rcu_graph.specs.Keeper.{IsReady}
 use Rattle.rcu_graph.specs.Nodes.{IsKeeping, IsOn, IsReader, IsTarget, IsUnlinked, first_place}
 use Rattle.rcu_graph.specs.Nodes.{node_at, nodes_in, place_of, state_at}
@@ -15,6 +16,7 @@ use Rattle.rcu_graph.specs.Steps.{IsPublished, IsRead, IsWritten}
 use Rattle.rcu_graph.specs.declared.known.Known.TheVariants.{Owner}
 use Rattle.rcu_graph.specs.declared.known.Planned.{Planned}
 use Rattle.rcu_graph.specs.declared.node_state.NodeState.TheVariants.{Free, Live}
+use Rattle.rcu_graph.specs.declared.plan.Layout.{Layout}
 use Rattle.rcu_graph.specs.declared.plan.Plan.{Plan}
 use Rattle.rcu_graph.proofs.At.{ages_at, claims_at, follows_at, leaves_at, links_at, publishes_at}
 use Rattle.rcu_graph.proofs.At.{reads_at, writes_at, writes_link_at}
@@ -26,6 +28,19 @@ module _ (fits : Plan → List ℕ → Type 0) (joins : Plan → ℕ → List �
   pub is_word : (place : ℕ) → place < first_place + (plan.links + plan.words) * plan.nodes
       → IsWordOf (IsKeptBy fits joins first plan) place
   is_word place inside words xs h = let long = h.kept.kept.long in omega (arith, inside, long)
+
+  -- a load of a cell is one of the place that a layout of the graph tells
+  pub cell_allowed : (then : ℕ → Planned → ℕ → Planned → Type 0) (cpu section : Option ℕ)
+      (was : Planned) (base : ℕ) (layout : Layout) (i k place : ℕ)
+      → layout ≡ record { base = base; plan = plan }
+      → place ≡ cell_of layout.plan i k
+      → AllowsWord (IsKeptBy fits joins first plan) cpu section was (cell_of plan i k) (λ n. n)
+      (then (cell_of plan i k) was)
+      → AllowsWord (IsKeptBy fits joins first plan) cpu section was place (λ n. n) (then place was)
+  cell_allowed then cpu section was base layout i k place same is =
+      subst (λ (p : ℕ).
+      AllowsWord (IsKeptBy fits joins first plan) cpu section was p (λ n. n) (then p was))
+      (sym (is ∙ ap (λ (l : Layout). cell_of l.plan i k) same))
 
 module _ (fits : Plan → List ℕ → Type 0) (joins : Plan → ℕ → List ℕ → List ℕ → Type 0)
     (first : Plan → ℕ → List ℕ) (cpu section : Option ℕ) (was : Planned) (plan : Plan)

@@ -14,8 +14,8 @@ use Rattle.rcu_graph.specs.declared.known.Planned.{Planned}
 use Rattle.rcu_graph.specs.declared.not_opened.NotOpened.{NotOpened}
 use Rattle.rcu_graph.specs.declared.not_opened.NotOpened.TheVariants.{BadSizes}
 use Rattle.rcu_graph.specs.declared.not_opened.NotOpened.TheVariants as not_opened
+use Rattle.rcu_graph.specs.declared.plan.Layout.{Layout}
 use Rattle.rcu_graph.specs.declared.plan.Plan.{Plan}
-use Rattle.rcu_graph.specs.declared.plan.Row.{Row}
 
 -- a graph may be as large as that: the roots are nodes, each node has a word, and all links and
 -- words fit in memory
@@ -25,9 +25,9 @@ pub record IsSized (plan : Plan) : Type 0 where
   pub row : plan.links + plan.words ≤ 2 ^ 32
   pub small : (plan.links + plan.words) * plan.nodes ≤ 2 ^ 32
 
--- the rows of the nodes
-abbrev pub row_of : Object Plan → Row
-row_of graph = record { base = graph.base; plan = graph.plan }
+-- where the links and the words of the nodes stand
+abbrev pub layout_of : Object Plan → Layout
+layout_of graph = record { base = graph.base; plan = graph.plan }
 
 -- the fault that the tests of an opening found that has good sizes: none where it is accepted, or
 -- where memory is refused

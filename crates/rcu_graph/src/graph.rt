@@ -6,11 +6,11 @@ ghost use Rattle.rcu_live.specs.CpuSeat.{after_word_step};
 ghost use Rattle.rcu_live.specs.InPart.{engine_part, seat_part};
 ghost use Rattle.rcu_graph.specs.Graph.{IsAt, IsWalking, word_to};
 ghost use Rattle.rcu_graph.specs.Nodes.{IsOn, first_place, place_of};
-ghost use Rattle.rcu_graph.specs.Opening.{row_of};
+ghost use Rattle.rcu_graph.specs.Opening.{layout_of};
 ghost use Rattle.rcu_graph.specs.Steps.{Followed};
 
 use crate::places::place_of;
-use crate::plan::{Plan, Row};
+use crate::plan::{Layout, Plan};
 use crate::rule::{Follow, GraphRule, GraphSeat, Read, Shape};
 use rcu_live::{Alone, Board, Within};
 use std::alloc::{AllocError, Global};
@@ -94,11 +94,11 @@ impl<F: Shape, P: Within<GraphRule<F>>> Graph<F, P> {
         self.base
     }
 
-    /// The rows of its nodes.
-    pub fn row(&self) -> Row
-        ensures { result ≡ row_of self.now }
+    /// Where its nodes' links and words stand.
+    pub fn layout(&self) -> Layout
+        ensures { result ≡ layout_of self.now }
     {
-        Row {
+        Layout {
             base: self.base(),
             plan: self.plan(),
         }
@@ -106,8 +106,8 @@ impl<F: Shape, P: Within<GraphRule<F>>> Graph<F, P> {
 
     /// The place of the cell `k` of a node: its links are the first ones, and its words are behind
     /// them.
-    pub(crate) fn place(&self, row: Row, node: usize, k: usize) -> usize
-        requires row { row ≡ row_of self.now }
+    pub(crate) fn place(&self, layout: Layout, node: usize, k: usize) -> usize
+        requires layout { layout ≡ layout_of self.now }
         requires node { node < self.now.plan.nodes }
         requires inside { k < self.now.plan.links + self.now.plan.words }
         ensures place { result
@@ -117,7 +117,7 @@ impl<F: Shape, P: Within<GraphRule<F>>> Graph<F, P> {
     {
         // A borrow of a field shows the prover what the type keeps: that the words fit in memory.
         let _ = &self.board;
-        place_of(row.plan, node, k)
+        place_of(layout.plan, node, k)
     }
 
     /// As [`follow`](Self::follow), by the link's word: 0 leads nowhere, and else it is one more
@@ -125,11 +125,11 @@ impl<F: Shape, P: Within<GraphRule<F>>> Graph<F, P> {
     pub(crate) fn follow_word(
         &self,
         seat: &mut GraphSeat<F, P>,
-        row: Row,
+        layout: Layout,
         from: usize,
         link: usize,
     ) -> u64
-        requires row { row ≡ row_of self.now }
+        requires layout { layout ≡ layout_of self.now }
         requires at { IsAt (F.first self.now.plan) self.now (seat_part P.lens seat.old) from }
         requires link { link < self.now.plan.links }
         ensures same { seat.new ≡ after_word_step seat.old
@@ -143,23 +143,24 @@ impl<F: Shape, P: Within<GraphRule<F>>> Graph<F, P> {
         ensures on { (node : ℕ) → result ≡ suc node →
             IsAt (F.first self.now.plan) self.now (seat_part P.lens seat.new) node }
     {
-        self.load_cell::<Follow<F>>(seat, row, from, link)
+        self.load_cell::<Follow<F>>(seat, layout, from, link)
     }
 
     /// Loads a link of the node that the section is on, and returns the node that it led to at that
     /// load: the section holds that one too until it closes, whole and with its words as they are
     /// (Linux's `rcu_dereference` of a `next`). The seat's view has the load as one hop more.
     ///
-    /// The row is as [`row`](Self::row) has it. Who goes over many nodes keeps it, and knows its
-    /// numbers of links and words as constants, and so spares loads and a multiplication.
+    /// The layout is as [`layout`](Self::layout) has it. Who goes over many nodes keeps it, and
+    /// knows its numbers of links and words as constants, and so spares loads and a
+    /// multiplication.
     pub fn follow(
         &self,
         seat: &mut GraphSeat<F, P>,
-        row: Row,
+        layout: Layout,
         from: usize,
         link: usize,
     ) -> Option<usize>
-        requires row { row ≡ row_of self.now }
+        requires layout { layout ≡ layout_of self.now }
         requires at { IsAt (F.first self.now.plan) self.now (seat_part P.lens seat.old) from }
         requires link { link < self.now.plan.links }
         ensures same { seat.new ≡ after_word_step seat.old
@@ -173,7 +174,7 @@ impl<F: Shape, P: Within<GraphRule<F>>> Graph<F, P> {
         ensures on { IfSome result (λ node.
             IsAt (F.first self.now.plan) self.now (seat_part P.lens seat.new) node) }
     {
-        let word = self.follow_word(seat, row, from, link);
+        let word = self.follow_word(seat, layout, from, link);
         if word == 0 {
             return None;
         }
@@ -181,9 +182,9 @@ impl<F: Shape, P: Within<GraphRule<F>>> Graph<F, P> {
     }
 
     /// Loads a word of the node that the section is on: the one that it had when the section came
-    /// to it. The row is as of [`follow`](Self::follow).
-    pub fn read(&self, seat: &mut GraphSeat<F, P>, row: Row, node: usize, word: usize) -> u64
-        requires row { row ≡ row_of self.now }
+    /// to it. The layout is as of [`follow`](Self::follow).
+    pub fn read(&self, seat: &mut GraphSeat<F, P>, layout: Layout, node: usize, word: usize) -> u64
+        requires layout { layout ≡ layout_of self.now }
         requires at { IsAt (F.first self.now.plan) self.now (seat_part P.lens seat.old) node }
         requires word { word < self.now.plan.words }
         ensures same { seat.new ≡ seat.old }
@@ -192,6 +193,6 @@ impl<F: Shape, P: Within<GraphRule<F>>> Graph<F, P> {
     {
         // A borrow of a field shows the prover what the type keeps: that the words fit in memory.
         let _ = &self.board;
-        self.load_cell::<Read<F>>(seat, row, node, row.plan.links + word)
+        self.load_cell::<Read<F>>(seat, layout, node, layout.plan.links + word)
     }
 }

@@ -47,7 +47,7 @@ impl<F: Shape, P: Within<GraphRule<F>>> Graph<F, P> {
     {
         // A borrow of a field shows the prover what the type keeps: that the words fit in memory.
         let _ = &self.board;
-        let place = self.place(self.row(), node, self.plan.links + word);
+        let place = self.place(self.layout(), node, self.plan.links + word);
         self.store::<Write>(seat, place, value);
     }
 
@@ -65,7 +65,7 @@ impl<F: Shape, P: Within<GraphRule<F>>> Graph<F, P> {
     {
         // A borrow of a field shows the prover what the type keeps: that the words fit in memory.
         let _ = &self.board;
-        let place = self.place(self.row(), node, link);
+        let place = self.place(self.layout(), node, link);
         self.store::<WriteLink>(seat, place, value);
     }
 
@@ -87,7 +87,7 @@ impl<F: Shape, P: Within<GraphRule<F>>> Graph<F, P> {
     {
         // A borrow of a field shows the prover what the type keeps: that the words fit in memory.
         let _ = &self.board;
-        let place = self.place(self.row(), node, link);
+        let place = self.place(self.layout(), node, link);
         self.store::<Link>(seat, place, value);
     }
 
@@ -112,7 +112,7 @@ impl<F: Shape, P: Within<GraphRule<F>>> Graph<F, P> {
     {
         // A borrow of a field shows the prover what the type keeps: that the words fit in memory.
         let _ = &self.board;
-        let place = self.place(self.row(), from, link);
+        let place = self.place(self.layout(), from, link);
         let value = to as u64 + 1;
         self.store::<Publish>(seat, place, value);
     }
@@ -134,7 +134,7 @@ impl<F: Shape, P: Within<GraphRule<F>>> Graph<F, P> {
     {
         // A borrow of a field shows the prover what the type keeps: that the words fit in memory.
         let _ = &self.board;
-        let place = self.place(self.row(), node, 0);
+        let place = self.place(self.layout(), node, 0);
         self.watch::<Leave>(seat, place);
     }
 

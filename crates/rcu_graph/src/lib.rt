@@ -33,7 +33,7 @@ pub use keeper::{Full, Keeper};
 pub use node_state::NodeState;
 pub use not_opened::NotOpened;
 pub use opening::{Opened, UnlockedEngine};
-pub use plan::{Plan, Row};
+pub use plan::{Layout, Plan};
 pub use rule::{GraphEngine, GraphSeat, GraphWatcher, Shape};
 pub use value::{Invariant, Value};
 pub use walk::Walk;

@@ -17,7 +17,7 @@ pub struct Plan {
 
 /// Where the links and the words of nodes stand in the table of an engine.
 #[derive(Clone, Copy, Debug, PartialEq, Eq)]
-pub struct Row {
+pub struct Layout {
     /// Where the graph's words begin.
     pub base: usize,
     /// How large the graph is.

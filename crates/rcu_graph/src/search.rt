@@ -5,18 +5,18 @@ ghost use Rattle.rcu_live.specs.CpuSeat.{after_word_step};
 ghost use Rattle.rcu_live.specs.InPart.{seat_part};
 ghost use Rattle.rcu_graph.specs.Graph.{IsAt, IsWalking};
 ghost use Rattle.rcu_graph.specs.Nodes.{IsOn};
-ghost use Rattle.rcu_graph.specs.Opening.{row_of};
+ghost use Rattle.rcu_graph.specs.Opening.{layout_of};
 ghost use Rattle.rcu_graph.specs.Search.{Ascends, IsFound, IsSearched};
 
 use crate::graph::Graph;
-use crate::plan::Row;
+use crate::plan::Layout;
 use crate::rule::{GraphRule, GraphSeat, Shape};
 use rcu_live::Within;
 
 impl<F: Shape, P: Within<GraphRule<F>>> Graph<F, P> {
     /// The key of a node on which the section is.
-    fn key_of(&self, seat: &mut GraphSeat<F, P>, row: Row, node: usize) -> u64
-        requires row { row ≡ row_of self.now }
+    fn key_of(&self, seat: &mut GraphSeat<F, P>, layout: Layout, node: usize) -> u64
+        requires layout { layout ≡ layout_of self.now }
         requires at { IsAt (F.first self.now.plan) self.now (seat_part P.lens seat.old) node }
         ensures same { seat.new ≡ seat.old }
         ensures told { (words : List ℕ) → IsOn (F.first self.now.plan) self.now.plan.roots
@@ -24,15 +24,21 @@ impl<F: Shape, P: Within<GraphRule<F>>> Graph<F, P> {
             result ≡ slice_index words 0 }
     {
         self.plan();
-        self.read(seat, row, node, 0)
+        self.read(seat, layout, node, 0)
     }
 
     /// Searches the chain of a root for a key, by a load a hop, and one a key. The section holds
     /// each node that it came to; the one that it returns has the key, and is whole. It returns
-    /// none only where a hop led nowhere, or to a greater key. The row is as of
-    /// [`follow`](Self::follow).
-    pub fn find(&self, seat: &mut GraphSeat<F, P>, row: Row, root: usize, key: u64) -> Option<usize>
-        requires row { row ≡ row_of self.now }
+    /// none only where a hop led nowhere, or to a greater key. The layout is as
+    /// of [`follow`](Self::follow).
+    pub fn find(
+        &self,
+        seat: &mut GraphSeat<F, P>,
+        layout: Layout,
+        root: usize,
+        key: u64,
+    ) -> Option<usize>
+        requires layout { layout ≡ layout_of self.now }
         requires walking { IsWalking self.now (seat_part P.lens seat.old) }
         requires root { root < self.now.plan.roots }
         requires link { 0 < self.now.plan.links }
@@ -51,12 +57,12 @@ impl<F: Shape, P: Within<GraphRule<F>>> Graph<F, P> {
         let mut on = root;
         let mut least = 0;
         'chain: loop {
-            let word = self.follow_word(seat, row, on, 0);
+            let word = self.follow_word(seat, layout, on, 0);
             if word == 0 {
                 return None;
             }
             let next = (word - 1) as usize;
-            let found = self.key_of(seat, row, next);
+            let found = self.key_of(seat, layout, next);
             if found == key {
                 return Some(next);
             }

@@ -7,13 +7,13 @@ ghost use Rattle.rcu_live.specs.Watcher.{IsWatcherOf, KnowsAt, KnowsBy, after_nu
 ghost use Rattle.rcu_live.specs.Watcher.{after_word_step};
 ghost use Rattle.rcu_graph.specs.Beside.{cell_of};
 ghost use Rattle.rcu_graph.specs.Nodes.{first_place};
-ghost use Rattle.rcu_graph.specs.Opening.{row_of};
+ghost use Rattle.rcu_graph.specs.Opening.{layout_of};
 ghost use Rattle.rcu_graph.specs.Planned.{IsKeptBy};
 
 use crate::graph::Graph;
 use crate::known::Planned;
 use crate::places::{root_place, row_place};
-use crate::plan::Row;
+use crate::plan::Layout;
 use crate::rule::{GraphRule, GraphSeat, GraphWatcher, Shape};
 use rcu_live::in_part::{self, Spot};
 use rcu_live::{NumberStep, Within, WordStep};
@@ -47,12 +47,12 @@ impl<F: Shape, P: Within<GraphRule<F>>> Graph<F, P> {
     pub(crate) fn load_cell<M: WordStep<Planned>>(
         &self,
         seat: &mut GraphSeat<F, P>,
-        row: Row,
+        layout: Layout,
         node: usize,
         k: usize,
     ) -> u64
         requires seat { cpu_seat.IsSeatOf self.now (seat_part P.lens seat.old) }
-        requires row { row ≡ row_of self.now }
+        requires layout { layout ≡ layout_of self.now }
         requires node { node < self.now.plan.nodes }
         requires inside { k < self.now.plan.links + self.now.plan.words }
         requires allowed { AllowsWord (IsKeptBy F.fits F.joins F.first self.now.plan)
@@ -67,12 +67,12 @@ impl<F: Shape, P: Within<GraphRule<F>>> Graph<F, P> {
     {
         // A borrow of a field shows the prover what the type keeps: that the words fit in memory.
         let _ = &self.board;
-        if node < row.plan.roots {
-            let place = root_place(row.plan, node, k);
-            return self.load::<M>(seat, row.base, place);
+        if node < layout.plan.roots {
+            let place = root_place(layout.plan, node, k);
+            return self.load::<M>(seat, layout.base, place);
         }
-        let place = row_place(row.plan, node, k);
-        self.load::<M>(seat, row.base, place)
+        let place = row_place(layout.plan, node, k);
+        self.load::<M>(seat, layout.base, place)
     }
 
     /// Loads a word by a watcher.

@@ -45,7 +45,8 @@ impl<'a, F: Shape, P: Within<GraphRule<F>>> Walk<'a, F, P> {
             IsAt (F.first (walked self.old).graph.plan) (walked self.new).graph
             (seat_part P.lens (walked self.new).seat) node) }
     {
-        self.graph.follow(self.seat, self.graph.row(), from, link)
+        self.graph
+            .follow(self.seat, self.graph.layout(), from, link)
     }
 
     /// Loads a word of a node that the section is on, as [`Graph::read`] does.
@@ -58,7 +59,7 @@ impl<'a, F: Shape, P: Within<GraphRule<F>>> Walk<'a, F, P> {
             (walked self.old).graph.plan.roots (known_in P.lens (walked self.old)) node words →
             result ≡ slice_index words word }
     {
-        self.graph.read(self.seat, self.graph.row(), node, word)
+        self.graph.read(self.seat, self.graph.layout(), node, word)
     }
 
     /// Searches the chain of a root for a key, as [`Graph::find`] does.
@@ -79,6 +80,6 @@ impl<'a, F: Shape, P: Within<GraphRule<F>>> Walk<'a, F, P> {
             IsAt (F.first (walked self.old).graph.plan) (walked self.new).graph
             (seat_part P.lens (walked self.new).seat) node) }
     {
-        self.graph.find(self.seat, self.graph.row(), root, key)
+        self.graph.find(self.seat, self.graph.layout(), root, key)
     }
 }

@@ -29,10 +29,10 @@ impl<E: Invariant, const W: usize, P: Within<MapRule<E, W>>> Map<E, W, P> {
             (P.lens.set seat.old.view.client (P.lens.get seat.new.view.client)) }
     {
         self.plan();
-        let Some(node) = self.graph.follow(seat, self.row(), at.node, 0) else {
+        let Some(node) = self.graph.follow(seat, self.layout(), at.node, 0) else {
             return Cursor::at_root(at.bucket + 1);
         };
-        let key = self.graph.read(seat, self.row(), node, 0);
+        let key = self.graph.read(seat, self.layout(), node, 0);
         Cursor {
             bucket: at.bucket,
             node,

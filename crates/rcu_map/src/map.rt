@@ -6,7 +6,7 @@ ghost use Rattle.rcu_live.specs.CpuSeat.{after_word_step};
 ghost use Rattle.rcu_live.specs.InPart.{engine_part, seat_part};
 ghost use Rattle.rcu_graph.specs.Graph.{IsAt, IsWalking};
 ghost use Rattle.rcu_graph.specs.Nodes.{IsOn};
-ghost use Rattle.rcu_graph.specs.Opening.{row_of};
+ghost use Rattle.rcu_graph.specs.Opening.{layout_of};
 ghost use Rattle.rcu_graph.specs.Search.{IsFound, IsSearched};
 ghost use Rattle.rcu_map.specs.Found.{IsGot, IsLookedUp};
 ghost use Rattle.rcu_map.specs.Keys.{IsWhole, bucket_of, key_in, root_words};
@@ -15,7 +15,7 @@ ghost use Rattle.rcu_map.specs.Words.{as_words, words_if};
 use crate::bucket::bucket_of;
 use crate::entry::{Entry, words_are_two};
 use crate::shape::{MapRule, MapSeat, MapShape};
-use rcu_graph::{Graph, Invariant, Plan, Row};
+use rcu_graph::{Graph, Invariant, Layout, Plan};
 use rcu_live::{Alone, Board, Within};
 use std::alloc::{AllocError, Global};
 use std::marker::Model;
@@ -101,16 +101,16 @@ impl<E: Invariant, const W: usize, P: Within<MapRule<E, W>>> Map<E, W, P> {
         &self.graph
     }
 
-    /// The rows of the nodes, by constants where `W` is not 0: what waits for a load multiplies by
-    /// no other number.
-    pub(crate) fn row(&self) -> Row
-        ensures { result ≡ row_of self.now }
+    /// Where the nodes' links and words stand, by constants where `W` is not 0: what waits for a
+    /// load multiplies by no other number.
+    pub(crate) fn layout(&self) -> Layout
+        ensures { result ≡ layout_of self.now }
     {
         // A borrow of a field shows the prover what the type keeps: that a node has one link.
         let graph = &self.graph;
         let plan = graph.plan();
         let words = if W > 0 { W } else { plan.words };
-        Row {
+        Layout {
             base: graph.base(),
             plan: Plan {
                 links: 1,
@@ -139,10 +139,10 @@ impl<E: Invariant, const W: usize, P: Within<MapRule<E, W>>> Map<E, W, P> {
             IsWhole E.holds self.now.plan.words words → key_in words ≡ key → entry.new ≡ words }
     {
         self.plan();
-        let row = self.row();
+        let layout = self.layout();
         entry[0] = key;
-        for word in 1..row.plan.words {
-            entry[word] = self.graph.read(seat, row, node, word);
+        for word in 1..layout.plan.words {
+            entry[word] = self.graph.read(seat, layout, node, word);
         }
     }
 
@@ -167,7 +167,7 @@ impl<E: Invariant, const W: usize, P: Within<MapRule<E, W>>> Map<E, W, P> {
             return None;
         }
         let bucket = bucket_of(self.plan(), key);
-        self.graph.find(seat, self.row(), bucket, key)
+        self.graph.find(seat, self.layout(), bucket, key)
     }
 
     /// As [`get`](Self::get), by words. Writes those of the entry, and returns whether there is

@@ -30,7 +30,7 @@ pub follow_word-word-requires : goal.follow_word-word-requires
 follow_word-word-requires g c =
     let i = c.chain.invariant in
     record {
-      row = c.requires.row;
+      layout = c.requires.layout;
       at = walks_at _ _ _ (seat_part g.P.Within.lens c.chain.seat) _ i.on.0
           (seat_with g.P.Within.lens g.met.P.Within.is_lens.got g.met.P.Within.is_lens.stays _ _
           i.same)
@@ -44,7 +44,7 @@ key_of-found-requires g c =
     let some : c.follow_word-word.result ≡ suc (c.follow_word-word.result - 1) =
     omega (arith, c.if-word-eq0.false) in
     record {
-      row = c.requires.row;
+      layout = c.requires.layout;
       at = c.follow_word-word.ensures.on (c.follow_word-word.result - 1) some;
     }
 

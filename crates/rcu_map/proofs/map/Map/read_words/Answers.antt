@@ -3,7 +3,7 @@ use Rattle.rcu_live.specs.Board.{Object}
 use Rattle.rcu_live.specs.CpuSeat.{Seated}
 use Rattle.rcu_graph.specs.Nodes.{IsOn}
 use Rattle.rcu_graph.specs.declared.plan.Plan.{Plan}
-use Rattle.rcu_graph.specs.declared.plan.Row.{Row}
+use Rattle.rcu_graph.specs.declared.plan.Layout.{Layout}
 use Rattle.rcu_map.specs.Keys.{root_words}
 use Rattle.rcu_map.proofs.Rows.{read_all, read_more}
 use Rattle.rcu_map.proofs.map.Map.read_words.Goals as goal
@@ -17,7 +17,7 @@ loop-word-preserved g c =
       told = λ words on is.
           let size = i.size
           ∙ (length-set c.args.entry.now 0 c.args.key ∙ c.requires.room) in
-          let many = ap (λ (r : Row). r.plan.words) c.row-row.ensures in
+          let many = ap (λ (r : Layout). r.plan.words) c.layout-layout.ensures in
           let low : c.loop-word.word < length c.loop-word.entry = omega (arith, size, many) in
           read_more c.loop-word.entry words c.loop-word.word c.read.result low (i.told words on is)
           (c.read.ensures.told words
@@ -32,7 +32,7 @@ loop-word-preserved g c =
 
 pub returns-clause-told : goal.returns-clause-told
 returns-clause-told g c = λ words on whole is. let i = c.loop-word.invariant in
-    let many = ap (λ (r : Row). r.plan.words) c.row-row.ensures in
+    let many = ap (λ (r : Layout). r.plan.words) c.layout-layout.ensures in
     let wide = c.plan.ensures.wide in
     read_all c.loop-word.entry words c.args.self.now.plan.words
     (i.size ∙ (length-set c.args.entry.now 0 c.args.key ∙ c.requires.room)) whole.sized

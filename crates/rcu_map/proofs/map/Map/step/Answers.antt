@@ -3,7 +3,7 @@ use Rattle.rcu_live.specs.Board.{Object}
 use Rattle.rcu_live.specs.CpuSeat.{Seated}
 use Rattle.rcu_live.specs.InPart.{seat_part}
 use Rattle.rcu_live.proofs.InPart.{seat_same, seat_with}
-use Rattle.rcu_graph.specs.Opening.{row_of}
+use Rattle.rcu_graph.specs.Opening.{layout_of}
 use Rattle.rcu_graph.specs.declared.known.Planned.{Planned}
 use Rattle.rcu_graph.specs.declared.plan.Plan.{Plan}
 use Rattle.rcu_map.specs.Cursors.{HasStepped, MayGoOn}
@@ -24,7 +24,7 @@ follow-requires g c =
     (let wide = c.self.invariant.wide in omega (arith, wide)) inside
     (may.on inside) in
     record {
-      row = c.row.ensures ∙ ap row_of back;
+      layout = c.layout.ensures ∙ ap layout_of back;
       at = record {
         walking = may.walking;
         words = o.words;
