@@ -1,14 +1,13 @@
 -- Callbacks that are taken from a processor's list, one after another, into a buffer.
-use Rattle.std.proofs.Common.{◌≡◌, ℕ, ◌+◌, ◌<◌, false, None, Some, List, [], ◌∷◌, ◌++◌, length, map}
-use Rattle.std.proofs.Common.{take, min, sym, ap, ◌∙◌, arith}
+use Rattle.std.proofs.Common.{◌≡◌, ℕ, ◌+◌, ◌<◌, None, Some, List, [], ◌∷◌, ◌++◌, length, map}
+use Rattle.std.proofs.Common.{take, sym, ap, ◌∙◌, arith}
 use Rattle.std.specs.Prelude.{All, slice_get, slice_set}
-use Rattle.std.proofs.lemmas.List.{length-drop, map-append, set-get_or, take_more_set}
+use Rattle.std.proofs.lemmas.List.{length-drop, map-append, take_more_set}
 use Rattle.std.proofs.lemmas.List.Elements.{All-push}
-use Rattle.rcu_cblist.specs.SegList.{Item, after_take, begins_with_marker, callbacks, from_callback}
+use Rattle.rcu_cblist.specs.SegList.{Item, after_take, callbacks}
 use Rattle.rcu_cblist.specs.SegList.{front, take_answer}
 use Rattle.rcu_cblist.specs.declared.items.Queued.{Queued}
-use Rattle.rcu_cblist.proofs.Lists.{length_taken}
-use Rattle.rcu_cblist.proofs.Popping.{done_left, taken_both, untaken_first}
+use Rattle.rcu_cblist.proofs.Popping.{done_left, taken_both}
 use Rattle.rcu_barrier.specs.Lists.{list_of, with_list}
 use Rattle.rcu_barrier.proofs.Popping.{list_left, runs_both}
 use Rattle.rcu_state.specs.GpState.{after_run}
@@ -27,24 +26,6 @@ ran e cpu n = on_grace (λ g. after_run g cpu n) e
 -- the engine with another list of the processor
 abbrev relisted : Locked Planned ℕ → ℕ → List (Item ℕ) → Locked Planned ℕ
 relisted e cpu xs = on_grace (λ g. record g { lists = with_list g.lists cpu xs }) e
-
--- nothing was handed out yet
-pub ran_none : (e : Locked Planned ℕ) (cpu : ℕ) → begins_with_marker (listed e cpu) ≡ false
-    → e ≡ ran e cpu 0
-ran_none e cpu first =
-    sym (ap (relisted e cpu) (untaken_first (listed e cpu) first)
-    ∙ ap (λ l. record e { grace = record e.grace { lists = record e.grace.lists { lists = l } } })
-    (set-get_or e.grace.lists.lists cpu []))
-
--- as many as are done, or as there is room for, are all
-pub ran_least : (e : Locked Planned ℕ) (cpu n most : ℕ)
-    → most ≡ min (length (callbacks (front (listed e cpu)))) n → ran e cpu most ≡ ran e cpu n
-ran_least e cpu n most least =
-    let few = length_taken most (listed e cpu) in
-    let all = length_taken n (listed e cpu) in
-    let same : length (take_answer (listed e cpu) most) ≡ length (take_answer (listed e cpu) n) =
-    omega arith in
-    ap (λ k. relisted e cpu (from_callback k (listed e cpu))) same
 
 -- the first of one is all of it
 only : (ys : List (Queued ℕ)) (call : Queued ℕ) → Some call ≡ slice_get (take 1 ys) 0

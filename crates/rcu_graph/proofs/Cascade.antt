@@ -40,10 +40,6 @@ pub nodes_are : (a c : Watching Planned) (nodes : List Node) → c ≡ after_ste
     → nodes_in c.view.client.known ≡ nodes
 nodes_are a c nodes e = ap (λ (w : Watching Planned). nodes_in w.view.client.known) e
 
-pub one_step : (a c : Watching Planned) (nodes : List Node) → c ≡ after_step a nodes
-    → c ≡ after_step a (nodes_in c.view.client.known)
-one_step a c nodes e = e ∙ ap (λ (l : List Node). after_step a l) (sym (nodes_are a c nodes e))
-
 pub step_on : (a b c : Watching Planned)
     → b ≡ after_step a (nodes_in b.view.client.known)
     → c ≡ after_step b (nodes_in c.view.client.known)

@@ -253,10 +253,6 @@ renewed_twice (v ∷ nodes) zero f g low = refl
 renewed_twice (v ∷ nodes) (suc i) f g low =
     ap (λ (l : List Node). v ∷ l) (renewed_twice nodes i f g (omega (arith, low)))
 
-pub renewed_alike : (nodes : List Node) (i : ℕ) (f g : Node → Node)
-    → f (node_at nodes i) ≡ g (node_at nodes i) → renewed nodes i f ≡ renewed nodes i g
-renewed_alike nodes i f g e = ap (λ (v : Node). set nodes i v) e
-
 pub no_words_yet : (nodes : List Node) (i : ℕ) (words : List ℕ)
     → nodes ≡ renewed nodes i (with_words_to 0 words)
 no_words_yet nodes i words = sym (set-get_or nodes i no_node)

@@ -162,20 +162,6 @@ module _ (fits : List ℕ → Type 0) (joins : ℕ → List ℕ → List ℕ →
     seats = λ id cpu section known at. alone id (cpu, section, known) at;
   }
 
--- nothing is stored yet
-pub none_stored : (first : ℕ → List ℕ) (roots links width n : ℕ)
-    → AreFirst first 0 roots links width (replicate n 0)
-none_stored first roots links width n = record {
-  no_links = λ i l low. zeros n (place_of roots links width i l);
-  stored = λ i k low small. absurd (omega (arith, low));
-  rest = λ i k low small. zeros n (place_of roots links width i (links + k));
-}
-  where
-    zeros : (m p : ℕ) → slice_index (replicate m 0) p ≡ 0
-    zeros zero p = refl
-    zeros (suc m) zero = refl
-    zeros (suc m) (suc p) = zeros m p
-
 -- the words of one root more
 pub one_stored : (first : ℕ → List ℕ) (r roots links width place : ℕ) (old new : List ℕ)
     → AreFirst first r roots links width old

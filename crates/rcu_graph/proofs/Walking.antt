@@ -1,5 +1,5 @@
 -- A section that walks a graph goes on from node to node.
-use Rattle.std.proofs.Common.{◌≡◌, ℕ, suc, ◌<◌, List, refl, sym, ap, ◌∙◌, subst, inl, inr, arith}
+use Rattle.std.proofs.Common.{◌≡◌, ℕ, suc, ◌<◌, List, refl, sym, ◌∙◌, subst, inl, inr, arith}
 use Rattle.std.proofs.Math.Nat.{suc_inj}
 use Rattle.std.specs.Prelude.{slice_index}
 use Rattle.rcu_live.specs.Board.{Object}
@@ -105,16 +105,6 @@ walks_at first graph old new i words same stays w reads on low = record {
   on = on;
   inside = low;
 }
-
--- a hop behind others, and a read
-pub hops_on : (start old mid new : Seated Planned)
-    → old ≡ after_word_step start old.view.client
-    → mid ≡ after_word_step old mid.view.client
-    → new ≡ mid
-    → new ≡ after_word_step start new.view.client
-hops_on start old mid new was hop same =
-    subst (λ (s : Seated Planned). s ≡ after_word_step start s.view.client) (sym same)
-    (hop ∙ ap (λ (s : Seated Planned). after_word_step s mid.view.client) was)
 
 -- a seat of the same graph watches that
 pub same_watches : (graph : Object Plan) (before after : Watching Planned)

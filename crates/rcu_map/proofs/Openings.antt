@@ -1,12 +1,8 @@
 -- The opening of a map: the words of the roots of all buckets, and why it is refused.
 use Rattle.std.proofs.Common.{ℕ, ◌<◌, ◌≤◌, List}
-use Rattle.std.specs.Prelude.{◌≡◌, Result, Ok, Err}
+use Rattle.std.specs.Prelude.{◌≡◌, Ok, Err}
 use Rattle.std.proofs.lemmas.Result.{IfErr-at_err}
-use Rattle.rcu_seq.specs.declared.fault.Fault.{Fault}
 use Rattle.rcu_graph.specs.Opening.{AreWhole, IsSized}
-use Rattle.rcu_graph.specs.declared.not_opened.NotOpened.{NotOpened}
-use Rattle.rcu_graph.specs.declared.not_opened.NotOpened.TheVariants.{BadSizes}
-use Rattle.rcu_graph.specs.declared.not_opened.NotOpened.TheVariants as not_opened
 use Rattle.rcu_graph.specs.declared.plan.Plan.{Plan}
 use Rattle.rcu_graph.specs.Planned.{plan_of}
 use Rattle.rcu_map.specs.Chains.{HasSizes}
@@ -20,17 +16,9 @@ roots_are_whole holds plan = record {
   fit = λ i low. root_whole holds plan.words i;
 }
 
--- what was opened was not refused, and a fault is none of sizes
+-- what was opened was not refused
 pub opened_is_sized : {A E : Type 0} (value : A) (error : E) → Ok value ≡ Err error → ⊥
 opened_is_sized value error is = IfErr-at_err (λ _. ⊥) is tt
-
-abbrev IsFault : NotOpened → Type 0
-IsFault BadSizes = ⊥
-IsFault (not_opened.Fault fault) = Unit {0}
-
-pub fault_is_of_no_size : {A : Type 0} (fault : Fault)
-    → ◌≡◌ {A = Result A NotOpened} (Err (not_opened.Fault fault)) (Err BadSizes) → ⊥
-fault_is_of_no_size fault is = IfErr-at_err IsFault is tt
 
 -- of a map with a bucket nothing but its graph can have bad sizes, whatever the seed is
 pub has_sizes : (buckets width count seed : ℕ) → 0 < buckets → 2 ≤ width
