@@ -89,8 +89,6 @@ impl<F: Shape, P: Within<GraphRule<F>>> Graph<F, P> {
     pub fn base(&self) -> usize
         ensures { result ≡ self.now.base }
     {
-        // A borrow of a field shows the prover what the type keeps.
-        let _ = &self.board;
         self.base
     }
 
