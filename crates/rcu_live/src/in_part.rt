@@ -53,7 +53,7 @@ pub struct Spot {
 fn index_of<C: Client, P: Within<C>>(board: &Board<P::Whole>, spot: Spot) -> usize
     requires base { spot.base ≡ P.begins board.now.base board.now.plan }
     requires inside { HasWord (engine_part P.own_plan P.begins board.now) spot.word }
-    ensures index { result ≡ spot.base + spot.word }
+    ensures index { result ≡ P.begins board.now.base board.now.plan + spot.word }
     ensures inside { result < board.now.table.words }
 {
     board.fits();

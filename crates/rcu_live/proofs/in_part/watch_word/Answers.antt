@@ -1,4 +1,4 @@
-use Rattle.std.proofs.Common.{◌∙◌, ◌+◌, ℕ, ap}
+use Rattle.std.proofs.Common.{◌∙◌, ap}
 use Rattle.rcu_live.specs.Watcher.{after_word_step}
 use Rattle.rcu_live.specs.SeveralLaws.{begins_behind}
 use Rattle.rcu_live.proofs.InPart.{watcher_knows}
@@ -14,15 +14,14 @@ load_at-requires-clause-allowed g c =
     g.M.WordStep.then
     (begins_behind g.P.Within.lens _ _ _ _ g.met.P.Within.is_lens
     (λ base. g.P.Within.begins base plan) _ (g.met.P.Within.is_first plan).1 base)
-    (c.index_of-index.ensures.index ∙ ap (λ (n : ℕ). n + c.args.spot.word) c.requires.base)
-    c.requires.own c.requires.allowed
+    c.index_of-index.ensures.index c.requires.own c.requires.allowed
 
 pub returns-clause-part : goal.returns-clause-part
 returns-clause-part g c =
     let word = c.args.spot.word in
     let told = told_word g.P.Within.lens g.met.P.Within.is_lens.behind g.M.WordStep.then _
     c.load_at.result _ _ _ c.index_of-index.result word c.requires.seat.1
-    (c.index_of-index.ensures.index ∙ ap (λ (n : ℕ). n + word) c.requires.base)
+    c.index_of-index.ensures.index
     c.load_at.ensures.told in
     watcher_knows g.P.Within.lens g.met.P.Within.is_lens.got g.met.P.Within.is_lens.stays _ _ _
     record { state = c.load_at.ensures.state; told = told }
@@ -32,6 +31,6 @@ returns-clause-others g c =
     let word = c.args.spot.word in
     let told = told_word g.P.Within.lens g.met.P.Within.is_lens.behind g.M.WordStep.then _
     c.load_at.result _ _ _ c.index_of-index.result word c.requires.seat.1
-    (c.index_of-index.ensures.index ∙ ap (λ (n : ℕ). n + word) c.requires.base)
+    c.index_of-index.ensures.index
     c.load_at.ensures.told in
     c.load_at.ensures.state ∙ ap (after_word_step c.args.seat.now) told.0
