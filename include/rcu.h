@@ -815,10 +815,14 @@ uint32_t rcu_wanted(rcu_t *rcu, bool sleeps, uint64_t *cookie);
  * each processor, tends each list, and takes a step of driving, as rcu_drive. Then it tests the
  * barrier, and writes how many markers and unvisited processors are left. At 0 it is over, and each
  * callback that was queued before it began was handed out. It costs some steps a processor.
+ * Where a barrier runs already it joins that one, which covers nothing that was queued since that
+ * began: where others may wait, or a wait gave up, call rcu_barrier_begin first, and where it is
+ * refused (13) wait until the one that runs is over, and begin again.
  * Call it until it writes 0 or returns a fault. In between hand out by rcu_run of each processor,
  * and let other threads run. It orders what rcu_drive orders.
  * Faults: 16 where a list has no room for a marker; 11 where a grace period would begin, and the
- * number is the last one. After either the barrier goes on, and so does the same call again.
+ * number is the last one. After either the barrier goes on from where it came to, and so does the
+ * same call again.
  * Fence: behind. */
 uint32_t rcu_barrier_wait_unfenced(rcu_t *rcu, uint64_t *left);
 static inline uint32_t rcu_barrier_wait(rcu_t *rcu, uint64_t *left) {
@@ -927,7 +931,7 @@ uint32_t rcu_map_age(rcu_t *rcu, uint64_t *cookie);
  * is done or this is refused. In between let other threads run; the caller's own processor is idle
  * or offline, or passes quiescent states. It orders what rcu_drive_for orders.
  * Faults: 31 where each node has an entry, so that none becomes free before one is removed; 11
- * where a grace period would begin, and the number is the last one.
+ * where a grace period would begin, and the number is the last one. At 11 it has looked.
  * Fence: behind. */
 uint32_t rcu_map_wait_unfenced(rcu_t *rcu);
 static inline uint32_t rcu_map_wait(rcu_t *rcu) {

@@ -691,12 +691,16 @@ extern "C" {
     /// over, and each callback that was queued before it began was handed out. It costs some steps
     /// a processor.
     ///
+    /// Where a barrier runs already it joins that one, which covers nothing that was queued since
+    /// that began: where others may wait, or a wait gave up, call `rcu_barrier_begin` first, and
+    /// where it is refused (13) wait until the one that runs is over, and begin again.
+    ///
     /// Call it until it writes 0 or returns a fault. In between hand out by `rcu_run` of each
     /// processor, and let other threads run. It orders what `rcu_drive` orders.
     ///
     /// Faults: 16 where a list has no room for a marker; 11 where a grace period would begin, and
-    /// the number is the last one. After either the barrier goes on, and so does the same call
-    /// again.
+    /// the number is the last one. After either the barrier goes on from where it came to, and so
+    /// does the same call again.
     ///
     /// Fence: behind.
     pub fn rcu_barrier_wait_unfenced(rcu: *mut rcu_t, left: *mut u64) -> u32;
@@ -811,7 +815,7 @@ extern "C" {
     /// is idle or offline, or passes quiescent states. It orders what `rcu_drive_for` orders.
     ///
     /// Faults: 31 where each node has an entry, so that none becomes free before one is removed; 11
-    /// where a grace period would begin, and the number is the last one.
+    /// where a grace period would begin, and the number is the last one. At 11 it has looked.
     ///
     /// Fence: behind.
     pub fn rcu_map_wait_unfenced(rcu: *mut rcu_t) -> u32;
@@ -1142,11 +1146,16 @@ pub unsafe fn rcu_seat_repin(seat: *mut rcu_seat_t, number: *mut u64) -> u32 {
 /// barrier, and writes how many markers and unvisited processors are left. At 0 it is over, and
 /// each callback that was queued before it began was handed out. It costs some steps a processor.
 ///
+/// Where a barrier runs already it joins that one, which covers nothing that was queued since that
+/// began: where others may wait, or a wait gave up, call `rcu_barrier_begin` first, and where it is
+/// refused (13) wait until the one that runs is over, and begin again.
+///
 /// Call it until it writes 0 or returns a fault. In between hand out by `rcu_run` of each
 /// processor, and let other threads run. It orders what `rcu_drive` orders.
 ///
 /// Faults: 16 where a list has no room for a marker; 11 where a grace period would begin, and the
-/// number is the last one. After either the barrier goes on, and so does the same call again.
+/// number is the last one. After either the barrier goes on from where it came to, and so does the
+/// same call again.
 ///
 /// Fence: behind.
 ///
@@ -1168,7 +1177,7 @@ pub unsafe fn rcu_barrier_wait(rcu: *mut rcu_t, left: *mut u64) -> u32 {
 /// or offline, or passes quiescent states. It orders what `rcu_drive_for` orders.
 ///
 /// Faults: 31 where each node has an entry, so that none becomes free before one is removed; 11
-/// where a grace period would begin, and the number is the last one.
+/// where a grace period would begin, and the number is the last one. At 11 it has looked.
 ///
 /// Fence: behind.
 ///

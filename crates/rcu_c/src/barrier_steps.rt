@@ -86,11 +86,16 @@ fn drive_and_test(engine: &mut TreeEngine) -> Result<u64, Fault>
 /// barrier, and writes how many markers and unvisited processors are left. At 0 it is over, and
 /// each callback that was queued before it began was handed out. It costs some steps a processor.
 ///
+/// Where a barrier runs already it joins that one, which covers nothing that was queued since that
+/// began: where others may wait, or a wait gave up, call `rcu_barrier_begin` first, and where it is
+/// refused (13) wait until the one that runs is over, and begin again.
+///
 /// Call it until it writes 0 or returns a fault. In between hand out by `rcu_run` of each
 /// processor, and let other threads run. It orders what `rcu_drive` orders.
 ///
 /// Faults: 16 where a list has no room for a marker; 11 where a grace period would begin, and the
-/// number is the last one. After either the barrier goes on, and so does the same call again.
+/// number is the last one. After either the barrier goes on from where it came to, and so does the
+/// same call again.
 ///
 /// Fence: behind.
 #[unsafe(no_mangle)]

@@ -208,7 +208,7 @@ pub extern "C" fn rcu_map_age(rcu: &mut Rcu, cookie: &mut u64) -> u32
 /// idle or offline, or passes quiescent states. It orders what `rcu_drive_for` orders.
 ///
 /// Faults: 31 where each node has an entry, so that none becomes free before one is removed; 11
-/// where a grace period would begin, and the number is the last one.
+/// where a grace period would begin, and the number is the last one. At 11 it has looked.
 ///
 /// Fence: behind.
 #[unsafe(no_mangle)]
