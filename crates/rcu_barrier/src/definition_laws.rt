@@ -1,10 +1,12 @@
 //! What the words of a run say, on small runs.
-ghost use Rattle.std.specs.Prelude.{◌≡◌, ◌==◌, ◌+◌, ◌++◌, [], ◌∷◌, ℕ, All, Bool, List, None, Some};
-ghost use Rattle.std.specs.Prelude.{false, if◌then◌else◌};
+ghost use Rattle.std.specs.Prelude.{◌≡◌, ◌<◌, ◌==◌, ◌+◌, ◌++◌, [], ◌∷◌, ℕ, All, Bool, List, None};
+ghost use Rattle.std.specs.Prelude.{Some, false, if◌then◌else◌, true};
 ghost use Rattle.std.specs.List.{list_any};
+ghost use Rattle.rcu_seq.specs.Numbers.{Number};
 ghost use Rattle.rcu_seq.specs.declared.tag.Tag.{Tag};
 ghost use Rattle.rcu_cblist.specs.SegList.{Done, Of, Unmarked, take_answer};
-ghost use Rattle.rcu_barrier.specs.Lists.{AllLists, at_first, barrier_test_answer, list_of};
+ghost use Rattle.rcu_barrier.specs.Lists.{AllLists, at_first, barrier_test_answer, cpus_of};
+ghost use Rattle.rcu_barrier.specs.Lists.{list_of};
 ghost use Rattle.rcu_barrier.specs.Runs.{Call, IsNew, IsRun, copies, lists_after, queued_as};
 ghost use Rattle.rcu_barrier.specs.Runs.{queued_before_barrier, times_handed_out, times_listed};
 ghost use Rattle.rcu_barrier.specs.Runs.{begins_barrier, whereabouts};
@@ -89,6 +91,39 @@ pub fn a_run_has_only_calls_that_may_be_made<T: Drop>()
         (λ calls. IsRun (at_first 2 most) calls → ⊥) ((Call.Queue 2 at value ∷ [])
         ∷ (Call.Migrate 0 ∷ []) ∷ (Call.BarrierBegin ∷ Call.BarrierBegin ∷ [])
         ∷ (Call.Visit 0 ∷ []) ∷ (Call.BarrierTest ∷ []) ∷ []) }
+{}
+
+/// Nothing is a run, and a run goes on by each call that may be made, which is said here: a call of
+/// a processor that there is, a migration of another one than 0, the begin of a barrier where none
+/// runs, a visit or a test of one that runs, and a renumbering at any time. The calls before the
+/// newest one of a run are a run.
+pub fn a_run_is_made_call_by_call<T: Drop>()
+    ensures none { (first : AllLists T) → IsRun first [] }
+    ensures queue { (first : AllLists T) (calls : List (Call T)) (cpu : ℕ) (at : Tag) (value : T) →
+        IsRun first calls → cpu < cpus_of (lists_after first calls) →
+        IsRun first (Call.Queue cpu at value ∷ calls) }
+    ensures tend { (first : AllLists T) (calls : List (Call T)) (cpu : ℕ) (number : Number) →
+        IsRun first calls → cpu < cpus_of (lists_after first calls) →
+        IsRun first (Call.Tend cpu number ∷ calls) }
+    ensures run { (first : AllLists T) (calls : List (Call T)) (cpu most : ℕ) →
+        IsRun first calls → cpu < cpus_of (lists_after first calls) →
+        IsRun first (Call.Run cpu most ∷ calls) }
+    ensures migrate { (first : AllLists T) (calls : List (Call T)) (cpu : ℕ) →
+        IsRun first calls → 0 < cpu → cpu < cpus_of (lists_after first calls) →
+        IsRun first (Call.Migrate cpu ∷ calls) }
+    ensures begin { (first : AllLists T) (calls : List (Call T)) →
+        IsRun first calls → (lists_after first calls).running ≡ false →
+        IsRun first (Call.BarrierBegin ∷ calls) }
+    ensures visit { (first : AllLists T) (calls : List (Call T)) (cpu : ℕ) →
+        IsRun first calls → cpu < cpus_of (lists_after first calls) →
+        (lists_after first calls).running ≡ true → IsRun first (Call.Visit cpu ∷ calls) }
+    ensures test { (first : AllLists T) (calls : List (Call T)) →
+        IsRun first calls → (lists_after first calls).running ≡ true →
+        IsRun first (Call.BarrierTest ∷ calls) }
+    ensures renumber { (first : AllLists T) (calls : List (Call T)) →
+        IsRun first calls → IsRun first (Call.Renumber ∷ calls) }
+    ensures earlier { (first : AllLists T) (call : Call T) (calls : List (Call T)) →
+        IsRun first (call ∷ calls) → IsRun first calls }
 {}
 
 /// Lists are new before any call, and are not once a callback was queued.
