@@ -1,6 +1,6 @@
 //! What the laws of runs say of data: of stories, in which versions of a value are published and
 //! loaded between the events.
-ghost use Rattle.std.specs.Prelude.{◌≡◌, ◌≢◌, ◌∷◌, ◌++◌, ℕ, true, false};
+ghost use Rattle.std.specs.Prelude.{◌≡◌, ◌≢◌, ◌∷◌, ◌++◌, [], ℕ, true, false};
 ghost use Rattle.rcu_seq.specs.declared.cookie.Cookie.{Cookie};
 ghost use Rattle.rcu_core.specs.Replies.{Size};
 ghost use Rattle.rcu_core.specs.Runs.{IsLegalRun, takes};
@@ -25,6 +25,20 @@ pub fn a_section_holds_what_it_loaded()
     ensures beside { (cpu version loader : ℕ) (story : Story)
         → holds_version cpu version story ≡ true
         → holds_version cpu version (Load loader ∷ story) ≡ true }
+{}
+
+/// A story publishes a version exactly where it has that publication: the publication of another
+/// one, a load and an event with its reply publish nothing.
+pub fn a_story_publishes_what_it_has()
+    ensures none { (version : ℕ) → publishes version [] ≡ false }
+    ensures published { (version : ℕ) (later before : Story)
+        → publishes version (later ++ Publish version ∷ before) ≡ true }
+    ensures another { (version new : ℕ) (story : Story) → version ≢ new
+        → publishes version (Publish new ∷ story) ≡ publishes version story }
+    ensures loaded { (version cpu : ℕ) (story : Story)
+        → publishes version (Load cpu ∷ story) ≡ publishes version story }
+    ensures replied { (version : ℕ) (story : Story) (event : Event) (reply : Reply)
+        → publishes version (Replied event reply ∷ story) ≡ publishes version story }
 {}
 
 /// A version was replaced, and then a cookie was taken. When the cookie tests done, no open section
