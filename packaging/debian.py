@@ -78,7 +78,10 @@ def describe(fields, folder, version, time, build, sums):
     if os.path.exists(overrides):
         write(f"{folder}/usr/share/lintian/overrides/{name}", read(overrides))
     if name.startswith("librcu") and name[-1].isdigit():
-        write(f"{control}/shlibs", f"librcu {soname} {name} (>= {version})\n")
+        libraries = sorted({os.path.basename(it).partition(".so.")[0] for it in files_in(folder)
+                            if re.search(rf"/librcu[\w-]*\.so\.{soname}$", it)})
+        write(f"{control}/shlibs",
+              "".join(f"{it} {soname} {name} (>= {version})\n" for it in libraries))
         write(f"{control}/triggers", "activate-noawait ldconfig\n")
     sums = [(f"{folder}/{it}", it) for it in files_in(folder) if not it.startswith("DEBIAN")]
     plain = [it for it in sums if not os.path.islink(it[0])]

@@ -18,8 +18,12 @@ HEADER = re.sub(r"/\*.*?\*/", "", read("include/rcu.h"), flags=re.DOTALL)
 # The calls that the library gives, and those that the header gives.
 CALLS = set(re.findall(r"^\w+ (rcu_\w+)\([^;{]*\);$", HEADER, re.MULTILINE))
 GIVEN = set(re.findall(r"^static inline [^{;]*?\b(rcu_\w+)\(", HEADER, re.MULTILINE)) | CALLS
-LAID = sorted(["include/rcu.h", "lib/librcu.a", "lib/librcu.so", f"lib/librcu.so.{MAJOR}",
-               f"lib/librcu.so.{VERSION}", "lib/pkgconfig/rcu.pc", "share/man/man3/rcu.3",
+LIBRARIES = ["rcu", *(f"rcu-{it}" for it in ("bp", "memb", "mb", "qsbr"))]
+LAID = sorted(["include/rcu.h", "share/man/man3/rcu.3", "lib/cmake/rcu/rcu-config.cmake",
+               "lib/cmake/rcu/rcu-config-version.cmake",
+               *(f"lib/lib{it}.{end}" for it in LIBRARIES
+                 for end in ("a", "so", f"so.{MAJOR}", f"so.{VERSION}")),
+               *(f"lib/pkgconfig/{it}.pc" for it in LIBRARIES),
                *(f"share/man/man3/{it}.3" for it in GIVEN)])
 NEEDED = ["cc", "as", "ld", "objcopy", "nm", "readelf", "pkg-config"]
 
@@ -128,11 +132,12 @@ def try_compilers(folder, env):
 def try_page(folder, env):
     """The first program of docs/C.md, alone in a folder, by the line of the page."""
     page = read("docs/C.md")
-    text = re.search(r"```c examples/c/first\.c\n(.*?)```", page, re.DOTALL)[1]
+    name, text = re.search(r"```c bindings/\S+/(\S+\.c)\n(.*?)```", page, re.DOTALL).groups()
     line = re.search(r"(?m)^    (cc .*)$", page)[1]
-    write(f"{folder}/page/program.c", text)
-    try_program("the program of docs/C.md, by its own line", ["sh", "-c", line],
-                "examples/c/first.stdout", env, f"{folder}/page")
+    write(f"{folder}/page/{name}", text)
+    printed = write(f"{folder}/page/stdout", re.search(r"It prints: (.*) \*/", text)[1] + "\n")
+    try_program("the program of docs/C.md, by its own line", ["sh", "-c", line], printed, env,
+                f"{folder}/page")
 
 
 def try_rust(folder, env):
