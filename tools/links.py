@@ -3,8 +3,8 @@
 A page is a file '.md' of the repository. A link is relative: '[words](PATH#HEADING)', or '[words]'
 with a line '[words]: PATH#HEADING' at the page's end. A page that is named is a link; a heading
 that is named behind it, as in '[C.md] ("The fences")', stands there. A block whose first line ends
-in 'from FILE' has lines of that file, in their order; one that ends in a file of examples is that
-file. docs/README.md leads to each page.
+in 'from FILE' has lines of that file, in their order; one that ends in a file of a folder examples
+is that file. docs/README.md leads to each page.
 """
 import os
 import re
@@ -77,7 +77,7 @@ def blocks_that_are_no_lines_of_their_file():
     for page in pages():
         for head, block in FENCED.findall(read(page)):
             _, is_part, file = head.partition(" from ")
-            file = file or "".join(re.findall(r" (examples/\S+)$", head))
+            file = file or "".join(re.findall(r" ((?:bindings/\w+/)?examples/\S+)$", head))
             if not file:
                 continue
             text = read(file)
