@@ -1,7 +1,7 @@
 /* The proved grace-period engine, for programs in C (C11) and C++ (C++17). docs/C.md says how to
  * build and link with it, how a program publishes and unlinks its own data, and what is proved.
  *
- * What a caller owes, and nothing checks:
+ * The caller's duties, which nothing checks:
  * - A handle is all zero bits before it is opened, as in `rcu_t rcu = {0};`, and once it is closed.
  *   One that is open is not opened, nor read or written otherwise than by these calls. Between calls
  *   its bits may be moved, as memcpy, realloc or a move constructor does: from then on the new place
@@ -9,31 +9,31 @@
  * - One call at a time on each handle, and whatever one thread did to it comes before what the
  *   next one does: by a lock, by an atomic store of order release that a load of order acquire
  *   reads, or by starting and joining threads. Calls on different handles need no order among them.
- *   (What orders the caller's own data stands below.)
+ *   (For the order of the caller's own data see below.)
  * - No call is made in a signal handler, nor in the forked child of a process with threads.
  * - Pointers are not null, even to room for no value; what they point to lies apart from the
  *   handles and from one another, and is there for the call alone to read and write while it lasts.
- * - malloc, realloc and free are of one allocator, and align a block to 16 where that divides its
+ * - malloc, realloc and free are of one allocator, and align a block to 16 if that divides its
  *   size, else to the greatest power of two that does. They return (by no exception and no
  *   longjmp), and make no call on the handles of the call that they serve.
- * - "Needs" names what else must hold.
+ * - "Needs" names conditions besides.
  *
  * A call that returns a uint32_t without a word on it in its note returns 0, or the number of a
  * fault: of several that hold the first one that its note lists. A refused call leaves its handles
- * and what its pointers point to as they were; where a note says otherwise, it says what stays. No
+ * and what its pointers point to as they were; if a note says otherwise, it says what stays. No
  * call waits for another thread, and only those that list fault 16 take memory.
  *
  * Each call looks first whether its handles are open, and of the kind that it is for: the engine's,
- * and then the seat's. It is refused by 27 where one is closed, as all zero bits are, and by 28 where
- * one is of the other kind, as after a cast. The notes do not list these two. A call that returns no
+ * and then the seat's. It is refused by 27 if one is closed, as all zero bits are, and by 28 if one
+ * is of the other kind, as after a cast. The notes do not list these two. A call that returns no
  * fault changes nothing then either, and its note says what it returns. (An opening does not look at
  * the handle that it opens.)
  *
- * What orders the caller's own data. A publication and an unlink are atomic stores of order release
+ * The order of the caller's own data. A publication and an unlink are atomic stores of order release
  * or stronger, and a reader loads such a pointer by order acquire or stronger; nothing more is
- * asked. "Comes before" is what C calls happens before; a section "sees" what a thread did where
- * its loads give what that stored, or what was stored later. The notes say what each call adds to
- * the lock; docs/C.md says it together.
+ * needed. "Comes before" is what C calls happens before; a section "sees" what a thread did if its
+ * loads give what that stored, or what was stored later. The notes say what each call adds to the
+ * lock; docs/C.md has the whole.
  *
  * "Fence" says where a call makes a full fence, which this header adds. The archive has the call
  * without it, under its name with _unfenced behind, and no call of the plain name. A note says what
@@ -177,17 +177,18 @@ typedef struct rcu_seat {
     unsigned char *at;
 } rcu_seat_t;
 
-/* What tells an engine from any other: who opens it gives it, and its seats have it too. */
+/* The identity of an engine, which no other engine of the process has: its opener gives it, and its
+ * seats have it too. */
 typedef struct rcu_identity {
-    uint64_t place; /* who counts: no two that count have the same */
-    uint64_t count; /* which of the engines that were opened there it is */
+    uint64_t place; /* the place of the counter: no two counters have the same */
+    uint64_t count; /* which of the engines that this counter numbered it is */
 } rcu_identity_t;
 
 /* What a turn did. */
 typedef struct rcu_turn {
     uint32_t what;    /* an rcu_turned */
-    uint32_t awaited; /* how many processors are awaited, where it began one or waits; else 0 */
-    uint64_t number;  /* the number, where a grace period began or ended; else 0 */
+    uint32_t awaited; /* how many processors are awaited, if it began one or waits; else 0 */
+    uint64_t number;  /* the number, if a grace period began or ended; else 0 */
 } rcu_turn_t;
 
 /* A replica's handle, for one thread at a time. Handles may pass between threads. */
@@ -201,10 +202,10 @@ typedef struct rcu_map_sizes {
     uint64_t nodes;   /* how many entries there is room for at a time, plus `buckets`: each bucket
                        * takes one. An entry that was replaced or removed keeps its own until a
                        * grace period is over */
-    uint64_t seed;    /* what decides which bucket a key is in: draw it at random where others
-                       * choose the keys */
-    uint64_t words;   /* how many words an entry has, 2 or more, of which word 0 is its key. 0
-                       * stands for 2: a key and a value */
+    uint64_t seed;    /* the seed of the hash that assigns keys to buckets: draw it at random if
+                       * others choose keys */
+    uint64_t words;   /* how many words an entry has, 2 or more, of which word 0 is its key. 0 means
+                       * 2: a key and a value */
 } rcu_map_sizes_t;
 
 /* <<< */
@@ -232,7 +233,7 @@ static inline void rcu_fence(void) {
 
 /* Marks for the thread sanitizer: what came before a release of a place comes before what follows
  * an acquire of it. It sees neither the archive's steps nor a fence, so a program that is to run
- * under it tells it of an order that calls make. docs/C.md says where. Else the marks do nothing. */
+ * under it marks the order that calls make. docs/C.md says where. Else the marks do nothing. */
 #if defined(__SANITIZE_THREAD__)
 #define RCU_THREAD_SANITIZER 1
 #elif defined(__has_feature)
@@ -265,44 +266,44 @@ void __tsan_acquire(void *place);
  * The identity is one that no other engine of the process has: an engine takes no seat of another
  * one (26), and compares identities for that. rcu_open makes it, of a counter and the place of
  * that. A program in another language makes its own.
- * Faults: 17 for no processor or more than 4,096; 19 where `last` is no such number; 16. */
+ * Faults: 17 for no processor or more than 4,096; 19 if `last` is no such number; 16. */
 uint32_t rcu_open_as(uint32_t cpus, uint64_t last, rcu_identity_t identity, rcu_t *rcu);
 
 /* Opens an engine as rcu_open_as, with a map of these sizes, which is empty. Each of its seats
  * reads it. Needs: `rcu` is closed.
- * Faults: 29 where there is no bucket, an entry has one word, there are fewer nodes than buckets,
- * or more than 2^32 words in all, an entry's and one more a node; 17 for no processor or more than
- * 4,096; 19 where `last` is no such number; 16. */
+ * Faults: 29 if there is no bucket, an entry has one word, there are fewer nodes than buckets, or
+ * more than 2^32 words in all, an entry's and one more a node; 17 for no processor or more than
+ * 4,096; 19 if `last` is no such number; 16. */
 uint32_t rcu_open_map_as(uint32_t cpus, uint64_t last, rcu_identity_t identity,
                          const rcu_map_sizes_t *sizes, rcu_t *rcu);
 
 /* Closes an engine, and frees all that it has; values that are still queued are not handed out.
- * Seats that are open go on, and are closed in turn. Of a handle that is no open engine's it does
+ * Seats that are open go on, and are closed in turn. If `rcu` is not an open engine, it does
  * nothing. Needs: `rcu` is under the caller's lock. */
 void rcu_close(rcu_t *rcu);
 
-/* Deals the seat of a processor; each has one. That of processor 0 is online at first, any other
- * offline; one that was handed back is as it was then. Processor 0 is awaited like any other: where
+/* Deals the seat of a processor; each has one. The seat of processor 0 is online at first, any
+ * other offline; one that was returned is as it was then. Processor 0 is awaited like any other: if
  * no thread reads on it, make its seat idle once. Needs: `rcu` is under the caller's lock, and
  * `seat` is closed.
- * Faults: 1 where there is no such processor; 25 where its seat is dealt; 16. */
+ * Faults: 1 if there is no such processor; 25 if its seat is dealt; 16. */
 uint32_t rcu_seat_open(rcu_t *rcu, uint32_t cpu, rcu_seat_t *seat);
 
-/* Whether rcu_seat_open can deal the seat of the processor: there is such a processor, and its seat
- * is not dealt. False, too, where `rcu` is no open engine's. Needs: `rcu` is under the caller's
+/* Returns whether rcu_seat_open can deal the seat of the processor: there is such a processor, and
+ * its seat is not dealt. False if `rcu` is not an open engine. Needs: `rcu` is under the caller's
  * lock. */
 bool rcu_has_seat(rcu_t *rcu, uint32_t cpu);
 
-/* Hands a seat back to its engine, which can deal it again, and closes it: for a thread that ends.
- * Its processor stays as it is: depart first, or, where it is processor 0, make it idle. Else each
- * grace period waits until another thread has the seat. Needs: `rcu` is under the caller's lock,
- * and `seat` is in no other call.
+/* Returns a seat to its engine, which can deal it again, and closes it: for a thread that ends. Its
+ * processor stays as it is: depart first, or make processor 0 idle. Else each grace period waits
+ * until another thread has the seat. Needs: `rcu` is under the caller's lock, and `seat` is in no
+ * other call.
  * Fault 26: the seat is of another engine. */
 uint32_t rcu_seat_return(rcu_t *rcu, rcu_seat_t *seat);
 
 /* Closes a seat, which its engine does not deal again: for when the engine goes. Its processor
- * stays as it is: one that is online is awaited by each grace period that begins, for good. Of a
- * handle that is no open seat's it does nothing. */
+ * stays as it is: one that is online is awaited by each grace period that begins, for good. If
+ * `seat` is not an open seat, it does nothing. */
 void rcu_seat_close(rcu_seat_t *seat);
 
 /* ---- grace periods: `rcu` is under the caller's lock */
@@ -312,15 +313,15 @@ void rcu_seat_close(rcu_seat_t *seat);
  * how many it awaits.
  * Of each section one of two holds: all of it comes before what follows the end of this grace
  * period, or it sees what came before this call.
- * Faults: 8 where one runs; 11 where the number is the last one. */
+ * Faults: 8 if one runs; 11 if the number is the last one. */
 uint32_t rcu_begin(rcu_t *rcu, uint64_t *number, uint32_t *awaited);
 
 /* Ends the grace period. Writes the new number.
- * What a thread stored before an rcu_seat_poll that found the number below the new one is seen by
- * what follows this call: so a waiter that stores a wish to be woken, and then polls, is found. The
- * same holds of rcu_seat_take and rcu_seat_quiesce. Unfenced, it is sure to be seen by sequentially
- * consistent loads alone.
- * Faults: 9 where none runs; 10 where a processor is awaited.
+ * All that a thread stored before an rcu_seat_poll that found the number below the new one is seen
+ * by what follows this call: so a waiter that stores a request to be woken, and then polls, is
+ * found. The same holds of rcu_seat_take and rcu_seat_quiesce. Unfenced, it is sure to be seen by
+ * sequentially consistent loads alone.
+ * Faults: 9 if none runs; 10 if a processor is awaited.
  * Fence: behind. */
 uint32_t rcu_end_unfenced(rcu_t *rcu, uint64_t *number);
 static inline uint32_t rcu_end(rcu_t *rcu, uint64_t *number) {
@@ -329,8 +330,8 @@ static inline uint32_t rcu_end(rcu_t *rcu, uint64_t *number) {
     return result;
 }
 
-/* Ends the grace period where nobody is awaited; begins one where none runs and a tended callback
- * waits for it. Writes what it did.
+/* Ends the grace period if nobody is awaited; begins one if none runs and a tended callback waits
+ * for it. Writes what it did.
  * It orders what rcu_begin or rcu_end orders.
  * Fault 11: one would begin, and the number is the last one.
  * Fence: behind. */
@@ -341,24 +342,24 @@ static inline uint32_t rcu_turn(rcu_t *rcu, rcu_turn_t *turn) {
     return result;
 }
 
-/* Looks whether the processor passed a quiescent state in the grace period, or is offline or idle,
- * and then awaits it no more. Writes an rcu_collected.
- * Where it finds one, the departure or the idleness, what the thread did before that comes before
- * what follows this call; so too where a begin finds it.
+/* Collects from the processor: if it passed a quiescent state in the grace period, or is offline or
+ * idle, it is awaited no more. Writes an rcu_collected.
+ * If it finds the quiescent state, the departure or the idleness, all that the thread did before
+ * that comes before what follows this call. The same holds if a begin finds it.
  * A processor that was idle at the begin and woke since is found "not yet", and is not awaited:
- * whether one is awaited, rcu_awaits tells.
+ * rcu_awaits says whether one is awaited.
  * Fault 1: there is no such processor. */
 uint32_t rcu_collect(rcu_t *rcu, uint32_t cpu, uint32_t *found);
 
 /* ---- processors that come and go: `rcu` is under the caller's lock, and `seat` is in no other
  * call */
 
-/* The seat's processor comes online.
+/* Brings the seat's processor online.
  * A section may open once it returns. A grace period that begins later awaits the processor. Of one
  * that runs already the section sees what came before its begin, and what a thread did before it
  * took a cookie that is done at its end. Unfenced, what came before an rcu_seat_take is sure to be
  * seen by sequentially consistent loads alone.
- * Faults: 26 where the seat is of another engine; 3 where the processor is online.
+ * Faults: 26 if the seat is of another engine; 3 if the processor is online.
  * Fence: behind. */
 uint32_t rcu_arrive_unfenced(rcu_t *rcu, rcu_seat_t *seat);
 static inline uint32_t rcu_arrive(rcu_t *rcu, rcu_seat_t *seat) {
@@ -367,46 +368,48 @@ static inline uint32_t rcu_arrive(rcu_t *rcu, rcu_seat_t *seat) {
     return result;
 }
 
-/* The seat's processor goes offline, and its callbacks move to processor 0, at a step for each.
+/* Takes the seat's processor offline, and moves its callbacks to processor 0, at a step for each.
  * Writes how many.
- * What the thread did before comes before what follows the collection or the begin that finds it
- * offline.
- * Faults: 26 where the seat is of another engine; 12 for processor 0; 4 where a section is open; 2
- * where it was offline and has no callback; 16. At 2 nothing has changed that a call tells. At 16
- * the processor is offline, and its callbacks stay: the same call again moves them. */
+ * All that the thread did before comes before what follows the collection or the begin that finds
+ * it offline.
+ * Faults: 26 if the seat is of another engine; 12 for processor 0; 4 if a section is open; 2 if it
+ * was offline and has no callback; 16. At 2 no call sees a change. At 16 the processor is offline,
+ * and its callbacks stay: the same call again moves them. */
 uint32_t rcu_depart(rcu_t *rcu, rcu_seat_t *seat, uint64_t *moved);
 
-/* ---- what an engine says of itself: `rcu` is under the caller's lock. What is no open engine has
- * no processor, and its number is 0. */
+/* ---- queries of an engine: `rcu` is under the caller's lock. On a handle that is not an open
+ * engine they return 0 or false, unless the note says otherwise. */
 
-/* How many processors the engine has. */
+/* Returns how many processors the engine has. */
 uint32_t rcu_cpus(rcu_t *rcu);
 
-/* The grace-period number: 4 for each grace period that ended, and 1 more while one runs. */
+/* Returns the grace-period number: 4 for each grace period that ended, and 1 more while one
+ * runs. */
 uint64_t rcu_number(rcu_t *rcu);
 
-/* Whether a grace period runs. */
+/* Returns whether a grace period runs. */
 bool rcu_running(rcu_t *rcu);
 
-/* Whether the engine has the processor as online: false too where there is no such processor. */
+/* Returns whether the engine has the processor as online. False if there is no such processor. */
 bool rcu_online(rcu_t *rcu, uint32_t cpu);
 
-/* Whether the processor is awaited: false too where there is no such processor. */
+/* Returns whether the running grace period awaits the processor. False if there is no such
+ * processor. */
 bool rcu_awaits(rcu_t *rcu, uint32_t cpu);
 
-/* How many processors are awaited. */
+/* Returns how many processors the running grace period awaits. */
 uint32_t rcu_awaited(rcu_t *rcu);
 
-/* Takes a cookie: the number at which a grace period that begins from now on has ended. It asks for
- * none: somebody begins one (rcu_begin, or rcu_turn where a tended callback waits). 2^64 - 1, which
- * is done nowhere, where `rcu` is no open engine's. */
+/* Takes a cookie: the number at which a grace period that begins from now on has ended. It requests
+ * no grace period: begin one (rcu_begin, or rcu_turn if a tended callback waits). Returns 2^64 - 1,
+ * which is never done, if `rcu` is not an open engine. */
 uint64_t rcu_take(rcu_t *rcu);
 
-/* Whether a cookie is done: the number has reached it. Then each section that was open at the
- * taking has ended. Of a number that no taking gave nothing is said but that. False where `rcu` is
- * no open engine's.
- * Where it returns true, of each section one of two holds: all of it comes before what follows this
- * call, or it sees what the thread that took did before it took. */
+/* Returns whether a cookie is done: the number has reached it, so each section that was open at its
+ * taking has ended. For a number that no taking returned, the result means no more than that the
+ * number has reached it. False if `rcu` is not an open engine.
+ * If it returns true, of each section one of two holds: all of it comes before what follows this
+ * call, or it sees what the thread that took the cookie did before it took it. */
 bool rcu_poll(rcu_t *rcu, uint64_t cookie);
 
 /* ---- callbacks, which are values of 64 bits: `rcu` is under the caller's lock */
@@ -415,24 +418,23 @@ bool rcu_poll(rcu_t *rcu, uint64_t cookie);
  * the room that it ever had, until rcu_shrink or rcu_close.
  * Of each section one of two holds: all of it comes before what follows the rcu_run that hands the
  * value out, or it sees what the thread did before this call.
- * Faults: 1 where there is no such processor; 2 where it is not online; 15 where 2^62 were queued;
- * 16. */
+ * Faults: 1 if there is no such processor; 2 if it is not online; 15 if 2^62 were queued; 16. */
 uint32_t rcu_queue(rcu_t *rcu, uint32_t cpu, uint64_t value, uint64_t *place);
 
-/* Sets what the processor's callbacks wait for, and which are done: to be called after queueing, so
- * that a turn begins a grace period for them, and after its end. Writes how many are done and how
- * many wait.
+/* Sets what the processor's callbacks wait for, and which are done. Call it after queueing, so that
+ * a turn begins a grace period for them, and after its end. Writes how many are done and how many
+ * wait.
  * Fault 1: there is no such processor. */
 uint32_t rcu_tend(rcu_t *rcu, uint32_t cpu, uint64_t *done, uint64_t *waiting);
 
 /* Hands out done callbacks of the processor, in order, `room` at most: writes their values from
- * `values` on, where there is room for so many, and how many; what lies behind them stays. A full
- * grace period has passed since each was queued, and none is handed out again. Takes no memory.
+ * `values` on, and how many they are; the rest of the room stays. A full grace period has passed
+ * since each was queued, and none is handed out again. Takes no memory.
  * Fault 1: there is no such processor. */
 uint32_t rcu_run(rcu_t *rcu, uint32_t cpu, uint64_t *values, size_t room, uint64_t *count);
 
 /* Gives back the memory that the processor's list does not need, at a step for each item that
- * stays. Writes for how many items, callbacks and markers, it has room then: for none where it is
+ * stays. Writes for how many items, callbacks and markers, it has room then: for none if it is
  * empty.
  * Fault 1: there is no such processor. */
 uint32_t rcu_shrink(rcu_t *rcu, uint32_t cpu, uint64_t *room);
@@ -443,55 +445,54 @@ uint32_t rcu_shrink(rcu_t *rcu, uint32_t cpu, uint64_t *room);
  * Fault 13: one runs. */
 uint32_t rcu_barrier_begin(rcu_t *rcu);
 
-/* The barrier visits a processor, as it has to visit each, also those offline. Writes an
+/* Has the barrier visit a processor; it has to visit each, also those offline. Writes an
  * rcu_visited.
- * Faults: 1 where there is no such processor; 14 where none runs; 16, only where it would mark. */
+ * Faults: 1 if there is no such processor; 14 if none runs; 16, only if it would mark. */
 uint32_t rcu_barrier_visit(rcu_t *rcu, uint32_t cpu, uint32_t *did);
 
 /* Tests the barrier. Writes how many markers and unvisited processors are left; at 0 it is over,
  * and each callback that was queued before it began was handed out.
- * Handed out is not processed: what is done with a value comes before what follows this call where
- * it is done under the lock under which rcu_run handed the value out. Else the caller counts what
- * was processed, and waits for that too.
+ * Handed out is not processed: what is done with a value comes before what follows this call if it
+ * is done under the lock under which rcu_run handed the value out. Else the caller counts what was
+ * processed, and waits for that too.
  * Fault 14: none runs. */
 uint32_t rcu_barrier_test(rcu_t *rcu, uint64_t *left);
 
 /* ---- a thread by its seat, with no lock, beside all calls on other handles. No call here waits or
  * takes memory. */
 
-/* The seat's processor. 2^32 - 1, which is none, where `seat` is no open seat's. */
+/* Returns the seat's processor, or 2^32 - 1, which is none, if `seat` is not an open seat. */
 uint32_t rcu_seat_cpu(rcu_seat_t *seat);
 
-/* How deep the read sections of the seat nest: 0 where none is open, also where `seat` is no open
- * seat's. */
+/* Returns how deep the read sections of the seat nest: 0 if none is open, or if `seat` is not an
+ * open seat. */
 uint32_t rcu_seat_depth(rcu_seat_t *seat);
 
-/* Whether the seat's processor is online, be it awake or idle. False where `seat` is no open
- * seat's. */
+/* Returns whether the seat's processor is online, awake or idle. False if `seat` is not an open
+ * seat. */
 bool rcu_seat_is_online(rcu_seat_t *seat);
 
-/* Whether the seat's processor is idle. False where `seat` is no open seat's. */
+/* Returns whether the seat's processor is idle. False if `seat` is not an open seat. */
 bool rcu_seat_is_idle(rcu_seat_t *seat);
 
 /* Opens a read section by one load, or nests one deeper in the open one by none. Writes the depth.
- * Faults: 2 where the processor is offline; 23 where it is idle; 6 where the depth is 65,535. */
+ * Faults: 2 if the processor is offline; 23 if it is idle; 6 if the depth is 65,535. */
 uint32_t rcu_seat_enter(rcu_seat_t *seat, uint32_t *depth);
 
-/* Leaves the innermost section. Writes the depth: 0 where one load closed the section.
+/* Leaves the innermost section. Writes the depth, which is 0 if one load closed the section.
  * Neither this nor rcu_seat_enter orders what the thread stores: what a section did comes before
  * the next quiescent state or departure.
  * Fault 5: no section is open. */
 uint32_t rcu_seat_exit(rcu_seat_t *seat, uint32_t *depth);
 
-/* Passes a quiescent state, by one load and one store: what the thread read before, it uses no
- * more. Writes the number that it saw.
- * What the thread did before comes before what follows the collection or the begin that finds this
- * call. The sections that follow see what came before a begin whose number it saw, and what a
- * thread did before it took a cookie that such a grace period makes done. A full fence stands
- * before the look, so the number tests a cookie as rcu_seat_poll does. Unfenced the last does not
- * hold, and what came before an rcu_seat_take is sure to be seen by sequentially consistent loads
- * alone.
- * Faults: 2 where the processor is offline; 23 where it is idle; 4 where a section is open.
+/* Passes a quiescent state, by one load and one store: from here on the thread uses nothing that it
+ * read before. Writes the number that it saw.
+ * All that the thread did before comes before what follows the collection or the begin that finds
+ * this call. The sections that follow see what came before a begin whose number it saw, and what a
+ * thread did before it took a cookie that such a grace period makes done. A full fence precedes the
+ * load, so the number tests a cookie as rcu_seat_poll does. Unfenced the last does not hold, and
+ * what came before an rcu_seat_take is sure to be seen by sequentially consistent loads alone.
+ * Faults: 2 if the processor is offline; 23 if it is idle; 4 if a section is open.
  * Fence: before and behind. */
 uint32_t rcu_seat_quiesce_unfenced(rcu_seat_t *seat, uint64_t *number);
 static inline uint32_t rcu_seat_quiesce(rcu_seat_t *seat, uint64_t *number) {
@@ -501,18 +502,18 @@ static inline uint32_t rcu_seat_quiesce(rcu_seat_t *seat, uint64_t *number) {
     return result;
 }
 
-/* Passes a quiescent state by a load alone, where the last one still serves: where the number is
- * the one that the seat's last rcu_seat_quiesce, rcu_seat_wake, rcu_arrive or call of this saw,
- * this call stores nothing. No grace period began or ended since, so the processor is quiet for as
- * much as it would be. Else it is as rcu_seat_quiesce. Writes the number that it saw.
- * `number` has what the seat's last rcu_seat_quiesce, rcu_seat_wake or call of this wrote, or 0.
- * Where that is the number still, this call makes no fence: the one that wrote it made one, or no
- * grace period was ever. The sections that follow see the same as after rcu_seat_quiesce. No fence
- * stands before the look: its number tests no cookie for a thread that stored a wish to be woken.
- * Unfenced, they are sure to see what came before an rcu_seat_take by sequentially consistent loads
- * alone.
- * Faults: 2 where the processor is offline; 23 where it is idle; 4 where a section is open.
- * Fence: behind where `number` changed. */
+/* Passes a quiescent state by a load alone, if the last one still counts: if the number is the one
+ * that the seat's last rcu_seat_quiesce, rcu_seat_wake, rcu_arrive or call of this saw, it stores
+ * nothing. No grace period began or ended since, so the earlier report still counts. Else it does
+ * what rcu_seat_quiesce does. Writes the number that it saw.
+ * `number` has what the seat's last rcu_seat_quiesce, rcu_seat_wake or call of this wrote, or 0. If
+ * that is still the number, this call executes no fence: the call that wrote it executed the fence,
+ * or no grace period has begun yet. The sections that follow see the same as after
+ * rcu_seat_quiesce. No fence precedes the load: its number tests no cookie for a thread that stored
+ * a request to be woken. Unfenced, they are sure to see what came before an rcu_seat_take by
+ * sequentially consistent loads alone.
+ * Faults: 2 if the processor is offline; 23 if it is idle; 4 if a section is open.
+ * Fence: behind if `number` changed. */
 uint32_t rcu_seat_quiesce_since_unfenced(rcu_seat_t *seat, uint64_t *number);
 static inline uint32_t rcu_seat_quiesce_since(rcu_seat_t *seat, uint64_t *number) {
     uint64_t last = *number;
@@ -523,14 +524,14 @@ static inline uint32_t rcu_seat_quiesce_since(rcu_seat_t *seat, uint64_t *number
 
 /* Renews the open section: closes it, passes a quiescent state, and opens the next one, by two
  * loads. For a thread that reads all the time: it keeps one section open, and makes this call
- * between two looks at the data. What it read before, it uses no more. Writes the number of the
- * quiescent state.
- * Where the number is the one of the seat's last quiescent state, wake or renewal, it stores
- * nothing. `number` is as in rcu_seat_quiesce_since, and so are the order and the fence. The
- * section that follows is one of those that "follow".
- * Faults: 2 where the processor is offline; 23 where it is idle; 5 where no section is open; 4
- * where the open one nests.
- * Fence: behind where `number` changed. */
+ * between two looks at the data. From here on it uses nothing that it read before. Writes the
+ * number of the quiescent state.
+ * If the number is the one of the seat's last quiescent state, wake or renewal, it stores nothing.
+ * `number` is as in rcu_seat_quiesce_since, and so are the order and the fence. The section that
+ * follows is one of those that "follow".
+ * Faults: 2 if the processor is offline; 23 if it is idle; 5 if no section is open; 4 if the open
+ * one nests.
+ * Fence: behind if `number` changed. */
 uint32_t rcu_seat_renew_unfenced(rcu_seat_t *seat, uint64_t *number);
 static inline uint32_t rcu_seat_renew(rcu_seat_t *seat, uint64_t *number) {
     uint64_t last = *number;
@@ -539,21 +540,21 @@ static inline uint32_t rcu_seat_renew(rcu_seat_t *seat, uint64_t *number) {
     return result;
 }
 
-/* The processor gets idle by one store, until it wakes or departs: it opens no section, and no
+/* Makes the processor idle by one store, until it wakes or departs: it opens no section, and no
  * grace period waits for it. It stays online, and its callbacks stay. For a thread that is about to
  * block.
- * What the thread did before comes before what follows the collection or the begin that finds it
- * idle.
- * Faults: 2 where the processor is offline; 23 where it is idle; 4 where a section is open. */
+ * All that the thread did before comes before what follows the collection or the begin that finds
+ * it idle.
+ * Faults: 2 if the processor is offline; 23 if it is idle; 4 if a section is open. */
 uint32_t rcu_seat_idle(rcu_seat_t *seat);
 
-/* The processor wakes, by one load and one store. Writes the number that it saw.
+/* Wakes the processor, by one load and one store. Writes the number that it saw.
  * A section may open once it returns. A grace period that begins later awaits the processor. Of one
  * that found it idle, or whose number it saw, the section sees what came before its begin, and what
  * a thread did before it took a cookie that is done at its end. Unfenced, what came before an
- * rcu_seat_take is sure to be seen by sequentially consistent loads alone. No fence stands before
- * the look: who stored a wish to be woken polls by rcu_seat_poll, and not by this number.
- * Faults: 2 where the processor is offline; 24 where it is awake.
+ * rcu_seat_take is sure to be seen by sequentially consistent loads alone. No fence precedes the
+ * load: a thread that stored a request to be woken polls by rcu_seat_poll, and not by this number.
+ * Faults: 2 if the processor is offline; 24 if it is awake.
  * Fence: behind. */
 uint32_t rcu_seat_wake_unfenced(rcu_seat_t *seat, uint64_t *number);
 static inline uint32_t rcu_seat_wake(rcu_seat_t *seat, uint64_t *number) {
@@ -563,8 +564,9 @@ static inline uint32_t rcu_seat_wake(rcu_seat_t *seat, uint64_t *number) {
 }
 
 /* Takes a cookie, as rcu_take, at the number that one load sees, which no later load is below. In a
- * section or not, online or not. 2^64 - 1, which is done nowhere, where `seat` is no open seat's.
- * A full fence stands between what the thread did before, as an unlink, and that load. Unfenced, a
+ * section or not, online or not. Returns 2^64 - 1, which is never done, if `seat` is not an open
+ * seat.
+ * A full fence lies between what the thread did before, as an unlink, and that load. Unfenced, a
  * section may still come to what was unlinked once the cookie is done.
  * Fence: before. */
 uint64_t rcu_seat_take_unfenced(rcu_seat_t *seat);
@@ -573,12 +575,12 @@ static inline uint64_t rcu_seat_take(rcu_seat_t *seat) {
     return rcu_seat_take_unfenced(seat);
 }
 
-/* Whether a cookie is done, as rcu_poll, at the number that one load sees, which no later load is
- * below. In a section or not, online or not. False where `seat` is no open seat's.
- * Where it returns false, what the thread stored before it is seen by what follows the rcu_end, the
- * rcu_turn or the rcu_seat_poll that makes or finds the cookie done. Unfenced it is not: a thread
- * that stores a wish to be woken, polls, and sleeps may sleep for good.
- * Fence: before, and behind where it returns true. */
+/* Returns whether a cookie is done, as rcu_poll, at the number that one load sees, which no later
+ * load is below. In a section or not, online or not. False if `seat` is not an open seat.
+ * If it returns false, all that the thread stored before it is seen by what follows the rcu_end,
+ * the rcu_turn or the rcu_seat_poll that makes or finds the cookie done. Unfenced it is not: a
+ * thread that stores a request to be woken, polls, and sleeps may sleep for good.
+ * Fence: before, and behind if it returns true. */
 bool rcu_seat_poll_unfenced(rcu_seat_t *seat, uint64_t cookie);
 static inline bool rcu_seat_poll(rcu_seat_t *seat, uint64_t cookie) {
     rcu_fence();
@@ -589,19 +591,19 @@ static inline bool rcu_seat_poll(rcu_seat_t *seat, uint64_t cookie) {
 
 /* ---- links in nodes of the caller's own, deferred by a seat alone, as the values are. Each is a
  * number here, its address, which no call follows: rcu_defer_link and rcu_defer_take write and read
- * what links one to the next. The nodes stay the caller's where a seat or an engine closes. */
+ * what links one to the next. The nodes stay the caller's if a seat or an engine closes. */
 
-/* Defers a link, behind all others: rcu_defer_link stands on it. Writes the link before it, 0 where
- * none is left of those.
+/* Defers a link, behind all others; rcu_defer_link is built on it. Writes the link before it, or 0
+ * if none is left.
  * Fault 15: 2^62 were deferred. */
 uint32_t rcu_links_push(rcu_seat_t *seat, uint64_t link, uint64_t *last);
 
-/* The first link where it is known to be done, with no look at the number: else 0, also where
- * `seat` is no open seat's. */
+/* Returns the first link if it is known to be done, with no look at the number. Else 0, and if
+ * `seat` is not an open seat. */
 uint64_t rcu_links_ready(rcu_seat_t *seat);
 
-/* The first link that is done, after one look at the number: those that were deferred since the
- * last look wait from now on. 0 where none is done, and where `seat` is no open seat's.
+/* Returns the first link that is done, after one look at the number: those that were deferred since
+ * the last look wait from now on. 0 if none is done, or if `seat` is not an open seat.
  * Fence: before. */
 uint64_t rcu_links_tend_unfenced(rcu_seat_t *seat);
 static inline uint64_t rcu_links_tend(rcu_seat_t *seat) {
@@ -609,15 +611,15 @@ static inline uint64_t rcu_links_tend(rcu_seat_t *seat) {
     return rcu_links_tend_unfenced(seat);
 }
 
-/* Takes the first link out, where it is done: this one is the first from now on. Whether it was
- * done: false, too, where `seat` is no open seat's. */
+/* Takes the first link out, if it is done: `next` is the first one from now on. Returns whether it
+ * was done; false if `seat` is not an open seat. */
 bool rcu_links_pop(rcu_seat_t *seat, uint64_t next);
 
-/* ---- what a thread defers by its seat alone, with no lock, beside all calls on other handles:
- * values of 64 bits, each in order. In a section or not, online or not.
- * They go with the seat: they stay where its processor departs, and where the seat is handed back,
- * for who has it next. rcu_seat_close and rcu_close forget those that were not handed out. No call
- * here asks for a grace period: who drives gets the cookie of rcu_defer_cookie, for
+/* ---- deferral by a thread's seat alone, with no lock, beside all calls on other handles: of
+ * values of 64 bits, in order. In a section or not, online or not.
+ * They belong to the seat: they stay if its processor departs, and if the seat is returned, for the
+ * next thread that has it. rcu_seat_close and rcu_close forget those that were not handed out. No
+ * call here requests a grace period: the driver gets the cookie of rcu_defer_cookie, for
  * rcu_drive_for. */
 
 /* Defers a value, behind those that the seat has: with no look at the number, and no fence. The
@@ -625,16 +627,15 @@ bool rcu_links_pop(rcu_seat_t *seat, uint64_t next);
  * Of each section one of two holds: all of it comes before what follows the rcu_defer_run that
  * hands the value out, or it sees what the thread did before the first rcu_defer_run after this
  * call.
- * Faults: 15 where 2^62 were deferred; 16. */
+ * Faults: 15 if 2^62 were deferred; 16. */
 uint32_t rcu_defer(rcu_seat_t *seat, uint64_t value);
 
-/* Hands out values that were deferred, in order, `room` at most, after one look at the number:
+/* Hands out deferred values that are done, in order, `room` at most, after one look at the number:
  * those that were deferred before an earlier call of this, since which a full grace period has
- * passed. Writes them from `values` on, where there is room for so many, and how many; what lies
- * behind them stays. The others wait from now on for a grace period that begins later. Takes no
- * memory.
- * A full fence stands before the look. Unfenced, a section may still come to what was unlinked once
- * its value is handed out.
+ * passed. Writes them from `values` on, and how many they are; the rest of the room stays. The
+ * others wait from now on for a grace period that begins later. Takes no memory.
+ * A full fence precedes the look. Unfenced, a section may still come to what was unlinked once its
+ * value is handed out.
  * Fence: before. */
 uint32_t rcu_defer_run_unfenced(rcu_seat_t *seat, uint64_t *values, size_t room, uint64_t *count);
 static inline uint32_t rcu_defer_run(rcu_seat_t *seat, uint64_t *values, size_t room,
@@ -643,25 +644,27 @@ static inline uint32_t rcu_defer_run(rcu_seat_t *seat, uint64_t *values, size_t 
     return rcu_defer_run_unfenced(seat, values, room, count);
 }
 
-/* How many values and links were deferred and not handed out. 0 where `seat` is no open seat's. */
+/* Returns how many values and links were deferred and not handed out. 0 if `seat` is not an open
+ * seat. */
 uint64_t rcu_defer_count(rcu_seat_t *seat);
 
-/* The cookie at which all can be handed out that was deferred before the seat's last look, by
- * rcu_defer_run at values and by rcu_defer_take at links. 1, which is done at any time, where none
- * of it waits, and where `seat` is no open seat's. */
+/* Returns the cookie at which all can be handed out that was deferred before the seat's last look,
+ * by rcu_defer_run at values and by rcu_defer_take at links. Returns 1, which is always done, if
+ * none of it waits, or if `seat` is not an open seat. */
 uint64_t rcu_defer_cookie(rcu_seat_t *seat);
 
 /* Gives back the memory that the values do not need, at a step for each that stays. Writes for how
- * many there is room then: for none where there is none. */
+ * many there is room then: for none if there is none. */
 uint32_t rcu_defer_shrink(rcu_seat_t *seat, uint64_t *room);
 
-/* ---- a driver's calls: `rcu` is under the caller's lock */
+/* ---- calls of the driver, the thread that makes grace periods: `rcu` is under the caller's
+ * lock */
 
 /* One step of driving. While a grace period runs it collects from each processor that is awaited;
- * where none runs it begins one if a tended callback or an rcu_start_poll waits for it. Then it
- * ends one that awaits nobody. Writes what it did. It costs a load for each processor that is
- * awaited, and where one begins a load a processor.
- * Who drives calls this again and again, and lets other threads run in between where it awaits
+ * if none runs it begins one if a tended callback or an rcu_start_poll waits for it. Then it ends
+ * one that awaits nobody. Writes what it did. It costs a load for each processor that is awaited,
+ * and at a begin a load a processor.
+ * The driver calls this again and again, and lets other threads run in between while it awaits
  * someone. It orders what rcu_begin, rcu_collect and rcu_end order.
  * Fault 11: one would begin, and the number is the last one.
  * Fence: behind. */
@@ -672,9 +675,9 @@ static inline uint32_t rcu_drive(rcu_t *rcu, rcu_turn_t *turn) {
     return result;
 }
 
-/* One step of driving for who waits for a cookie, as rcu_drive: where no grace period runs it
- * begins one if the cookie is not done. It asks for no callback, and for no other cookie. Called
- * until the cookie is done it makes one grace period, or two where one runs already.
+/* One step of driving for a cookie, as rcu_drive: if no grace period runs it begins one unless the
+ * cookie is done. It asks for no callback, and for no other cookie. Called until the cookie is done
+ * it makes one grace period, or two if one runs already.
  * It orders what rcu_drive orders.
  * Fault 11: one would begin, and the number is the last one.
  * Fence: behind. */
@@ -686,16 +689,16 @@ static inline uint32_t rcu_drive_for(rcu_t *rcu, uint64_t cookie, rcu_turn_t *tu
 }
 
 /* Collects from each processor that is awaited, as rcu_collect from one. Writes how many still are:
- * 0 where no grace period runs. */
+ * 0 if no grace period runs. */
 uint32_t rcu_collect_all(rcu_t *rcu, uint32_t *left);
 
-/* Lists the awaited processors, in order, `room` at most: writes them from `cpus` on, where there
- * is room for so many, and how many; what lies behind them stays. It costs a step for each, and one
- * more for every 64 others. */
+/* Lists the awaited processors, in order, `room` at most: writes them from `cpus` on, and how many
+ * they are; the rest of the room stays. It costs a step for each, and one more for every 64
+ * others. */
 uint32_t rcu_awaited_list(rcu_t *rcu, uint32_t *cpus, size_t room, uint32_t *count);
 
-/* Takes a cookie, as rcu_take, and asks: from now on rcu_turn and rcu_drive begin a grace period
- * for it. 2^64 - 1, which is done nowhere, where `rcu` is no open engine's. */
+/* Takes a cookie, as rcu_take, and requests it: from now on rcu_turn and rcu_drive begin a grace
+ * period for it. Returns 2^64 - 1, which is never done, if `rcu` is not an open engine. */
 uint64_t rcu_start_poll(rcu_t *rcu);
 
 /* ---- a thread that may block at any time, by its seat: it is idle but in its sections */
@@ -706,10 +709,10 @@ uint64_t rcu_start_poll(rcu_t *rcu);
  * processor until it unpins. Of one that found it idle, or at whose number the section began, the
  * section sees what came before its begin, and what a thread did before it took a cookie that is
  * done at its end. Unfenced, what came before an rcu_seat_take is sure to be seen by sequentially
- * consistent loads alone: where all readers load by such, the unfenced form serves. An inner one
- * makes no fence.
- * Faults: 2 where the processor is offline; 6 where the depth is 65,535.
- * Fence: behind where `depth` is 1. */
+ * consistent loads alone: if all readers load by such, the unfenced form is enough. An inner one
+ * executes no fence.
+ * Faults: 2 if the processor is offline; 6 if the depth is 65,535.
+ * Fence: behind if `depth` is 1. */
 uint32_t rcu_seat_pin_unfenced(rcu_seat_t *seat, uint32_t *depth);
 static inline uint32_t rcu_seat_pin(rcu_seat_t *seat, uint32_t *depth) {
     uint32_t result = rcu_seat_pin_unfenced(seat, depth);
@@ -717,19 +720,19 @@ static inline uint32_t rcu_seat_pin(rcu_seat_t *seat, uint32_t *depth) {
     return result;
 }
 
-/* Leaves the innermost section. Writes the depth, 0 where the section closed: then the processor is
- * idle, as by rcu_seat_idle, also where it was awake before the section.
- * What the thread did before comes before what follows the collection or the begin that finds it
- * idle.
- * Faults: 2 where the processor is offline; 5 where no section is open. */
+/* Leaves the innermost section. Writes the depth. At 0 the section closed: then the processor is
+ * idle, as by rcu_seat_idle, even if it was awake before the section.
+ * All that the thread did before comes before what follows the collection or the begin that finds
+ * it idle.
+ * Faults: 2 if the processor is offline; 5 if no section is open. */
 uint32_t rcu_seat_unpin(rcu_seat_t *seat, uint32_t *depth);
 
 /* Renews the section that a pin opened, as rcu_seat_renew: no grace period that began before waits
- * for it any more. What the section read before, the thread uses no more. Writes the number of the
- * quiescent state.
+ * for it any more. From here on the thread uses nothing that the section read before. Writes the
+ * number of the quiescent state.
  * `number` is as in rcu_seat_renew, and 0 after a pin; so are the order and the fence.
- * Faults: 2 where the processor is offline; 5 where no section is open; 4 where the open one nests.
- * Fence: behind where `number` changed. */
+ * Faults: 2 if the processor is offline; 5 if no section is open; 4 if the open one nests.
+ * Fence: behind if `number` changed. */
 uint32_t rcu_seat_repin_unfenced(rcu_seat_t *seat, uint64_t *number);
 static inline uint32_t rcu_seat_repin(rcu_seat_t *seat, uint64_t *number) {
     uint64_t last = *number;
@@ -745,42 +748,43 @@ static inline uint32_t rcu_seat_repin(rcu_seat_t *seat, uint64_t *number) {
 
 /* Opens a replica of 1 to 4,096 processors at number 0, which awaits nobody. No grace period begins
  * at `last`, a multiple of 4 from 4 to 2^62. Needs: `replica` is closed.
- * Faults: 17 for no processor or more than 4,096; 19 where `last` is no such number; 16. */
+ * Faults: 17 for no processor or more than 4,096; 19 if `last` is no such number; 16. */
 uint32_t rcu_replica_open(uint32_t cpus, uint64_t last, rcu_replica_t *replica);
 
 /* Begins a grace period that awaits the processors whose bits are set in words of 64, the lowest
- * first; bits of processors that there are not say nothing. Writes its number, four for each that
+ * first; bits of processors that there are not mean nothing. Writes its number, four for each that
  * ended and one more. It costs a step a processor, and takes no memory.
- * Faults: 8 where one runs; 11 where the number is the last one. */
+ * Faults: 8 if one runs; 11 if the number is the last one. */
 uint32_t rcu_replica_begin(rcu_replica_t *replica, const uint64_t *words, size_t length,
                            uint64_t *number);
 
-/* A processor reports a quiescent state with the number that it had noted. A report of another
- * number than that of the running grace period changes nothing, nor does a repeated one. Writes an
- * rcu_answer.
+/* Takes a processor's report of a quiescent state, with the number that it had noted. A report of
+ * another number than that of the running grace period changes nothing, nor does a repeated one.
+ * Writes an rcu_answer.
  * Fault 1: there is no such processor. */
 uint32_t rcu_replica_report(rcu_replica_t *replica, uint32_t cpu, uint64_t number,
                             uint32_t *answer);
 
-/* A processor departs: it is awaited no more in the running grace period. Its message has no number
- * that is compared, so tell it where it departed in this grace period alone.
- * Faults: 1 where there is no such processor; 12 for processor 0. */
+/* Takes a processor's departure: it is awaited no more in the running grace period. Its message has
+ * no number that is compared, so pass it on only if the processor departed in this grace period.
+ * Faults: 1 if there is no such processor; 12 for processor 0. */
 uint32_t rcu_replica_depart(rcu_replica_t *replica, uint32_t cpu);
 
-/* Takes in what another replica of the same grace period has heard: the first awaits then whom both
- * await. `other` is another handle, and stays as it is. It costs a step a processor.
+/* Takes in what another replica of the same grace period has heard: the first one then awaits the
+ * processors that both await. `other` is another handle, and stays as it is. It costs a step a
+ * processor.
  * Fault 20: number of processors, number or start set differ. */
 uint32_t rcu_replica_merge(rcu_replica_t *replica, rcu_replica_t *other);
 
 /* Lists the processors that a replica awaits, in order, `room` at most: writes them from `cpus` on,
- * where there is room for so many, and how many; what lies behind them stays. */
+ * and how many they are; the rest of the room stays. */
 uint32_t rcu_replica_awaited(rcu_replica_t *replica, uint32_t *cpus, size_t room, uint32_t *count);
 
 /* Ends the grace period. Writes the new number.
- * Faults: 9 where none runs; 10 where a processor is awaited. */
+ * Faults: 9 if none runs; 10 if a processor is awaited. */
 uint32_t rcu_replica_end(rcu_replica_t *replica, uint64_t *number);
 
-/* Closes a replica, and frees all that it has. Of a handle that is no open replica's it does
+/* Closes a replica, and frees all that it has. If `replica` is not an open replica, it does
  * nothing. */
 void rcu_replica_close(rcu_replica_t *replica);
 
@@ -809,20 +813,20 @@ uint32_t rcu_seat_want(rcu_seat_t *seat, uint64_t cookie, uint32_t *wakes);
  * the lock and sleeps in one step, as a condition variable does. */
 uint32_t rcu_wanted(rcu_t *rcu, bool sleeps, uint64_t *cookie);
 
-/* ---- waiting for a barrier, where the caller drives: `rcu` is under the caller's lock */
+/* ---- waiting for a barrier, if the caller is the driver: `rcu` is under the caller's lock */
 
-/* One step of waiting for a barrier, for who drives: it begins a barrier where none runs, visits
- * each processor, tends each list, and takes a step of driving, as rcu_drive. Then it tests the
- * barrier, and writes how many markers and unvisited processors are left. At 0 it is over, and each
- * callback that was queued before it began was handed out. It costs some steps a processor.
- * Where a barrier runs already it joins that one, which covers nothing that was queued since that
- * began: where others may wait, or a wait gave up, call rcu_barrier_begin first, and where it is
- * refused (13) wait until the one that runs is over, and begin again.
+/* One step of waiting for a barrier, for the driver: it begins a barrier if none runs, visits each
+ * processor, tends each list, and takes a step of driving, as rcu_drive. Then it tests the barrier,
+ * and writes how many markers and unvisited processors are left. At 0 it is over, and each callback
+ * that was queued before it began was handed out. It costs some steps a processor.
+ * If a barrier runs already it joins that one, which covers nothing that was queued since that
+ * began. So if others may wait, or a wait gave up, call rcu_barrier_begin first; if it is refused
+ * (13) wait until the one that runs is over, and begin again.
  * Call it until it writes 0 or returns a fault. In between hand out by rcu_run of each processor,
  * and let other threads run. It orders what rcu_drive orders.
- * Faults: 16 where a list has no room for a marker; 11 where a grace period would begin, and the
- * number is the last one. After either the barrier goes on from where it came to, and so does the
- * same call again.
+ * Faults: 16 if a list has no room for a marker; 11 if a grace period would begin, and the number
+ * is the last one. After either the barrier goes on from where it came to, and so does the same
+ * call again.
  * Fence: behind. */
 uint32_t rcu_barrier_wait_unfenced(rcu_t *rcu, uint64_t *left);
 static inline uint32_t rcu_barrier_wait(rcu_t *rcu, uint64_t *left) {
@@ -851,61 +855,59 @@ uint32_t rcu_may_sleep(rcu_t *rcu, uint32_t *sleeps, uint32_t *left);
 uint32_t rcu_seat_wakes(rcu_seat_t *seat, uint32_t *wakes);
 
 /* ---- the map of an engine, as a seat's section reads it: with no lock, beside all calls on other
- * handles. What a section found stays as it is until the section ends. */
+ * handles. An entry that a section found stays as it is until the section ends. */
 
-/* Looks a key up in the open section, and writes the words of its entry, or the key 0 where it
- * finds none: then the others stay. A key that is in the map from the section's beginning on is
- * found, also where its entry is replaced meanwhile; what is found was there at some moment of the
- * section. It costs two loads for each entry of the key's bucket up to there, and one for each
- * further word.
- * Where it finds an entry, what the thread did before that put it in comes before what follows this
- * call.
- * Faults: 5 where no section is open; 32 where an entry has another number of words. */
+/* Looks a key up in the open section, and writes the words of its entry, or the key 0 if it finds
+ * none: then the others stay. A key that is in the map from the section's beginning on is found,
+ * even if its entry is replaced meanwhile; what is found was there at some moment of the section.
+ * It costs two loads for each entry of the key's bucket up to there, and one for each further word.
+ * If it finds an entry, all that the thread that put it in did before comes before what follows
+ * this call.
+ * Faults: 5 if no section is open; 32 if an entry has another number of words. */
 uint32_t rcu_map_get(rcu_seat_t *seat, uint64_t key, uint64_t *entry, size_t room);
 
 /* Goes on from a key to the entry behind it, in the open section, and writes the words of that, or
- * the key 0 where there is none any more. Behind the key 0 stands the first one. The entries are in
+ * the key 0 if there is none any more. From the key 0 it goes to the first one. The entries are in
  * the order of their buckets, and in each of their keys; the key need not be in the map. So calls
  * from the key 0 on, each with the key that the one before wrote, write each key that is in the map
  * as long as the section lasts. It costs two loads for each entry of the key's bucket up to there,
  * one for each bucket with no further entry, and one for each further word.
  * It orders what rcu_map_get orders.
- * Faults: 5 where no section is open; 32 where an entry has another number of words. */
+ * Faults: 5 if no section is open; 32 if an entry has another number of words. */
 uint32_t rcu_map_next(rcu_seat_t *seat, uint64_t key, uint64_t *entry, size_t room);
 
-/* ---- what is put into the map of an engine and taken out: `rcu` is under the caller's lock.
- * Sections read the map meanwhile, and see the entries as they were before a call or as they are
- * after it. */
+/* ---- updates of the map of an engine: `rcu` is under the caller's lock. Sections read the map
+ * meanwhile, and see the entries as they were before a call or as they are after it. */
 
-/* Puts an entry of these words in, by one store, where none has its key. Writes the words of the
- * one that has it: then nothing else happened. Else it writes the key 0. It costs a step for each
+/* Puts an entry of these words in, by one store, if none has its key, and writes the key 0. Else it
+ * writes the words of the entry that has the key, and changes nothing. It costs a step for each
  * entry of the key's bucket up to there, and for each word.
- * What the thread did before comes before what follows a section's rcu_map_get that finds the
+ * All that the thread did before comes before what follows a section's rcu_map_get that finds the
  * entry.
- * Faults: 32 where an entry has another number of words than `entry` or `old`; 30 where the key is
- * 0; 31 where no entry has the key, and no node is free. */
+ * Faults: 32 if an entry has another number of words than `entry` or `old`; 30 if the key is 0; 31
+ * if no entry has the key, and no node is free. */
 uint32_t rcu_map_insert(rcu_t *rcu, const uint64_t *entry, size_t length, uint64_t *old,
                         size_t room);
 
 /* Puts an entry in the place of the one that has its key, by one store, and writes that: a section
- * finds the old one or the new one. Where none has the key, it writes the key 0, and nothing else
- * happens. Costs and orders as rcu_map_insert.
- * What words of the old entry lead to may be freed when a full grace period has passed, as by
+ * finds the old one or the new one. If none has the key, it writes the key 0, and changes nothing.
+ * Costs and orders as rcu_map_insert.
+ * Data that words of the old entry lead to may be freed when a full grace period has passed, as by
  * rcu_queue or rcu_defer_link.
- * Faults: 32 as of rcu_map_insert; 30 where the key is 0; 31 where an entry has the key, and no
- * node is free. */
+ * Faults: 32 as of rcu_map_insert; 30 if the key is 0; 31 if an entry has the key, and no node is
+ * free. */
 uint32_t rcu_map_replace(rcu_t *rcu, const uint64_t *entry, size_t length, uint64_t *old,
                          size_t room);
 
-/* Puts an entry in, by one store, in the place of the one that has its key, as rcu_map_replace, or
- * where none has it, as rcu_map_insert. Writes the one that had it, or the key 0.
- * Faults: 32 as of rcu_map_insert; 30 where the key is 0; 31 where no node is free. */
+/* Puts an entry in, by one store: in the place of the one that has its key, as rcu_map_replace, or
+ * if none has it, as rcu_map_insert. Writes the one that had it, or the key 0.
+ * Faults: 32 as of rcu_map_insert; 30 if the key is 0; 31 if no node is free. */
 uint32_t rcu_map_put(rcu_t *rcu, const uint64_t *entry, size_t length, uint64_t *old, size_t room);
 
-/* Takes the entry of a key out, by one store, and writes its words, or the key 0 where there is
- * none. Its node is free again once a call of rcu_map_age has found it removed, and a later one a
- * full grace period gone by since. What its words lead to may be freed when a full grace period has
- * passed.
+/* Takes the entry of a key out, by one store, and writes its words, or the key 0 if there is none.
+ * Its node is free again once a call of rcu_map_age has found it removed, and a later one finds
+ * that a full grace period has passed since. Data that its words lead to may be freed when a full
+ * grace period has passed.
  * Fault 32: an entry has another number of words. */
 uint32_t rcu_map_remove(rcu_t *rcu, uint64_t key, uint64_t *old, size_t room);
 
@@ -914,24 +916,25 @@ uint32_t rcu_map_remove(rcu_t *rcu, uint64_t key, uint64_t *old, size_t room);
  * Fault 32: an entry has another number of words. */
 uint32_t rcu_map_find(rcu_t *rcu, uint64_t key, uint64_t *entry, size_t room);
 
-/* How many entries the map has. 0 where `rcu` is no open engine's. */
+/* Returns how many entries the map has. 0 if `rcu` is not an open engine. */
 uint64_t rcu_map_len(rcu_t *rcu);
 
-/* Looks at the number: the nodes of entries that were replaced or removed wait from now on for the
- * grace period of the cookie that this writes, and those whose grace period has passed are free. No
- * entry changes. It costs a load, and a step for each node that waits from now on or is free.
- * Where a node is wanted (31): call it, drive until the cookie is done, and call it again; or call
- * rcu_map_wait. */
+/* Reclaims nodes, after one look at the number: the nodes of entries that were replaced or removed
+ * wait from now on for the grace period of the cookie that this writes, and those whose grace
+ * period has passed are free. No entry changes. It costs a load, and a step for each node that
+ * waits from now on or is free.
+ * If a put finds no node free (31): call it, drive until the cookie is done, and call it again; or
+ * call rcu_map_wait. */
 uint32_t rcu_map_age(rcu_t *rcu, uint64_t *cookie);
 
-/* One step of waiting for a free node, for who drives: it looks at the number, as rcu_map_age.
- * Where no node is free then, it takes a step of driving for the cookie of that number, as
- * rcu_drive_for. No entry changes.
- * Where a call that puts an entry in finds no node free (31): call this, and that again, until it
- * is done or this is refused. In between let other threads run; the caller's own processor is idle
- * or offline, or passes quiescent states. It orders what rcu_drive_for orders.
- * Faults: 31 where each node has an entry, so that none becomes free before one is removed; 11
- * where a grace period would begin, and the number is the last one. At 11 it has looked.
+/* One step of waiting for a free node, for the driver: it looks at the number, as rcu_map_age. If
+ * no node is free then, it takes a step of driving for the cookie of that number, as rcu_drive_for.
+ * No entry changes.
+ * If a call that puts an entry in finds no node free (31): call this, and that again, until the
+ * entry is in or this is refused. In between let other threads run; the caller's own processor is
+ * idle or offline, or passes quiescent states. It orders what rcu_drive_for orders.
+ * Faults: 31 if each node has an entry, so that none becomes free before one is removed; 11 if a
+ * grace period would begin, and the number is the last one. At 11 it has looked.
  * Fence: behind. */
 uint32_t rcu_map_wait_unfenced(rcu_t *rcu);
 static inline uint32_t rcu_map_wait(rcu_t *rcu) {
@@ -964,10 +967,10 @@ static inline uint32_t rcu_defer_link(rcu_seat_t *seat, rcu_link_t *link) {
     return 0;
 }
 
-/* Takes the first link out, where it is done: a full grace period has passed since it was deferred.
- * Null where it is not done, and where `seat` is no open seat's. Looks at the number only where
- * none is known to be done: then those that were deferred since the last look wait from now on. A
- * full fence stands before the look. */
+/* Takes the first link out, if it is done: a full grace period has passed since it was deferred.
+ * Returns null if it is not done, or if `seat` is not an open seat. Looks at the number only if none
+ * is known to be done: then those that were deferred since the last look wait from now on. A full
+ * fence precedes the look. */
 static inline rcu_link_t *rcu_defer_take(rcu_seat_t *seat) {
     uint64_t first = rcu_links_ready(seat);
     if (!first) first = rcu_links_tend(seat);

@@ -156,9 +156,9 @@ class Fence:
                              "together")
         text = said[0] if said else ""
         self.before, self.behind = "before" in text, "behind" in text
-        self.changed = re.search(r"where `(\w+)` changed", text)
-        self.value = re.search(r"where `(\w+)` is (\d+)", text)
-        self.is_true = "where it returns true" in text
+        self.changed = re.search(r"if `(\w+)` changed", text)
+        self.value = re.search(r"if `(\w+)` is (\d+)", text)
+        self.is_true = "if it returns true" in text
 
     def condition(self):
         """What has to hold for the fence behind, in words that are both C's and Rust's."""

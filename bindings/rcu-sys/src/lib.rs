@@ -27,13 +27,14 @@ pub struct rcu_seat_t {
     pub at: *mut u8,
 }
 
-/// What tells an engine from any other: who opens it gives it, and its seats have it too.
+/// The identity of an engine, which no other engine of the process has: its opener gives it, and
+/// its seats have it too.
 #[repr(C)]
 #[derive(Clone, Copy, Debug, Default, PartialEq, Eq)]
 pub struct rcu_identity_t {
-    /// Who counts: no two that count have the same.
+    /// The place of the counter: no two counters have the same.
     pub place: u64,
-    /// Which of the engines that were opened there it is.
+    /// Which of the engines that this counter numbered it is.
     pub count: u64,
 }
 
@@ -43,9 +44,9 @@ pub struct rcu_identity_t {
 pub struct rcu_turn_t {
     /// An `rcu_turned`.
     pub what: u32,
-    /// How many processors are awaited, where it began one or waits; else 0.
+    /// How many processors are awaited, if it began one or waits; else 0.
     pub awaited: u32,
-    /// The number, where a grace period began or ended; else 0.
+    /// The number, if a grace period began or ended; else 0.
     pub number: u64,
 }
 
@@ -64,10 +65,10 @@ pub struct rcu_map_sizes_t {
     /// How many entries there is room for at a time, plus `buckets`: each bucket takes one. An
     /// entry that was replaced or removed keeps its own until a grace period is over.
     pub nodes: u64,
-    /// What decides which bucket a key is in: draw it at random where others choose the keys.
+    /// The seed of the hash that assigns keys to buckets: draw it at random if others choose keys.
     pub seed: u64,
-    /// How many words an entry has, 2 or more, of which word 0 is its key. 0 stands for 2: a key
-    /// and a value.
+    /// How many words an entry has, 2 or more, of which word 0 is its key. 0 means 2: a key and a
+    /// value.
     pub words: u64,
 }
 
@@ -216,14 +217,14 @@ extern "C" {
     /// another one (26), and compares identities for that. `rcu_open` makes it, of a counter and
     /// the place of that. A program in another language makes its own.
     ///
-    /// Faults: 17 for no processor or more than 4,096; 19 where `last` is no such number; 16.
+    /// Faults: 17 for no processor or more than 4,096; 19 if `last` is no such number; 16.
     pub fn rcu_open_as(cpus: u32, last: u64, identity: rcu_identity_t, rcu: *mut rcu_t) -> u32;
     /// Opens an engine as `rcu_open_as`, with a map of these sizes, which is empty. Each of its
     /// seats reads it. Needs: `rcu` is closed.
     ///
-    /// Faults: 29 where there is no bucket, an entry has one word, there are fewer nodes than
-    /// buckets, or more than 2^32 words in all, an entry's and one more a node; 17 for no processor
-    /// or more than 4,096; 19 where `last` is no such number; 16.
+    /// Faults: 29 if there is no bucket, an entry has one word, there are fewer nodes than buckets,
+    /// or more than 2^32 words in all, an entry's and one more a node; 17 for no processor or more
+    /// than 4,096; 19 if `last` is no such number; 16.
     pub fn rcu_open_map_as(
         cpus: u32,
         last: u64,
@@ -232,30 +233,30 @@ extern "C" {
         rcu: *mut rcu_t,
     ) -> u32;
     /// Closes an engine, and frees all that it has; values that are still queued are not handed
-    /// out. Seats that are open go on, and are closed in turn. Of a handle that is no open engine's
-    /// it does nothing. Needs: `rcu` is under the caller's lock.
+    /// out. Seats that are open go on, and are closed in turn. If `rcu` is not an open engine, it
+    /// does nothing. Needs: `rcu` is under the caller's lock.
     pub fn rcu_close(rcu: *mut rcu_t);
-    /// Deals the seat of a processor; each has one. That of processor 0 is online at first, any
-    /// other offline; one that was handed back is as it was then. Processor 0 is awaited like any
-    /// other: where no thread reads on it, make its seat idle once. Needs: `rcu` is under the
-    /// caller's lock, and `seat` is closed.
+    /// Deals the seat of a processor; each has one. The seat of processor 0 is online at first, any
+    /// other offline; one that was returned is as it was then. Processor 0 is awaited like any
+    /// other: if no thread reads on it, make its seat idle once. Needs: `rcu` is under the caller's
+    /// lock, and `seat` is closed.
     ///
-    /// Faults: 1 where there is no such processor; 25 where its seat is dealt; 16.
+    /// Faults: 1 if there is no such processor; 25 if its seat is dealt; 16.
     pub fn rcu_seat_open(rcu: *mut rcu_t, cpu: u32, seat: *mut rcu_seat_t) -> u32;
-    /// Whether `rcu_seat_open` can deal the seat of the processor: there is such a processor, and
-    /// its seat is not dealt. False, too, where `rcu` is no open engine's. Needs: `rcu` is under
-    /// the caller's lock.
+    /// Returns whether `rcu_seat_open` can deal the seat of the processor: there is such a
+    /// processor, and its seat is not dealt. False if `rcu` is not an open engine. Needs: `rcu` is
+    /// under the caller's lock.
     pub fn rcu_has_seat(rcu: *mut rcu_t, cpu: u32) -> bool;
-    /// Hands a seat back to its engine, which can deal it again, and closes it: for a thread that
-    /// ends. Its processor stays as it is: depart first, or, where it is processor 0, make it idle.
-    /// Else each grace period waits until another thread has the seat. Needs: `rcu` is under the
-    /// caller's lock, and `seat` is in no other call.
+    /// Returns a seat to its engine, which can deal it again, and closes it: for a thread that
+    /// ends. Its processor stays as it is: depart first, or make processor 0 idle. Else each grace
+    /// period waits until another thread has the seat. Needs: `rcu` is under the caller's lock, and
+    /// `seat` is in no other call.
     ///
     /// Fault 26: the seat is of another engine.
     pub fn rcu_seat_return(rcu: *mut rcu_t, seat: *mut rcu_seat_t) -> u32;
     /// Closes a seat, which its engine does not deal again: for when the engine goes. Its processor
-    /// stays as it is: one that is online is awaited by each grace period that begins, for good. Of
-    /// a handle that is no open seat's it does nothing.
+    /// stays as it is: one that is online is awaited by each grace period that begins, for good. If
+    /// `seat` is not an open seat, it does nothing.
     pub fn rcu_seat_close(seat: *mut rcu_seat_t);
     /// Begins a grace period: stores its number, and then looks at each processor. It awaits those
     /// that are online, are not idle, and did not pass a quiescent state in between. Writes the
@@ -264,21 +265,21 @@ extern "C" {
     /// Of each section one of two holds: all of it comes before what follows the end of this grace
     /// period, or it sees what came before this call.
     ///
-    /// Faults: 8 where one runs; 11 where the number is the last one.
+    /// Faults: 8 if one runs; 11 if the number is the last one.
     pub fn rcu_begin(rcu: *mut rcu_t, number: *mut u64, awaited: *mut u32) -> u32;
     /// Ends the grace period. Writes the new number.
     ///
-    /// What a thread stored before an `rcu_seat_poll` that found the number below the new one is
-    /// seen by what follows this call: so a waiter that stores a wish to be woken, and then polls,
-    /// is found. The same holds of `rcu_seat_take` and `rcu_seat_quiesce`. Unfenced, it is sure to
-    /// be seen by sequentially consistent loads alone.
+    /// All that a thread stored before an `rcu_seat_poll` that found the number below the new one
+    /// is seen by what follows this call: so a waiter that stores a request to be woken, and then
+    /// polls, is found. The same holds of `rcu_seat_take` and `rcu_seat_quiesce`. Unfenced, it is
+    /// sure to be seen by sequentially consistent loads alone.
     ///
-    /// Faults: 9 where none runs; 10 where a processor is awaited.
+    /// Faults: 9 if none runs; 10 if a processor is awaited.
     ///
     /// Fence: behind.
     pub fn rcu_end_unfenced(rcu: *mut rcu_t, number: *mut u64) -> u32;
-    /// Ends the grace period where nobody is awaited; begins one where none runs and a tended
-    /// callback waits for it. Writes what it did.
+    /// Ends the grace period if nobody is awaited; begins one if none runs and a tended callback
+    /// waits for it. Writes what it did.
     ///
     /// It orders what `rcu_begin` or `rcu_end` orders.
     ///
@@ -286,61 +287,62 @@ extern "C" {
     ///
     /// Fence: behind.
     pub fn rcu_turn_unfenced(rcu: *mut rcu_t, turn: *mut rcu_turn_t) -> u32;
-    /// Looks whether the processor passed a quiescent state in the grace period, or is offline or
-    /// idle, and then awaits it no more. Writes an `rcu_collected`.
+    /// Collects from the processor: if it passed a quiescent state in the grace period, or is
+    /// offline or idle, it is awaited no more. Writes an `rcu_collected`.
     ///
-    /// Where it finds one, the departure or the idleness, what the thread did before that comes
-    /// before what follows this call; so too where a begin finds it.
+    /// If it finds the quiescent state, the departure or the idleness, all that the thread did
+    /// before that comes before what follows this call. The same holds if a begin finds it.
     ///
     /// A processor that was idle at the begin and woke since is found "not yet", and is not
-    /// awaited: whether one is awaited, `rcu_awaits` tells.
+    /// awaited: `rcu_awaits` says whether one is awaited.
     ///
     /// Fault 1: there is no such processor.
     pub fn rcu_collect(rcu: *mut rcu_t, cpu: u32, found: *mut u32) -> u32;
-    /// The seat's processor comes online.
+    /// Brings the seat's processor online.
     ///
     /// A section may open once it returns. A grace period that begins later awaits the processor.
     /// Of one that runs already the section sees what came before its begin, and what a thread did
     /// before it took a cookie that is done at its end. Unfenced, what came before an
     /// `rcu_seat_take` is sure to be seen by sequentially consistent loads alone.
     ///
-    /// Faults: 26 where the seat is of another engine; 3 where the processor is online.
+    /// Faults: 26 if the seat is of another engine; 3 if the processor is online.
     ///
     /// Fence: behind.
     pub fn rcu_arrive_unfenced(rcu: *mut rcu_t, seat: *mut rcu_seat_t) -> u32;
-    /// The seat's processor goes offline, and its callbacks move to processor 0, at a step for
+    /// Takes the seat's processor offline, and moves its callbacks to processor 0, at a step for
     /// each. Writes how many.
     ///
-    /// What the thread did before comes before what follows the collection or the begin that finds
-    /// it offline.
+    /// All that the thread did before comes before what follows the collection or the begin that
+    /// finds it offline.
     ///
-    /// Faults: 26 where the seat is of another engine; 12 for processor 0; 4 where a section is
-    /// open; 2 where it was offline and has no callback; 16. At 2 nothing has changed that a call
-    /// tells. At 16 the processor is offline, and its callbacks stay: the same call again moves
-    /// them.
+    /// Faults: 26 if the seat is of another engine; 12 for processor 0; 4 if a section is open; 2
+    /// if it was offline and has no callback; 16. At 2 no call sees a change. At 16 the processor
+    /// is offline, and its callbacks stay: the same call again moves them.
     pub fn rcu_depart(rcu: *mut rcu_t, seat: *mut rcu_seat_t, moved: *mut u64) -> u32;
-    /// How many processors the engine has.
+    /// Returns how many processors the engine has.
     pub fn rcu_cpus(rcu: *mut rcu_t) -> u32;
-    /// The grace-period number: 4 for each grace period that ended, and 1 more while one runs.
+    /// Returns the grace-period number: 4 for each grace period that ended, and 1 more while one
+    /// runs.
     pub fn rcu_number(rcu: *mut rcu_t) -> u64;
-    /// Whether a grace period runs.
+    /// Returns whether a grace period runs.
     pub fn rcu_running(rcu: *mut rcu_t) -> bool;
-    /// Whether the engine has the processor as online: false too where there is no such processor.
+    /// Returns whether the engine has the processor as online. False if there is no such processor.
     pub fn rcu_online(rcu: *mut rcu_t, cpu: u32) -> bool;
-    /// Whether the processor is awaited: false too where there is no such processor.
+    /// Returns whether the running grace period awaits the processor. False if there is no such
+    /// processor.
     pub fn rcu_awaits(rcu: *mut rcu_t, cpu: u32) -> bool;
-    /// How many processors are awaited.
+    /// Returns how many processors the running grace period awaits.
     pub fn rcu_awaited(rcu: *mut rcu_t) -> u32;
     /// Takes a cookie: the number at which a grace period that begins from now on has ended. It
-    /// asks for none: somebody begins one (`rcu_begin`, or `rcu_turn` where a tended callback
-    /// waits). 2^64 - 1, which is done nowhere, where `rcu` is no open engine's.
+    /// requests no grace period: begin one (`rcu_begin`, or `rcu_turn` if a tended callback waits).
+    /// Returns 2^64 - 1, which is never done, if `rcu` is not an open engine.
     pub fn rcu_take(rcu: *mut rcu_t) -> u64;
-    /// Whether a cookie is done: the number has reached it. Then each section that was open at the
-    /// taking has ended. Of a number that no taking gave nothing is said but that. False where
-    /// `rcu` is no open engine's.
+    /// Returns whether a cookie is done: the number has reached it, so each section that was open
+    /// at its taking has ended. For a number that no taking returned, the result means no more than
+    /// that the number has reached it. False if `rcu` is not an open engine.
     ///
-    /// Where it returns true, of each section one of two holds: all of it comes before what follows
-    /// this call, or it sees what the thread that took did before it took.
+    /// If it returns true, of each section one of two holds: all of it comes before what follows
+    /// this call, or it sees what the thread that took the cookie did before it took it.
     pub fn rcu_poll(rcu: *mut rcu_t, cookie: u64) -> bool;
     /// Queues a value on an online processor. Writes how many were queued since opening. A list
     /// keeps the room that it ever had, until `rcu_shrink` or `rcu_close`.
@@ -348,19 +350,17 @@ extern "C" {
     /// Of each section one of two holds: all of it comes before what follows the `rcu_run` that
     /// hands the value out, or it sees what the thread did before this call.
     ///
-    /// Faults: 1 where there is no such processor; 2 where it is not online; 15 where 2^62 were
-    /// queued; 16.
+    /// Faults: 1 if there is no such processor; 2 if it is not online; 15 if 2^62 were queued; 16.
     pub fn rcu_queue(rcu: *mut rcu_t, cpu: u32, value: u64, place: *mut u64) -> u32;
-    /// Sets what the processor's callbacks wait for, and which are done: to be called after
-    /// queueing, so that a turn begins a grace period for them, and after its end. Writes how many
-    /// are done and how many wait.
+    /// Sets what the processor's callbacks wait for, and which are done. Call it after queueing, so
+    /// that a turn begins a grace period for them, and after its end. Writes how many are done and
+    /// how many wait.
     ///
     /// Fault 1: there is no such processor.
     pub fn rcu_tend(rcu: *mut rcu_t, cpu: u32, done: *mut u64, waiting: *mut u64) -> u32;
     /// Hands out done callbacks of the processor, in order, `room` at most: writes their values
-    /// from `values` on, where there is room for so many, and how many; what lies behind them
-    /// stays. A full grace period has passed since each was queued, and none is handed out again.
-    /// Takes no memory.
+    /// from `values` on, and how many they are; the rest of the room stays. A full grace period has
+    /// passed since each was queued, and none is handed out again. Takes no memory.
     ///
     /// Fault 1: there is no such processor.
     pub fn rcu_run(
@@ -371,8 +371,8 @@ extern "C" {
         count: *mut u64,
     ) -> u32;
     /// Gives back the memory that the processor's list does not need, at a step for each item that
-    /// stays. Writes for how many items, callbacks and markers, it has room then: for none where it
-    /// is empty.
+    /// stays. Writes for how many items, callbacks and markers, it has room then: for none if it is
+    /// empty.
     ///
     /// Fault 1: there is no such processor.
     pub fn rcu_shrink(rcu: *mut rcu_t, cpu: u32, room: *mut u64) -> u32;
@@ -380,144 +380,143 @@ extern "C" {
     ///
     /// Fault 13: one runs.
     pub fn rcu_barrier_begin(rcu: *mut rcu_t) -> u32;
-    /// The barrier visits a processor, as it has to visit each, also those offline. Writes an
+    /// Has the barrier visit a processor; it has to visit each, also those offline. Writes an
     /// `rcu_visited`.
     ///
-    /// Faults: 1 where there is no such processor; 14 where none runs; 16, only where it would
-    /// mark.
+    /// Faults: 1 if there is no such processor; 14 if none runs; 16, only if it would mark.
     pub fn rcu_barrier_visit(rcu: *mut rcu_t, cpu: u32, did: *mut u32) -> u32;
     /// Tests the barrier. Writes how many markers and unvisited processors are left; at 0 it is
     /// over, and each callback that was queued before it began was handed out.
     ///
     /// Handed out is not processed: what is done with a value comes before what follows this call
-    /// where it is done under the lock under which `rcu_run` handed the value out. Else the caller
+    /// if it is done under the lock under which `rcu_run` handed the value out. Else the caller
     /// counts what was processed, and waits for that too.
     ///
     /// Fault 14: none runs.
     pub fn rcu_barrier_test(rcu: *mut rcu_t, left: *mut u64) -> u32;
-    /// The seat's processor. 2^32 - 1, which is none, where `seat` is no open seat's.
+    /// Returns the seat's processor, or 2^32 - 1, which is none, if `seat` is not an open seat.
     pub fn rcu_seat_cpu(seat: *mut rcu_seat_t) -> u32;
-    /// How deep the read sections of the seat nest: 0 where none is open, also where `seat` is no
-    /// open seat's.
+    /// Returns how deep the read sections of the seat nest: 0 if none is open, or if `seat` is not
+    /// an open seat.
     pub fn rcu_seat_depth(seat: *mut rcu_seat_t) -> u32;
-    /// Whether the seat's processor is online, be it awake or idle. False where `seat` is no open
-    /// seat's.
+    /// Returns whether the seat's processor is online, awake or idle. False if `seat` is not an
+    /// open seat.
     pub fn rcu_seat_is_online(seat: *mut rcu_seat_t) -> bool;
-    /// Whether the seat's processor is idle. False where `seat` is no open seat's.
+    /// Returns whether the seat's processor is idle. False if `seat` is not an open seat.
     pub fn rcu_seat_is_idle(seat: *mut rcu_seat_t) -> bool;
     /// Opens a read section by one load, or nests one deeper in the open one by none. Writes the
     /// depth.
     ///
-    /// Faults: 2 where the processor is offline; 23 where it is idle; 6 where the depth is 65,535.
+    /// Faults: 2 if the processor is offline; 23 if it is idle; 6 if the depth is 65,535.
     pub fn rcu_seat_enter(seat: *mut rcu_seat_t, depth: *mut u32) -> u32;
-    /// Leaves the innermost section. Writes the depth: 0 where one load closed the section.
+    /// Leaves the innermost section. Writes the depth, which is 0 if one load closed the section.
     ///
     /// Neither this nor `rcu_seat_enter` orders what the thread stores: what a section did comes
     /// before the next quiescent state or departure.
     ///
     /// Fault 5: no section is open.
     pub fn rcu_seat_exit(seat: *mut rcu_seat_t, depth: *mut u32) -> u32;
-    /// Passes a quiescent state, by one load and one store: what the thread read before, it uses no
-    /// more. Writes the number that it saw.
+    /// Passes a quiescent state, by one load and one store: from here on the thread uses nothing
+    /// that it read before. Writes the number that it saw.
     ///
-    /// What the thread did before comes before what follows the collection or the begin that finds
-    /// this call. The sections that follow see what came before a begin whose number it saw, and
-    /// what a thread did before it took a cookie that such a grace period makes done. A full fence
-    /// stands before the look, so the number tests a cookie as `rcu_seat_poll` does. Unfenced the
+    /// All that the thread did before comes before what follows the collection or the begin that
+    /// finds this call. The sections that follow see what came before a begin whose number it saw,
+    /// and what a thread did before it took a cookie that such a grace period makes done. A full
+    /// fence precedes the load, so the number tests a cookie as `rcu_seat_poll` does. Unfenced the
     /// last does not hold, and what came before an `rcu_seat_take` is sure to be seen by
     /// sequentially consistent loads alone.
     ///
-    /// Faults: 2 where the processor is offline; 23 where it is idle; 4 where a section is open.
+    /// Faults: 2 if the processor is offline; 23 if it is idle; 4 if a section is open.
     ///
     /// Fence: before and behind.
     pub fn rcu_seat_quiesce_unfenced(seat: *mut rcu_seat_t, number: *mut u64) -> u32;
-    /// Passes a quiescent state by a load alone, where the last one still serves: where the number
-    /// is the one that the seat's last `rcu_seat_quiesce`, `rcu_seat_wake`, `rcu_arrive` or call of
-    /// this saw, this call stores nothing. No grace period began or ended since, so the processor
-    /// is quiet for as much as it would be. Else it is as `rcu_seat_quiesce`. Writes the number
-    /// that it saw.
+    /// Passes a quiescent state by a load alone, if the last one still counts: if the number is the
+    /// one that the seat's last `rcu_seat_quiesce`, `rcu_seat_wake`, `rcu_arrive` or call of this
+    /// saw, it stores nothing. No grace period began or ended since, so the earlier report still
+    /// counts. Else it does what `rcu_seat_quiesce` does. Writes the number that it saw.
     ///
     /// `number` has what the seat's last `rcu_seat_quiesce`, `rcu_seat_wake` or call of this wrote,
-    /// or 0. Where that is the number still, this call makes no fence: the one that wrote it made
-    /// one, or no grace period was ever. The sections that follow see the same as after
-    /// `rcu_seat_quiesce`. No fence stands before the look: its number tests no cookie for a thread
-    /// that stored a wish to be woken. Unfenced, they are sure to see what came before an
+    /// or 0. If that is still the number, this call executes no fence: the call that wrote it
+    /// executed the fence, or no grace period has begun yet. The sections that follow see the same
+    /// as after `rcu_seat_quiesce`. No fence precedes the load: its number tests no cookie for a
+    /// thread that stored a request to be woken. Unfenced, they are sure to see what came before an
     /// `rcu_seat_take` by sequentially consistent loads alone.
     ///
-    /// Faults: 2 where the processor is offline; 23 where it is idle; 4 where a section is open.
+    /// Faults: 2 if the processor is offline; 23 if it is idle; 4 if a section is open.
     ///
-    /// Fence: behind where `number` changed.
+    /// Fence: behind if `number` changed.
     pub fn rcu_seat_quiesce_since_unfenced(seat: *mut rcu_seat_t, number: *mut u64) -> u32;
     /// Renews the open section: closes it, passes a quiescent state, and opens the next one, by two
     /// loads. For a thread that reads all the time: it keeps one section open, and makes this call
-    /// between two looks at the data. What it read before, it uses no more. Writes the number of
-    /// the quiescent state.
+    /// between two looks at the data. From here on it uses nothing that it read before. Writes the
+    /// number of the quiescent state.
     ///
-    /// Where the number is the one of the seat's last quiescent state, wake or renewal, it stores
+    /// If the number is the one of the seat's last quiescent state, wake or renewal, it stores
     /// nothing. `number` is as in `rcu_seat_quiesce_since`, and so are the order and the fence. The
     /// section that follows is one of those that "follow".
     ///
-    /// Faults: 2 where the processor is offline; 23 where it is idle; 5 where no section is open; 4
-    /// where the open one nests.
+    /// Faults: 2 if the processor is offline; 23 if it is idle; 5 if no section is open; 4 if the
+    /// open one nests.
     ///
-    /// Fence: behind where `number` changed.
+    /// Fence: behind if `number` changed.
     pub fn rcu_seat_renew_unfenced(seat: *mut rcu_seat_t, number: *mut u64) -> u32;
-    /// The processor gets idle by one store, until it wakes or departs: it opens no section, and no
-    /// grace period waits for it. It stays online, and its callbacks stay. For a thread that is
+    /// Makes the processor idle by one store, until it wakes or departs: it opens no section, and
+    /// no grace period waits for it. It stays online, and its callbacks stay. For a thread that is
     /// about to block.
     ///
-    /// What the thread did before comes before what follows the collection or the begin that finds
-    /// it idle.
+    /// All that the thread did before comes before what follows the collection or the begin that
+    /// finds it idle.
     ///
-    /// Faults: 2 where the processor is offline; 23 where it is idle; 4 where a section is open.
+    /// Faults: 2 if the processor is offline; 23 if it is idle; 4 if a section is open.
     pub fn rcu_seat_idle(seat: *mut rcu_seat_t) -> u32;
-    /// The processor wakes, by one load and one store. Writes the number that it saw.
+    /// Wakes the processor, by one load and one store. Writes the number that it saw.
     ///
     /// A section may open once it returns. A grace period that begins later awaits the processor.
     /// Of one that found it idle, or whose number it saw, the section sees what came before its
     /// begin, and what a thread did before it took a cookie that is done at its end. Unfenced, what
     /// came before an `rcu_seat_take` is sure to be seen by sequentially consistent loads alone. No
-    /// fence stands before the look: who stored a wish to be woken polls by `rcu_seat_poll`, and
-    /// not by this number.
+    /// fence precedes the load: a thread that stored a request to be woken polls by
+    /// `rcu_seat_poll`, and not by this number.
     ///
-    /// Faults: 2 where the processor is offline; 24 where it is awake.
+    /// Faults: 2 if the processor is offline; 24 if it is awake.
     ///
     /// Fence: behind.
     pub fn rcu_seat_wake_unfenced(seat: *mut rcu_seat_t, number: *mut u64) -> u32;
     /// Takes a cookie, as `rcu_take`, at the number that one load sees, which no later load is
-    /// below. In a section or not, online or not. 2^64 - 1, which is done nowhere, where `seat` is
-    /// no open seat's.
+    /// below. In a section or not, online or not. Returns 2^64 - 1, which is never done, if `seat`
+    /// is not an open seat.
     ///
-    /// A full fence stands between what the thread did before, as an unlink, and that load.
-    /// Unfenced, a section may still come to what was unlinked once the cookie is done.
+    /// A full fence lies between what the thread did before, as an unlink, and that load. Unfenced,
+    /// a section may still come to what was unlinked once the cookie is done.
     ///
     /// Fence: before.
     pub fn rcu_seat_take_unfenced(seat: *mut rcu_seat_t) -> u64;
-    /// Whether a cookie is done, as `rcu_poll`, at the number that one load sees, which no later
-    /// load is below. In a section or not, online or not. False where `seat` is no open seat's.
+    /// Returns whether a cookie is done, as `rcu_poll`, at the number that one load sees, which no
+    /// later load is below. In a section or not, online or not. False if `seat` is not an open
+    /// seat.
     ///
-    /// Where it returns false, what the thread stored before it is seen by what follows the
+    /// If it returns false, all that the thread stored before it is seen by what follows the
     /// `rcu_end`, the `rcu_turn` or the `rcu_seat_poll` that makes or finds the cookie done.
-    /// Unfenced it is not: a thread that stores a wish to be woken, polls, and sleeps may sleep for
-    /// good.
+    /// Unfenced it is not: a thread that stores a request to be woken, polls, and sleeps may sleep
+    /// for good.
     ///
-    /// Fence: before, and behind where it returns true.
+    /// Fence: before, and behind if it returns true.
     pub fn rcu_seat_poll_unfenced(seat: *mut rcu_seat_t, cookie: u64) -> bool;
-    /// Defers a link, behind all others: `rcu_defer_link` stands on it. Writes the link before it,
-    /// 0 where none is left of those.
+    /// Defers a link, behind all others; `rcu_defer_link` is built on it. Writes the link before
+    /// it, or 0 if none is left.
     ///
     /// Fault 15: 2^62 were deferred.
     pub fn rcu_links_push(seat: *mut rcu_seat_t, link: u64, last: *mut u64) -> u32;
-    /// The first link where it is known to be done, with no look at the number: else 0, also where
-    /// `seat` is no open seat's.
+    /// Returns the first link if it is known to be done, with no look at the number. Else 0, and if
+    /// `seat` is not an open seat.
     pub fn rcu_links_ready(seat: *mut rcu_seat_t) -> u64;
-    /// The first link that is done, after one look at the number: those that were deferred since
-    /// the last look wait from now on. 0 where none is done, and where `seat` is no open seat's.
+    /// Returns the first link that is done, after one look at the number: those that were deferred
+    /// since the last look wait from now on. 0 if none is done, or if `seat` is not an open seat.
     ///
     /// Fence: before.
     pub fn rcu_links_tend_unfenced(seat: *mut rcu_seat_t) -> u64;
-    /// Takes the first link out, where it is done: this one is the first from now on. Whether it
-    /// was done: false, too, where `seat` is no open seat's.
+    /// Takes the first link out, if it is done: `next` is the first one from now on. Returns
+    /// whether it was done; false if `seat` is not an open seat.
     pub fn rcu_links_pop(seat: *mut rcu_seat_t, next: u64) -> bool;
     /// Defers a value, behind those that the seat has: with no look at the number, and no fence.
     /// The values keep the room that they ever had, until `rcu_defer_shrink` or `rcu_seat_close`.
@@ -526,16 +525,15 @@ extern "C" {
     /// that hands the value out, or it sees what the thread did before the first `rcu_defer_run`
     /// after this call.
     ///
-    /// Faults: 15 where 2^62 were deferred; 16.
+    /// Faults: 15 if 2^62 were deferred; 16.
     pub fn rcu_defer(seat: *mut rcu_seat_t, value: u64) -> u32;
-    /// Hands out values that were deferred, in order, `room` at most, after one look at the number:
-    /// those that were deferred before an earlier call of this, since which a full grace period has
-    /// passed. Writes them from `values` on, where there is room for so many, and how many; what
-    /// lies behind them stays. The others wait from now on for a grace period that begins later.
-    /// Takes no memory.
+    /// Hands out deferred values that are done, in order, `room` at most, after one look at the
+    /// number: those that were deferred before an earlier call of this, since which a full grace
+    /// period has passed. Writes them from `values` on, and how many they are; the rest of the room
+    /// stays. The others wait from now on for a grace period that begins later. Takes no memory.
     ///
-    /// A full fence stands before the look. Unfenced, a section may still come to what was unlinked
-    /// once its value is handed out.
+    /// A full fence precedes the look. Unfenced, a section may still come to what was unlinked once
+    /// its value is handed out.
     ///
     /// Fence: before.
     pub fn rcu_defer_run_unfenced(
@@ -544,31 +542,31 @@ extern "C" {
         room: usize,
         count: *mut u64,
     ) -> u32;
-    /// How many values and links were deferred and not handed out. 0 where `seat` is no open
-    /// seat's.
+    /// Returns how many values and links were deferred and not handed out. 0 if `seat` is not an
+    /// open seat.
     pub fn rcu_defer_count(seat: *mut rcu_seat_t) -> u64;
-    /// The cookie at which all can be handed out that was deferred before the seat's last look, by
-    /// `rcu_defer_run` at values and by `rcu_defer_take` at links. 1, which is done at any time,
-    /// where none of it waits, and where `seat` is no open seat's.
+    /// Returns the cookie at which all can be handed out that was deferred before the seat's last
+    /// look, by `rcu_defer_run` at values and by `rcu_defer_take` at links. Returns 1, which is
+    /// always done, if none of it waits, or if `seat` is not an open seat.
     pub fn rcu_defer_cookie(seat: *mut rcu_seat_t) -> u64;
     /// Gives back the memory that the values do not need, at a step for each that stays. Writes for
-    /// how many there is room then: for none where there is none.
+    /// how many there is room then: for none if there is none.
     pub fn rcu_defer_shrink(seat: *mut rcu_seat_t, room: *mut u64) -> u32;
     /// One step of driving. While a grace period runs it collects from each processor that is
-    /// awaited; where none runs it begins one if a tended callback or an `rcu_start_poll` waits for
+    /// awaited; if none runs it begins one if a tended callback or an `rcu_start_poll` waits for
     /// it. Then it ends one that awaits nobody. Writes what it did. It costs a load for each
-    /// processor that is awaited, and where one begins a load a processor.
+    /// processor that is awaited, and at a begin a load a processor.
     ///
-    /// Who drives calls this again and again, and lets other threads run in between where it awaits
+    /// The driver calls this again and again, and lets other threads run in between while it awaits
     /// someone. It orders what `rcu_begin`, `rcu_collect` and `rcu_end` order.
     ///
     /// Fault 11: one would begin, and the number is the last one.
     ///
     /// Fence: behind.
     pub fn rcu_drive_unfenced(rcu: *mut rcu_t, turn: *mut rcu_turn_t) -> u32;
-    /// One step of driving for who waits for a cookie, as `rcu_drive`: where no grace period runs
-    /// it begins one if the cookie is not done. It asks for no callback, and for no other cookie.
-    /// Called until the cookie is done it makes one grace period, or two where one runs already.
+    /// One step of driving for a cookie, as `rcu_drive`: if no grace period runs it begins one
+    /// unless the cookie is done. It asks for no callback, and for no other cookie. Called until
+    /// the cookie is done it makes one grace period, or two if one runs already.
     ///
     /// It orders what `rcu_drive` orders.
     ///
@@ -577,14 +575,15 @@ extern "C" {
     /// Fence: behind.
     pub fn rcu_drive_for_unfenced(rcu: *mut rcu_t, cookie: u64, turn: *mut rcu_turn_t) -> u32;
     /// Collects from each processor that is awaited, as `rcu_collect` from one. Writes how many
-    /// still are: 0 where no grace period runs.
+    /// still are: 0 if no grace period runs.
     pub fn rcu_collect_all(rcu: *mut rcu_t, left: *mut u32) -> u32;
-    /// Lists the awaited processors, in order, `room` at most: writes them from `cpus` on, where
-    /// there is room for so many, and how many; what lies behind them stays. It costs a step for
-    /// each, and one more for every 64 others.
+    /// Lists the awaited processors, in order, `room` at most: writes them from `cpus` on, and how
+    /// many they are; the rest of the room stays. It costs a step for each, and one more for every
+    /// 64 others.
     pub fn rcu_awaited_list(rcu: *mut rcu_t, cpus: *mut u32, room: usize, count: *mut u32) -> u32;
-    /// Takes a cookie, as `rcu_take`, and asks: from now on `rcu_turn` and `rcu_drive` begin a
-    /// grace period for it. 2^64 - 1, which is done nowhere, where `rcu` is no open engine's.
+    /// Takes a cookie, as `rcu_take`, and requests it: from now on `rcu_turn` and `rcu_drive` begin
+    /// a grace period for it. Returns 2^64 - 1, which is never done, if `rcu` is not an open
+    /// engine.
     pub fn rcu_start_poll(rcu: *mut rcu_t) -> u64;
     /// Opens a read section, or nests one deeper in the open one. An idle processor wakes first, by
     /// one exchange, with no look at the number: no `rcu_seat_wake` is needed. Writes the depth.
@@ -593,51 +592,50 @@ extern "C" {
     /// processor until it unpins. Of one that found it idle, or at whose number the section began,
     /// the section sees what came before its begin, and what a thread did before it took a cookie
     /// that is done at its end. Unfenced, what came before an `rcu_seat_take` is sure to be seen by
-    /// sequentially consistent loads alone: where all readers load by such, the unfenced form
-    /// serves. An inner one makes no fence.
+    /// sequentially consistent loads alone: if all readers load by such, the unfenced form is
+    /// enough. An inner one executes no fence.
     ///
-    /// Faults: 2 where the processor is offline; 6 where the depth is 65,535.
+    /// Faults: 2 if the processor is offline; 6 if the depth is 65,535.
     ///
-    /// Fence: behind where `depth` is 1.
+    /// Fence: behind if `depth` is 1.
     pub fn rcu_seat_pin_unfenced(seat: *mut rcu_seat_t, depth: *mut u32) -> u32;
-    /// Leaves the innermost section. Writes the depth, 0 where the section closed: then the
-    /// processor is idle, as by `rcu_seat_idle`, also where it was awake before the section.
+    /// Leaves the innermost section. Writes the depth. At 0 the section closed: then the processor
+    /// is idle, as by `rcu_seat_idle`, even if it was awake before the section.
     ///
-    /// What the thread did before comes before what follows the collection or the begin that finds
-    /// it idle.
+    /// All that the thread did before comes before what follows the collection or the begin that
+    /// finds it idle.
     ///
-    /// Faults: 2 where the processor is offline; 5 where no section is open.
+    /// Faults: 2 if the processor is offline; 5 if no section is open.
     pub fn rcu_seat_unpin(seat: *mut rcu_seat_t, depth: *mut u32) -> u32;
     /// Renews the section that a pin opened, as `rcu_seat_renew`: no grace period that began before
-    /// waits for it any more. What the section read before, the thread uses no more. Writes the
-    /// number of the quiescent state.
+    /// waits for it any more. From here on the thread uses nothing that the section read before.
+    /// Writes the number of the quiescent state.
     ///
     /// `number` is as in `rcu_seat_renew`, and 0 after a pin; so are the order and the fence.
     ///
-    /// Faults: 2 where the processor is offline; 5 where no section is open; 4 where the open one
-    /// nests.
+    /// Faults: 2 if the processor is offline; 5 if no section is open; 4 if the open one nests.
     ///
-    /// Fence: behind where `number` changed.
+    /// Fence: behind if `number` changed.
     pub fn rcu_seat_repin_unfenced(seat: *mut rcu_seat_t, number: *mut u64) -> u32;
     /// Opens a replica of 1 to 4,096 processors at number 0, which awaits nobody. No grace period
     /// begins at `last`, a multiple of 4 from 4 to 2^62. Needs: `replica` is closed.
     ///
-    /// Faults: 17 for no processor or more than 4,096; 19 where `last` is no such number; 16.
+    /// Faults: 17 for no processor or more than 4,096; 19 if `last` is no such number; 16.
     pub fn rcu_replica_open(cpus: u32, last: u64, replica: *mut rcu_replica_t) -> u32;
     /// Begins a grace period that awaits the processors whose bits are set in words of 64, the
-    /// lowest first; bits of processors that there are not say nothing. Writes its number, four for
-    /// each that ended and one more. It costs a step a processor, and takes no memory.
+    /// lowest first; bits of processors that there are not mean nothing. Writes its number, four
+    /// for each that ended and one more. It costs a step a processor, and takes no memory.
     ///
-    /// Faults: 8 where one runs; 11 where the number is the last one.
+    /// Faults: 8 if one runs; 11 if the number is the last one.
     pub fn rcu_replica_begin(
         replica: *mut rcu_replica_t,
         words: *const u64,
         length: usize,
         number: *mut u64,
     ) -> u32;
-    /// A processor reports a quiescent state with the number that it had noted. A report of another
-    /// number than that of the running grace period changes nothing, nor does a repeated one.
-    /// Writes an `rcu_answer`.
+    /// Takes a processor's report of a quiescent state, with the number that it had noted. A report
+    /// of another number than that of the running grace period changes nothing, nor does a repeated
+    /// one. Writes an `rcu_answer`.
     ///
     /// Fault 1: there is no such processor.
     pub fn rcu_replica_report(
@@ -646,18 +644,20 @@ extern "C" {
         number: u64,
         answer: *mut u32,
     ) -> u32;
-    /// A processor departs: it is awaited no more in the running grace period. Its message has no
-    /// number that is compared, so tell it where it departed in this grace period alone.
+    /// Takes a processor's departure: it is awaited no more in the running grace period. Its
+    /// message has no number that is compared, so pass it on only if the processor departed in this
+    /// grace period.
     ///
-    /// Faults: 1 where there is no such processor; 12 for processor 0.
+    /// Faults: 1 if there is no such processor; 12 for processor 0.
     pub fn rcu_replica_depart(replica: *mut rcu_replica_t, cpu: u32) -> u32;
-    /// Takes in what another replica of the same grace period has heard: the first awaits then whom
-    /// both await. `other` is another handle, and stays as it is. It costs a step a processor.
+    /// Takes in what another replica of the same grace period has heard: the first one then awaits
+    /// the processors that both await. `other` is another handle, and stays as it is. It costs a
+    /// step a processor.
     ///
     /// Fault 20: number of processors, number or start set differ.
     pub fn rcu_replica_merge(replica: *mut rcu_replica_t, other: *mut rcu_replica_t) -> u32;
     /// Lists the processors that a replica awaits, in order, `room` at most: writes them from
-    /// `cpus` on, where there is room for so many, and how many; what lies behind them stays.
+    /// `cpus` on, and how many they are; the rest of the room stays.
     pub fn rcu_replica_awaited(
         replica: *mut rcu_replica_t,
         cpus: *mut u32,
@@ -666,9 +666,9 @@ extern "C" {
     ) -> u32;
     /// Ends the grace period. Writes the new number.
     ///
-    /// Faults: 9 where none runs; 10 where a processor is awaited.
+    /// Faults: 9 if none runs; 10 if a processor is awaited.
     pub fn rcu_replica_end(replica: *mut rcu_replica_t, number: *mut u64) -> u32;
-    /// Closes a replica, and frees all that it has. Of a handle that is no open replica's it does
+    /// Closes a replica, and frees all that it has. If `replica` is not an open replica, it does
     /// nothing.
     pub fn rcu_replica_close(replica: *mut rcu_replica_t);
     /// The version of the library, as `RCU_VERSION` is that of its header. A program over the
@@ -685,22 +685,22 @@ extern "C" {
     /// of it; or, where `rcu_poll` says that it is done, to sleep until a thread wakes the caller,
     /// which lets go of the lock and sleeps in one step, as a condition variable does.
     pub fn rcu_wanted(rcu: *mut rcu_t, sleeps: bool, cookie: *mut u64) -> u32;
-    /// One step of waiting for a barrier, for who drives: it begins a barrier where none runs,
-    /// visits each processor, tends each list, and takes a step of driving, as `rcu_drive`. Then it
-    /// tests the barrier, and writes how many markers and unvisited processors are left. At 0 it is
-    /// over, and each callback that was queued before it began was handed out. It costs some steps
-    /// a processor.
+    /// One step of waiting for a barrier, for the driver: it begins a barrier if none runs, visits
+    /// each processor, tends each list, and takes a step of driving, as `rcu_drive`. Then it tests
+    /// the barrier, and writes how many markers and unvisited processors are left. At 0 it is over,
+    /// and each callback that was queued before it began was handed out. It costs some steps a
+    /// processor.
     ///
-    /// Where a barrier runs already it joins that one, which covers nothing that was queued since
-    /// that began: where others may wait, or a wait gave up, call `rcu_barrier_begin` first, and
-    /// where it is refused (13) wait until the one that runs is over, and begin again.
+    /// If a barrier runs already it joins that one, which covers nothing that was queued since that
+    /// began. So if others may wait, or a wait gave up, call `rcu_barrier_begin` first; if it is
+    /// refused (13) wait until the one that runs is over, and begin again.
     ///
     /// Call it until it writes 0 or returns a fault. In between hand out by `rcu_run` of each
     /// processor, and let other threads run. It orders what `rcu_drive` orders.
     ///
-    /// Faults: 16 where a list has no room for a marker; 11 where a grace period would begin, and
-    /// the number is the last one. After either the barrier goes on from where it came to, and so
-    /// does the same call again.
+    /// Faults: 16 if a list has no room for a marker; 11 if a grace period would begin, and the
+    /// number is the last one. After either the barrier goes on from where it came to, and so does
+    /// the same call again.
     ///
     /// Fence: behind.
     pub fn rcu_barrier_wait_unfenced(rcu: *mut rcu_t, left: *mut u64) -> u32;
@@ -717,19 +717,19 @@ extern "C" {
     /// no grace period runs. Writes 1 where the caller has to wake who drives, under the lock. Else
     /// 0. It costs a load.
     pub fn rcu_seat_wakes(seat: *mut rcu_seat_t, wakes: *mut u32) -> u32;
-    /// Looks a key up in the open section, and writes the words of its entry, or the key 0 where it
+    /// Looks a key up in the open section, and writes the words of its entry, or the key 0 if it
     /// finds none: then the others stay. A key that is in the map from the section's beginning on
-    /// is found, also where its entry is replaced meanwhile; what is found was there at some moment
-    /// of the section. It costs two loads for each entry of the key's bucket up to there, and one
-    /// for each further word.
+    /// is found, even if its entry is replaced meanwhile; what is found was there at some moment of
+    /// the section. It costs two loads for each entry of the key's bucket up to there, and one for
+    /// each further word.
     ///
-    /// Where it finds an entry, what the thread did before that put it in comes before what follows
-    /// this call.
+    /// If it finds an entry, all that the thread that put it in did before comes before what
+    /// follows this call.
     ///
-    /// Faults: 5 where no section is open; 32 where an entry has another number of words.
+    /// Faults: 5 if no section is open; 32 if an entry has another number of words.
     pub fn rcu_map_get(seat: *mut rcu_seat_t, key: u64, entry: *mut u64, room: usize) -> u32;
     /// Goes on from a key to the entry behind it, in the open section, and writes the words of
-    /// that, or the key 0 where there is none any more. Behind the key 0 stands the first one. The
+    /// that, or the key 0 if there is none any more. From the key 0 it goes to the first one. The
     /// entries are in the order of their buckets, and in each of their keys; the key need not be in
     /// the map. So calls from the key 0 on, each with the key that the one before wrote, write each
     /// key that is in the map as long as the section lasts. It costs two loads for each entry of
@@ -738,17 +738,17 @@ extern "C" {
     ///
     /// It orders what `rcu_map_get` orders.
     ///
-    /// Faults: 5 where no section is open; 32 where an entry has another number of words.
+    /// Faults: 5 if no section is open; 32 if an entry has another number of words.
     pub fn rcu_map_next(seat: *mut rcu_seat_t, key: u64, entry: *mut u64, room: usize) -> u32;
-    /// Puts an entry of these words in, by one store, where none has its key. Writes the words of
-    /// the one that has it: then nothing else happened. Else it writes the key 0. It costs a step
+    /// Puts an entry of these words in, by one store, if none has its key, and writes the key 0.
+    /// Else it writes the words of the entry that has the key, and changes nothing. It costs a step
     /// for each entry of the key's bucket up to there, and for each word.
     ///
-    /// What the thread did before comes before what follows a section's `rcu_map_get` that finds
-    /// the entry.
+    /// All that the thread did before comes before what follows a section's `rcu_map_get` that
+    /// finds the entry.
     ///
-    /// Faults: 32 where an entry has another number of words than `entry` or `old`; 30 where the
-    /// key is 0; 31 where no entry has the key, and no node is free.
+    /// Faults: 32 if an entry has another number of words than `entry` or `old`; 30 if the key is
+    /// 0; 31 if no entry has the key, and no node is free.
     pub fn rcu_map_insert(
         rcu: *mut rcu_t,
         entry: *const u64,
@@ -757,14 +757,14 @@ extern "C" {
         room: usize,
     ) -> u32;
     /// Puts an entry in the place of the one that has its key, by one store, and writes that: a
-    /// section finds the old one or the new one. Where none has the key, it writes the key 0, and
-    /// nothing else happens. Costs and orders as `rcu_map_insert`.
+    /// section finds the old one or the new one. If none has the key, it writes the key 0, and
+    /// changes nothing. Costs and orders as `rcu_map_insert`.
     ///
-    /// What words of the old entry lead to may be freed when a full grace period has passed, as by
-    /// `rcu_queue` or `rcu_defer_link`.
+    /// Data that words of the old entry lead to may be freed when a full grace period has passed,
+    /// as by `rcu_queue` or `rcu_defer_link`.
     ///
-    /// Faults: 32 as of `rcu_map_insert`; 30 where the key is 0; 31 where an entry has the key, and
-    /// no node is free.
+    /// Faults: 32 as of `rcu_map_insert`; 30 if the key is 0; 31 if an entry has the key, and no
+    /// node is free.
     pub fn rcu_map_replace(
         rcu: *mut rcu_t,
         entry: *const u64,
@@ -772,11 +772,11 @@ extern "C" {
         old: *mut u64,
         room: usize,
     ) -> u32;
-    /// Puts an entry in, by one store, in the place of the one that has its key, as
-    /// `rcu_map_replace`, or where none has it, as `rcu_map_insert`. Writes the one that had it, or
+    /// Puts an entry in, by one store: in the place of the one that has its key, as
+    /// `rcu_map_replace`, or if none has it, as `rcu_map_insert`. Writes the one that had it, or
     /// the key 0.
     ///
-    /// Faults: 32 as of `rcu_map_insert`; 30 where the key is 0; 31 where no node is free.
+    /// Faults: 32 as of `rcu_map_insert`; 30 if the key is 0; 31 if no node is free.
     pub fn rcu_map_put(
         rcu: *mut rcu_t,
         entry: *const u64,
@@ -784,10 +784,10 @@ extern "C" {
         old: *mut u64,
         room: usize,
     ) -> u32;
-    /// Takes the entry of a key out, by one store, and writes its words, or the key 0 where there
-    /// is none. Its node is free again once a call of `rcu_map_age` has found it removed, and a
-    /// later one a full grace period gone by since. What its words lead to may be freed when a full
-    /// grace period has passed.
+    /// Takes the entry of a key out, by one store, and writes its words, or the key 0 if there is
+    /// none. Its node is free again once a call of `rcu_map_age` has found it removed, and a later
+    /// one finds that a full grace period has passed since. Data that its words lead to may be
+    /// freed when a full grace period has passed.
     ///
     /// Fault 32: an entry has another number of words.
     pub fn rcu_map_remove(rcu: *mut rcu_t, key: u64, old: *mut u64, room: usize) -> u32;
@@ -796,26 +796,27 @@ extern "C" {
     ///
     /// Fault 32: an entry has another number of words.
     pub fn rcu_map_find(rcu: *mut rcu_t, key: u64, entry: *mut u64, room: usize) -> u32;
-    /// How many entries the map has. 0 where `rcu` is no open engine's.
+    /// Returns how many entries the map has. 0 if `rcu` is not an open engine.
     pub fn rcu_map_len(rcu: *mut rcu_t) -> u64;
-    /// Looks at the number: the nodes of entries that were replaced or removed wait from now on for
-    /// the grace period of the cookie that this writes, and those whose grace period has passed are
-    /// free. No entry changes. It costs a load, and a step for each node that waits from now on or
-    /// is free.
+    /// Reclaims nodes, after one look at the number: the nodes of entries that were replaced or
+    /// removed wait from now on for the grace period of the cookie that this writes, and those
+    /// whose grace period has passed are free. No entry changes. It costs a load, and a step for
+    /// each node that waits from now on or is free.
     ///
-    /// Where a node is wanted (31): call it, drive until the cookie is done, and call it again; or
-    /// call `rcu_map_wait`.
+    /// If a put finds no node free (31): call it, drive until the cookie is done, and call it
+    /// again; or call `rcu_map_wait`.
     pub fn rcu_map_age(rcu: *mut rcu_t, cookie: *mut u64) -> u32;
-    /// One step of waiting for a free node, for who drives: it looks at the number, as
-    /// `rcu_map_age`. Where no node is free then, it takes a step of driving for the cookie of that
+    /// One step of waiting for a free node, for the driver: it looks at the number, as
+    /// `rcu_map_age`. If no node is free then, it takes a step of driving for the cookie of that
     /// number, as `rcu_drive_for`. No entry changes.
     ///
-    /// Where a call that puts an entry in finds no node free (31): call this, and that again, until
-    /// it is done or this is refused. In between let other threads run; the caller's own processor
-    /// is idle or offline, or passes quiescent states. It orders what `rcu_drive_for` orders.
+    /// If a call that puts an entry in finds no node free (31): call this, and that again, until
+    /// the entry is in or this is refused. In between let other threads run; the caller's own
+    /// processor is idle or offline, or passes quiescent states. It orders what `rcu_drive_for`
+    /// orders.
     ///
-    /// Faults: 31 where each node has an entry, so that none becomes free before one is removed; 11
-    /// where a grace period would begin, and the number is the last one. At 11 it has looked.
+    /// Faults: 31 if each node has an entry, so that none becomes free before one is removed; 11 if
+    /// a grace period would begin, and the number is the last one. At 11 it has looked.
     ///
     /// Fence: behind.
     pub fn rcu_map_wait_unfenced(rcu: *mut rcu_t) -> u32;
@@ -823,12 +824,12 @@ extern "C" {
 
 /// Ends the grace period. Writes the new number.
 ///
-/// What a thread stored before an `rcu_seat_poll` that found the number below the new one is seen
-/// by what follows this call: so a waiter that stores a wish to be woken, and then polls, is found.
-/// The same holds of `rcu_seat_take` and `rcu_seat_quiesce`. Unfenced, it is sure to be seen by
-/// sequentially consistent loads alone.
+/// All that a thread stored before an `rcu_seat_poll` that found the number below the new one is
+/// seen by what follows this call: so a waiter that stores a request to be woken, and then polls,
+/// is found. The same holds of `rcu_seat_take` and `rcu_seat_quiesce`. Unfenced, it is sure to be
+/// seen by sequentially consistent loads alone.
 ///
-/// Faults: 9 where none runs; 10 where a processor is awaited.
+/// Faults: 9 if none runs; 10 if a processor is awaited.
 ///
 /// Fence: behind.
 ///
@@ -841,8 +842,8 @@ pub unsafe fn rcu_end(rcu: *mut rcu_t, number: *mut u64) -> u32 {
     result
 }
 
-/// Ends the grace period where nobody is awaited; begins one where none runs and a tended callback
-/// waits for it. Writes what it did.
+/// Ends the grace period if nobody is awaited; begins one if none runs and a tended callback waits
+/// for it. Writes what it did.
 ///
 /// It orders what `rcu_begin` or `rcu_end` orders.
 ///
@@ -859,14 +860,14 @@ pub unsafe fn rcu_turn(rcu: *mut rcu_t, turn: *mut rcu_turn_t) -> u32 {
     result
 }
 
-/// The seat's processor comes online.
+/// Brings the seat's processor online.
 ///
 /// A section may open once it returns. A grace period that begins later awaits the processor. Of
 /// one that runs already the section sees what came before its begin, and what a thread did before
 /// it took a cookie that is done at its end. Unfenced, what came before an `rcu_seat_take` is sure
 /// to be seen by sequentially consistent loads alone.
 ///
-/// Faults: 26 where the seat is of another engine; 3 where the processor is online.
+/// Faults: 26 if the seat is of another engine; 3 if the processor is online.
 ///
 /// Fence: behind.
 ///
@@ -879,17 +880,17 @@ pub unsafe fn rcu_arrive(rcu: *mut rcu_t, seat: *mut rcu_seat_t) -> u32 {
     result
 }
 
-/// Passes a quiescent state, by one load and one store: what the thread read before, it uses no
-/// more. Writes the number that it saw.
+/// Passes a quiescent state, by one load and one store: from here on the thread uses nothing that
+/// it read before. Writes the number that it saw.
 ///
-/// What the thread did before comes before what follows the collection or the begin that finds this
-/// call. The sections that follow see what came before a begin whose number it saw, and what a
-/// thread did before it took a cookie that such a grace period makes done. A full fence stands
-/// before the look, so the number tests a cookie as `rcu_seat_poll` does. Unfenced the last does
-/// not hold, and what came before an `rcu_seat_take` is sure to be seen by sequentially consistent
-/// loads alone.
+/// All that the thread did before comes before what follows the collection or the begin that finds
+/// this call. The sections that follow see what came before a begin whose number it saw, and what a
+/// thread did before it took a cookie that such a grace period makes done. A full fence precedes
+/// the load, so the number tests a cookie as `rcu_seat_poll` does. Unfenced the last does not hold,
+/// and what came before an `rcu_seat_take` is sure to be seen by sequentially consistent loads
+/// alone.
 ///
-/// Faults: 2 where the processor is offline; 23 where it is idle; 4 where a section is open.
+/// Faults: 2 if the processor is offline; 23 if it is idle; 4 if a section is open.
 ///
 /// Fence: before and behind.
 ///
@@ -903,21 +904,21 @@ pub unsafe fn rcu_seat_quiesce(seat: *mut rcu_seat_t, number: *mut u64) -> u32 {
     result
 }
 
-/// Passes a quiescent state by a load alone, where the last one still serves: where the number is
-/// the one that the seat's last `rcu_seat_quiesce`, `rcu_seat_wake`, `rcu_arrive` or call of this
-/// saw, this call stores nothing. No grace period began or ended since, so the processor is quiet
-/// for as much as it would be. Else it is as `rcu_seat_quiesce`. Writes the number that it saw.
+/// Passes a quiescent state by a load alone, if the last one still counts: if the number is the one
+/// that the seat's last `rcu_seat_quiesce`, `rcu_seat_wake`, `rcu_arrive` or call of this saw, it
+/// stores nothing. No grace period began or ended since, so the earlier report still counts. Else
+/// it does what `rcu_seat_quiesce` does. Writes the number that it saw.
 ///
 /// `number` has what the seat's last `rcu_seat_quiesce`, `rcu_seat_wake` or call of this wrote, or
-/// 0. Where that is the number still, this call makes no fence: the one that wrote it made one, or
-/// no grace period was ever. The sections that follow see the same as after `rcu_seat_quiesce`. No
-/// fence stands before the look: its number tests no cookie for a thread that stored a wish to be
-/// woken. Unfenced, they are sure to see what came before an `rcu_seat_take` by sequentially
-/// consistent loads alone.
+/// 0. If that is still the number, this call executes no fence: the call that wrote it executed the
+/// fence, or no grace period has begun yet. The sections that follow see the same as after
+/// `rcu_seat_quiesce`. No fence precedes the load: its number tests no cookie for a thread that
+/// stored a request to be woken. Unfenced, they are sure to see what came before an `rcu_seat_take`
+/// by sequentially consistent loads alone.
 ///
-/// Faults: 2 where the processor is offline; 23 where it is idle; 4 where a section is open.
+/// Faults: 2 if the processor is offline; 23 if it is idle; 4 if a section is open.
 ///
-/// Fence: behind where `number` changed.
+/// Fence: behind if `number` changed.
 ///
 /// # Safety
 ///
@@ -933,17 +934,17 @@ pub unsafe fn rcu_seat_quiesce_since(seat: *mut rcu_seat_t, number: *mut u64) ->
 
 /// Renews the open section: closes it, passes a quiescent state, and opens the next one, by two
 /// loads. For a thread that reads all the time: it keeps one section open, and makes this call
-/// between two looks at the data. What it read before, it uses no more. Writes the number of the
-/// quiescent state.
+/// between two looks at the data. From here on it uses nothing that it read before. Writes the
+/// number of the quiescent state.
 ///
-/// Where the number is the one of the seat's last quiescent state, wake or renewal, it stores
-/// nothing. `number` is as in `rcu_seat_quiesce_since`, and so are the order and the fence. The
-/// section that follows is one of those that "follow".
+/// If the number is the one of the seat's last quiescent state, wake or renewal, it stores nothing.
+/// `number` is as in `rcu_seat_quiesce_since`, and so are the order and the fence. The section that
+/// follows is one of those that "follow".
 ///
-/// Faults: 2 where the processor is offline; 23 where it is idle; 5 where no section is open; 4
-/// where the open one nests.
+/// Faults: 2 if the processor is offline; 23 if it is idle; 5 if no section is open; 4 if the open
+/// one nests.
 ///
-/// Fence: behind where `number` changed.
+/// Fence: behind if `number` changed.
 ///
 /// # Safety
 ///
@@ -957,15 +958,16 @@ pub unsafe fn rcu_seat_renew(seat: *mut rcu_seat_t, number: *mut u64) -> u32 {
     result
 }
 
-/// The processor wakes, by one load and one store. Writes the number that it saw.
+/// Wakes the processor, by one load and one store. Writes the number that it saw.
 ///
 /// A section may open once it returns. A grace period that begins later awaits the processor. Of
 /// one that found it idle, or whose number it saw, the section sees what came before its begin, and
 /// what a thread did before it took a cookie that is done at its end. Unfenced, what came before an
-/// `rcu_seat_take` is sure to be seen by sequentially consistent loads alone. No fence stands
-/// before the look: who stored a wish to be woken polls by `rcu_seat_poll`, and not by this number.
+/// `rcu_seat_take` is sure to be seen by sequentially consistent loads alone. No fence precedes the
+/// load: a thread that stored a request to be woken polls by `rcu_seat_poll`, and not by this
+/// number.
 ///
-/// Faults: 2 where the processor is offline; 24 where it is awake.
+/// Faults: 2 if the processor is offline; 24 if it is awake.
 ///
 /// Fence: behind.
 ///
@@ -979,10 +981,10 @@ pub unsafe fn rcu_seat_wake(seat: *mut rcu_seat_t, number: *mut u64) -> u32 {
 }
 
 /// Takes a cookie, as `rcu_take`, at the number that one load sees, which no later load is below.
-/// In a section or not, online or not. 2^64 - 1, which is done nowhere, where `seat` is no open
-/// seat's.
+/// In a section or not, online or not. Returns 2^64 - 1, which is never done, if `seat` is not an
+/// open seat.
 ///
-/// A full fence stands between what the thread did before, as an unlink, and that load. Unfenced, a
+/// A full fence lies between what the thread did before, as an unlink, and that load. Unfenced, a
 /// section may still come to what was unlinked once the cookie is done.
 ///
 /// Fence: before.
@@ -995,14 +997,14 @@ pub unsafe fn rcu_seat_take(seat: *mut rcu_seat_t) -> u64 {
     rcu_seat_take_unfenced(seat)
 }
 
-/// Whether a cookie is done, as `rcu_poll`, at the number that one load sees, which no later load
-/// is below. In a section or not, online or not. False where `seat` is no open seat's.
+/// Returns whether a cookie is done, as `rcu_poll`, at the number that one load sees, which no
+/// later load is below. In a section or not, online or not. False if `seat` is not an open seat.
 ///
-/// Where it returns false, what the thread stored before it is seen by what follows the `rcu_end`,
+/// If it returns false, all that the thread stored before it is seen by what follows the `rcu_end`,
 /// the `rcu_turn` or the `rcu_seat_poll` that makes or finds the cookie done. Unfenced it is not: a
-/// thread that stores a wish to be woken, polls, and sleeps may sleep for good.
+/// thread that stores a request to be woken, polls, and sleeps may sleep for good.
 ///
-/// Fence: before, and behind where it returns true.
+/// Fence: before, and behind if it returns true.
 ///
 /// # Safety
 ///
@@ -1016,8 +1018,8 @@ pub unsafe fn rcu_seat_poll(seat: *mut rcu_seat_t, cookie: u64) -> bool {
     result
 }
 
-/// The first link that is done, after one look at the number: those that were deferred since the
-/// last look wait from now on. 0 where none is done, and where `seat` is no open seat's.
+/// Returns the first link that is done, after one look at the number: those that were deferred
+/// since the last look wait from now on. 0 if none is done, or if `seat` is not an open seat.
 ///
 /// Fence: before.
 ///
@@ -1029,14 +1031,13 @@ pub unsafe fn rcu_links_tend(seat: *mut rcu_seat_t) -> u64 {
     rcu_links_tend_unfenced(seat)
 }
 
-/// Hands out values that were deferred, in order, `room` at most, after one look at the number:
+/// Hands out deferred values that are done, in order, `room` at most, after one look at the number:
 /// those that were deferred before an earlier call of this, since which a full grace period has
-/// passed. Writes them from `values` on, where there is room for so many, and how many; what lies
-/// behind them stays. The others wait from now on for a grace period that begins later. Takes no
-/// memory.
+/// passed. Writes them from `values` on, and how many they are; the rest of the room stays. The
+/// others wait from now on for a grace period that begins later. Takes no memory.
 ///
-/// A full fence stands before the look. Unfenced, a section may still come to what was unlinked
-/// once its value is handed out.
+/// A full fence precedes the look. Unfenced, a section may still come to what was unlinked once its
+/// value is handed out.
 ///
 /// Fence: before.
 ///
@@ -1054,11 +1055,11 @@ pub unsafe fn rcu_defer_run(
 }
 
 /// One step of driving. While a grace period runs it collects from each processor that is awaited;
-/// where none runs it begins one if a tended callback or an `rcu_start_poll` waits for it. Then it
+/// if none runs it begins one if a tended callback or an `rcu_start_poll` waits for it. Then it
 /// ends one that awaits nobody. Writes what it did. It costs a load for each processor that is
-/// awaited, and where one begins a load a processor.
+/// awaited, and at a begin a load a processor.
 ///
-/// Who drives calls this again and again, and lets other threads run in between where it awaits
+/// The driver calls this again and again, and lets other threads run in between while it awaits
 /// someone. It orders what `rcu_begin`, `rcu_collect` and `rcu_end` order.
 ///
 /// Fault 11: one would begin, and the number is the last one.
@@ -1074,9 +1075,9 @@ pub unsafe fn rcu_drive(rcu: *mut rcu_t, turn: *mut rcu_turn_t) -> u32 {
     result
 }
 
-/// One step of driving for who waits for a cookie, as `rcu_drive`: where no grace period runs it
-/// begins one if the cookie is not done. It asks for no callback, and for no other cookie. Called
-/// until the cookie is done it makes one grace period, or two where one runs already.
+/// One step of driving for a cookie, as `rcu_drive`: if no grace period runs it begins one unless
+/// the cookie is done. It asks for no callback, and for no other cookie. Called until the cookie is
+/// done it makes one grace period, or two if one runs already.
 ///
 /// It orders what `rcu_drive` orders.
 ///
@@ -1100,12 +1101,12 @@ pub unsafe fn rcu_drive_for(rcu: *mut rcu_t, cookie: u64, turn: *mut rcu_turn_t)
 /// processor until it unpins. Of one that found it idle, or at whose number the section began, the
 /// section sees what came before its begin, and what a thread did before it took a cookie that is
 /// done at its end. Unfenced, what came before an `rcu_seat_take` is sure to be seen by
-/// sequentially consistent loads alone: where all readers load by such, the unfenced form serves.
-/// An inner one makes no fence.
+/// sequentially consistent loads alone: if all readers load by such, the unfenced form is enough.
+/// An inner one executes no fence.
 ///
-/// Faults: 2 where the processor is offline; 6 where the depth is 65,535.
+/// Faults: 2 if the processor is offline; 6 if the depth is 65,535.
 ///
-/// Fence: behind where `depth` is 1.
+/// Fence: behind if `depth` is 1.
 ///
 /// # Safety
 ///
@@ -1119,15 +1120,14 @@ pub unsafe fn rcu_seat_pin(seat: *mut rcu_seat_t, depth: *mut u32) -> u32 {
 }
 
 /// Renews the section that a pin opened, as `rcu_seat_renew`: no grace period that began before
-/// waits for it any more. What the section read before, the thread uses no more. Writes the number
-/// of the quiescent state.
+/// waits for it any more. From here on the thread uses nothing that the section read before. Writes
+/// the number of the quiescent state.
 ///
 /// `number` is as in `rcu_seat_renew`, and 0 after a pin; so are the order and the fence.
 ///
-/// Faults: 2 where the processor is offline; 5 where no section is open; 4 where the open one
-/// nests.
+/// Faults: 2 if the processor is offline; 5 if no section is open; 4 if the open one nests.
 ///
-/// Fence: behind where `number` changed.
+/// Fence: behind if `number` changed.
 ///
 /// # Safety
 ///
@@ -1141,21 +1141,21 @@ pub unsafe fn rcu_seat_repin(seat: *mut rcu_seat_t, number: *mut u64) -> u32 {
     result
 }
 
-/// One step of waiting for a barrier, for who drives: it begins a barrier where none runs, visits
-/// each processor, tends each list, and takes a step of driving, as `rcu_drive`. Then it tests the
+/// One step of waiting for a barrier, for the driver: it begins a barrier if none runs, visits each
+/// processor, tends each list, and takes a step of driving, as `rcu_drive`. Then it tests the
 /// barrier, and writes how many markers and unvisited processors are left. At 0 it is over, and
 /// each callback that was queued before it began was handed out. It costs some steps a processor.
 ///
-/// Where a barrier runs already it joins that one, which covers nothing that was queued since that
-/// began: where others may wait, or a wait gave up, call `rcu_barrier_begin` first, and where it is
+/// If a barrier runs already it joins that one, which covers nothing that was queued since that
+/// began. So if others may wait, or a wait gave up, call `rcu_barrier_begin` first; if it is
 /// refused (13) wait until the one that runs is over, and begin again.
 ///
 /// Call it until it writes 0 or returns a fault. In between hand out by `rcu_run` of each
 /// processor, and let other threads run. It orders what `rcu_drive` orders.
 ///
-/// Faults: 16 where a list has no room for a marker; 11 where a grace period would begin, and the
-/// number is the last one. After either the barrier goes on from where it came to, and so does the
-/// same call again.
+/// Faults: 16 if a list has no room for a marker; 11 if a grace period would begin, and the number
+/// is the last one. After either the barrier goes on from where it came to, and so does the same
+/// call again.
 ///
 /// Fence: behind.
 ///
@@ -1168,16 +1168,16 @@ pub unsafe fn rcu_barrier_wait(rcu: *mut rcu_t, left: *mut u64) -> u32 {
     result
 }
 
-/// One step of waiting for a free node, for who drives: it looks at the number, as `rcu_map_age`.
-/// Where no node is free then, it takes a step of driving for the cookie of that number, as
+/// One step of waiting for a free node, for the driver: it looks at the number, as `rcu_map_age`.
+/// If no node is free then, it takes a step of driving for the cookie of that number, as
 /// `rcu_drive_for`. No entry changes.
 ///
-/// Where a call that puts an entry in finds no node free (31): call this, and that again, until it
-/// is done or this is refused. In between let other threads run; the caller's own processor is idle
-/// or offline, or passes quiescent states. It orders what `rcu_drive_for` orders.
+/// If a call that puts an entry in finds no node free (31): call this, and that again, until the
+/// entry is in or this is refused. In between let other threads run; the caller's own processor is
+/// idle or offline, or passes quiescent states. It orders what `rcu_drive_for` orders.
 ///
-/// Faults: 31 where each node has an entry, so that none becomes free before one is removed; 11
-/// where a grace period would begin, and the number is the last one. At 11 it has looked.
+/// Faults: 31 if each node has an entry, so that none becomes free before one is removed; 11 if a
+/// grace period would begin, and the number is the last one. At 11 it has looked.
 ///
 /// Fence: behind.
 ///

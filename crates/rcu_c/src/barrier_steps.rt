@@ -1,4 +1,4 @@
-//! Waiting for a barrier, where the caller drives: `rcu` is under the caller's lock.
+//! Waiting for a barrier, if the caller is the driver: `rcu` is under the caller's lock.
 ghost use Rattle.std.specs.Prelude.{◌≡◌, ◌≢◌, ◌<◌, ℕ, IfErr, IfOk, None, OnErr, OnOk, true};
 ghost use Rattle.std.specs.Result.{result_err};
 ghost use Rattle.rcu_barrier.specs.Lists.{barrier_test_answer, visit_answer};
@@ -81,21 +81,21 @@ fn drive_and_test(engine: &mut TreeEngine) -> Result<u64, Fault>
     Ok(left_in_c(engine.barrier_test()?))
 }
 
-/// One step of waiting for a barrier, for who drives: it begins a barrier where none runs, visits
-/// each processor, tends each list, and takes a step of driving, as `rcu_drive`. Then it tests the
+/// One step of waiting for a barrier, for the driver: it begins a barrier if none runs, visits each
+/// processor, tends each list, and takes a step of driving, as `rcu_drive`. Then it tests the
 /// barrier, and writes how many markers and unvisited processors are left. At 0 it is over, and
 /// each callback that was queued before it began was handed out. It costs some steps a processor.
 ///
-/// Where a barrier runs already it joins that one, which covers nothing that was queued since that
-/// began: where others may wait, or a wait gave up, call `rcu_barrier_begin` first, and where it is
+/// If a barrier runs already it joins that one, which covers nothing that was queued since that
+/// began. So if others may wait, or a wait gave up, call `rcu_barrier_begin` first; if it is
 /// refused (13) wait until the one that runs is over, and begin again.
 ///
 /// Call it until it writes 0 or returns a fault. In between hand out by `rcu_run` of each
 /// processor, and let other threads run. It orders what `rcu_drive` orders.
 ///
-/// Faults: 16 where a list has no room for a marker; 11 where a grace period would begin, and the
-/// number is the last one. After either the barrier goes on from where it came to, and so does the
-/// same call again.
+/// Faults: 16 if a list has no room for a marker; 11 if a grace period would begin, and the number
+/// is the last one. After either the barrier goes on from where it came to, and so does the same
+/// call again.
 ///
 /// Fence: behind.
 #[unsafe(no_mangle)]

@@ -40,10 +40,10 @@ fn visit_in_c(visit: Visit) -> u32
     }
 }
 
-/// The barrier visits a processor, as it has to visit each, also those offline. Writes an
+/// Has the barrier visit a processor; it has to visit each, also those offline. Writes an
 /// `rcu_visited`.
 ///
-/// Faults: 1 where there is no such processor; 14 where none runs; 16, only where it would mark.
+/// Faults: 1 if there is no such processor; 14 if none runs; 16, only if it would mark.
 #[unsafe(no_mangle)]
 pub extern "C" fn rcu_barrier_visit(rcu: &mut Rcu, cpu: u32, did: &mut u32) -> u32
     ensures fault { tested_number result ≡ engine_number rcu.old.contents
@@ -75,9 +75,9 @@ pub(crate) fn left_in_c(found: BarrierState) -> u64
 /// Tests the barrier. Writes how many markers and unvisited processors are left; at 0 it is over,
 /// and each callback that was queued before it began was handed out.
 ///
-/// Handed out is not processed: what is done with a value comes before what follows this call where
-/// it is done under the lock under which `rcu_run` handed the value out. Else the caller counts
-/// what was processed, and waits for that too.
+/// Handed out is not processed: what is done with a value comes before what follows this call if it
+/// is done under the lock under which `rcu_run` handed the value out. Else the caller counts what
+/// was processed, and waits for that too.
 ///
 /// Fault 14: none runs.
 #[unsafe(no_mangle)]

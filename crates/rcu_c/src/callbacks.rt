@@ -25,8 +25,7 @@ use rcu_seq::Fault;
 /// Of each section one of two holds: all of it comes before what follows the `rcu_run` that hands
 /// the value out, or it sees what the thread did before this call.
 ///
-/// Faults: 1 where there is no such processor; 2 where it is not online; 15 where 2^62 were queued;
-/// 16.
+/// Faults: 1 if there is no such processor; 2 if it is not online; 15 if 2^62 were queued; 16.
 #[unsafe(no_mangle)]
 pub extern "C" fn rcu_queue(rcu: &mut Rcu, cpu: u32, value: u64, place: &mut u64) -> u32
     ensures can_queue { result ≡ 0 → CanQueue (engine_of rcu.old.contents) cpu }
@@ -51,9 +50,9 @@ pub extern "C" fn rcu_queue(rcu: &mut Rcu, cpu: u32, value: u64, place: &mut u64
     write_out(queued.map_err(|refused| refused.fault), place)
 }
 
-/// Sets what the processor's callbacks wait for, and which are done: to be called after queueing,
-/// so that a turn begins a grace period for them, and after its end. Writes how many are done and
-/// how many wait.
+/// Sets what the processor's callbacks wait for, and which are done. Call it after queueing, so
+/// that a turn begins a grace period for them, and after its end. Writes how many are done and how
+/// many wait.
 ///
 /// Fault 1: there is no such processor.
 #[unsafe(no_mangle)]
@@ -108,8 +107,8 @@ fn put_done(engine: &mut TreeEngine, cpu: u32, values: &mut [u64]) -> u64
 }
 
 /// Hands out done callbacks of the processor, in order, `room` at most: writes their values from
-/// `values` on, where there is room for so many, and how many; what lies behind them stays. A full
-/// grace period has passed since each was queued, and none is handed out again. Takes no memory.
+/// `values` on, and how many they are; the rest of the room stays. A full grace period has passed
+/// since each was queued, and none is handed out again. Takes no memory.
 ///
 /// Fault 1: there is no such processor.
 #[unsafe(no_mangle)]
@@ -142,7 +141,7 @@ pub extern "C" fn rcu_run(rcu: &mut Rcu, cpu: u32, values: &mut [u64], count: &m
 }
 
 /// Gives back the memory that the processor's list does not need, at a step for each item that
-/// stays. Writes for how many items, callbacks and markers, it has room then: for none where it is
+/// stays. Writes for how many items, callbacks and markers, it has room then: for none if it is
 /// empty.
 ///
 /// Fault 1: there is no such processor.

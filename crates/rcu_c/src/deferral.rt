@@ -1,9 +1,9 @@
-//! What a thread defers by its seat alone, with no lock, beside all calls on other handles: values
-//! of 64 bits, each in order. In a section or not, online or not.
+//! Deferral by a thread's seat alone, with no lock, beside all calls on other handles: of values of
+//! 64 bits, in order. In a section or not, online or not.
 //!
-//! They go with the seat: they stay where its processor departs, and where the seat is handed back,
-//! for who has it next. `rcu_seat_close` and `rcu_close` forget those that were not handed out. No
-//! call here asks for a grace period: who drives gets the cookie of `rcu_defer_cookie`, for
+//! They belong to the seat: they stay if its processor departs, and if the seat is returned, for
+//! the next thread that has it. `rcu_seat_close` and `rcu_close` forget those that were not handed
+//! out. No call here requests a grace period: the driver gets the cookie of `rcu_defer_cookie`, for
 //! `rcu_drive_for`.
 ghost use Rattle.std.specs.Prelude.{◌≡◌, ◌≢◌, ◌+◌, ◌≤◌, None, drop, length, take};
 ghost use Rattle.rcu_live.specs.Watcher.{after_watch};
@@ -27,7 +27,7 @@ use rcu_defer::DeferList;
 /// hands the value out, or it sees what the thread did before the first `rcu_defer_run` after this
 /// call.
 ///
-/// Faults: 15 where 2^62 were deferred; 16.
+/// Faults: 15 if 2^62 were deferred; 16.
 #[unsafe(no_mangle)]
 pub extern "C" fn rcu_defer(seat: &mut RcuSeat, value: u64) -> u32
     ensures fault { tested_number result ≡ seat_number seat.old.contents
@@ -69,14 +69,13 @@ fn put_ready(list: &mut DeferList<u64>, values: &mut [u64]) -> u64
     most
 }
 
-/// Hands out values that were deferred, in order, `room` at most, after one look at the number:
+/// Hands out deferred values that are done, in order, `room` at most, after one look at the number:
 /// those that were deferred before an earlier call of this, since which a full grace period has
-/// passed. Writes them from `values` on, where there is room for so many, and how many; what lies
-/// behind them stays. The others wait from now on for a grace period that begins later. Takes no
-/// memory.
+/// passed. Writes them from `values` on, and how many they are; the rest of the room stays. The
+/// others wait from now on for a grace period that begins later. Takes no memory.
 ///
-/// A full fence stands before the look. Unfenced, a section may still come to what was unlinked
-/// once its value is handed out.
+/// A full fence precedes the look. Unfenced, a section may still come to what was unlinked once its
+/// value is handed out.
 ///
 /// Fence: before.
 #[unsafe(no_mangle)]
@@ -113,7 +112,8 @@ pub extern "C" fn rcu_defer_run_unfenced(
     }
 }
 
-/// How many values and links were deferred and not handed out. 0 where `seat` is no open seat's.
+/// Returns how many values and links were deferred and not handed out. 0 if `seat` is not an open
+/// seat.
 #[unsafe(no_mangle)]
 pub extern "C" fn rcu_defer_count(seat: &mut RcuSeat) -> u64
     ensures unchanged { seat.new.contents ≡ seat.old.contents }
@@ -126,9 +126,9 @@ pub extern "C" fn rcu_defer_count(seat: &mut RcuSeat) -> u64
     }
 }
 
-/// The cookie at which all can be handed out that was deferred before the seat's last look, by
-/// `rcu_defer_run` at values and by `rcu_defer_take` at links. 1, which is done at any time, where
-/// none of it waits, and where `seat` is no open seat's.
+/// Returns the cookie at which all can be handed out that was deferred before the seat's last look,
+/// by `rcu_defer_run` at values and by `rcu_defer_take` at links. Returns 1, which is always done,
+/// if none of it waits, or if `seat` is not an open seat.
 #[unsafe(no_mangle)]
 pub extern "C" fn rcu_defer_cookie(seat: &mut RcuSeat) -> u64
     ensures unchanged { seat.new.contents ≡ seat.old.contents }
@@ -145,7 +145,7 @@ pub extern "C" fn rcu_defer_cookie(seat: &mut RcuSeat) -> u64
 }
 
 /// Gives back the memory that the values do not need, at a step for each that stays. Writes for how
-/// many there is room then: for none where there is none.
+/// many there is room then: for none if there is none.
 #[unsafe(no_mangle)]
 pub extern "C" fn rcu_defer_shrink(seat: &mut RcuSeat, room: &mut u64) -> u32
     ensures fault { result ≡ seat_number seat.old.contents 0 }

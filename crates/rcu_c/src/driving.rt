@@ -1,4 +1,4 @@
-//! A driver's calls: `rcu` is under the caller's lock.
+//! Calls of the driver, the thread that makes grace periods: `rcu` is under the caller's lock.
 ghost use Rattle.std.specs.Prelude.{◌≡◌, ◌≢◌, None, drop, false, length, take};
 ghost use Rattle.rcu_seq.specs.Seq.{cookie_of};
 ghost use Rattle.rcu_node.specs.CpuSet.{is_in};
@@ -22,11 +22,11 @@ use rcu_node::Awaited;
 use rcu_seq::Cookie;
 
 /// One step of driving. While a grace period runs it collects from each processor that is awaited;
-/// where none runs it begins one if a tended callback or an `rcu_start_poll` waits for it. Then it
+/// if none runs it begins one if a tended callback or an `rcu_start_poll` waits for it. Then it
 /// ends one that awaits nobody. Writes what it did. It costs a load for each processor that is
-/// awaited, and where one begins a load a processor.
+/// awaited, and at a begin a load a processor.
 ///
-/// Who drives calls this again and again, and lets other threads run in between where it awaits
+/// The driver calls this again and again, and lets other threads run in between while it awaits
 /// someone. It orders what `rcu_begin`, `rcu_collect` and `rcu_end` order.
 ///
 /// Fault 11: one would begin, and the number is the last one.
@@ -49,9 +49,9 @@ pub extern "C" fn rcu_drive_unfenced(rcu: &mut Rcu, turn: &mut Turn) -> u32
     }
 }
 
-/// One step of driving for who waits for a cookie, as `rcu_drive`: where no grace period runs it
-/// begins one if the cookie is not done. It asks for no callback, and for no other cookie. Called
-/// until the cookie is done it makes one grace period, or two where one runs already.
+/// One step of driving for a cookie, as `rcu_drive`: if no grace period runs it begins one unless
+/// the cookie is done. It asks for no callback, and for no other cookie. Called until the cookie is
+/// done it makes one grace period, or two if one runs already.
 ///
 /// It orders what `rcu_drive` orders.
 ///
@@ -92,7 +92,7 @@ pub(crate) fn collect_all(engine: &mut TreeEngine)
 }
 
 /// Collects from each processor that is awaited, as `rcu_collect` from one. Writes how many still
-/// are: 0 where no grace period runs.
+/// are: 0 if no grace period runs.
 #[unsafe(no_mangle)]
 pub extern "C" fn rcu_collect_all(rcu: &mut Rcu, left: &mut u32) -> u32
     ensures open { HoldsEngine rcu.old.contents → HoldsEngine rcu.new.contents }
@@ -150,9 +150,9 @@ fn list_awaited(engine: &TreeEngine, cpus: &mut [u32]) -> u32
     count
 }
 
-/// Lists the awaited processors, in order, `room` at most: writes them from `cpus` on, where there
-/// is room for so many, and how many; what lies behind them stays. It costs a step for each, and
-/// one more for every 64 others.
+/// Lists the awaited processors, in order, `room` at most: writes them from `cpus` on, and how many
+/// they are; the rest of the room stays. It costs a step for each, and one more for every 64
+/// others.
 #[unsafe(no_mangle)]
 pub extern "C" fn rcu_awaited_list(rcu: &mut Rcu, cpus: &mut [u32], count: &mut u32) -> u32
     ensures state { rcu.new.contents ≡ rcu.old.contents }
@@ -173,8 +173,8 @@ pub extern "C" fn rcu_awaited_list(rcu: &mut Rcu, cpus: &mut [u32], count: &mut 
     }
 }
 
-/// Takes a cookie, as `rcu_take`, and asks: from now on `rcu_turn` and `rcu_drive` begin a grace
-/// period for it. 2^64 - 1, which is done nowhere, where `rcu` is no open engine's.
+/// Takes a cookie, as `rcu_take`, and requests it: from now on `rcu_turn` and `rcu_drive` begin a
+/// grace period for it. Returns 2^64 - 1, which is never done, if `rcu` is not an open engine.
 #[unsafe(no_mangle)]
 pub extern "C" fn rcu_start_poll(rcu: &mut Rcu) -> u64
     ensures cookie { engine_refusal rcu.old.contents ≡ None →

@@ -20,9 +20,9 @@ use rcu_state::Turned;
 pub struct Turn {
     /// An `rcu_turned`.
     pub what: u32,
-    /// How many processors are awaited, where it began one or waits; else 0.
+    /// How many processors are awaited, if it began one or waits; else 0.
     pub awaited: u32,
-    /// The number, where a grace period began or ended; else 0.
+    /// The number, if a grace period began or ended; else 0.
     pub number: u64,
 }
 
@@ -63,7 +63,7 @@ fn collected_in_c(collected: Collected) -> u32
 /// Of each section one of two holds: all of it comes before what follows the end of this grace
 /// period, or it sees what came before this call.
 ///
-/// Faults: 8 where one runs; 11 where the number is the last one.
+/// Faults: 8 if one runs; 11 if the number is the last one.
 #[unsafe(no_mangle)]
 pub extern "C" fn rcu_begin(rcu: &mut Rcu, number: &mut u64, awaited: &mut u32) -> u32
     ensures open { HoldsEngine rcu.old.contents → HoldsEngine rcu.new.contents }
@@ -92,12 +92,12 @@ pub extern "C" fn rcu_begin(rcu: &mut Rcu, number: &mut u64, awaited: &mut u32) 
 
 /// Ends the grace period. Writes the new number.
 ///
-/// What a thread stored before an `rcu_seat_poll` that found the number below the new one is seen
-/// by what follows this call: so a waiter that stores a wish to be woken, and then polls, is found.
-/// The same holds of `rcu_seat_take` and `rcu_seat_quiesce`. Unfenced, it is sure to be seen by
-/// sequentially consistent loads alone.
+/// All that a thread stored before an `rcu_seat_poll` that found the number below the new one is
+/// seen by what follows this call: so a waiter that stores a request to be woken, and then polls,
+/// is found. The same holds of `rcu_seat_take` and `rcu_seat_quiesce`. Unfenced, it is sure to be
+/// seen by sequentially consistent loads alone.
 ///
-/// Faults: 9 where none runs; 10 where a processor is awaited.
+/// Faults: 9 if none runs; 10 if a processor is awaited.
 ///
 /// Fence: behind.
 #[unsafe(no_mangle)]
@@ -117,8 +117,8 @@ pub extern "C" fn rcu_end_unfenced(rcu: &mut Rcu, number: &mut u64) -> u32
     }
 }
 
-/// Ends the grace period where nobody is awaited; begins one where none runs and a tended callback
-/// waits for it. Writes what it did.
+/// Ends the grace period if nobody is awaited; begins one if none runs and a tended callback waits
+/// for it. Writes what it did.
 ///
 /// It orders what `rcu_begin` or `rcu_end` orders.
 ///
@@ -143,14 +143,14 @@ pub extern "C" fn rcu_turn_unfenced(rcu: &mut Rcu, turn: &mut Turn) -> u32
     }
 }
 
-/// Looks whether the processor passed a quiescent state in the grace period, or is offline or idle,
-/// and then awaits it no more. Writes an `rcu_collected`.
+/// Collects from the processor: if it passed a quiescent state in the grace period, or is offline
+/// or idle, it is awaited no more. Writes an `rcu_collected`.
 ///
-/// Where it finds one, the departure or the idleness, what the thread did before that comes before
-/// what follows this call; so too where a begin finds it.
+/// If it finds the quiescent state, the departure or the idleness, all that the thread did before
+/// that comes before what follows this call. The same holds if a begin finds it.
 ///
 /// A processor that was idle at the begin and woke since is found "not yet", and is not awaited:
-/// whether one is awaited, `rcu_awaits` tells.
+/// `rcu_awaits` says whether one is awaited.
 ///
 /// Fault 1: there is no such processor.
 #[unsafe(no_mangle)]

@@ -1,15 +1,15 @@
-//! What tells an engine from any other.
+//! The identity of an engine.
 ghost use Rattle.std.specs.Prelude.{◌≡◌};
 ghost use Rattle.rcu_c.specs.Engines.{is_same};
 
-/// What tells an engine from any other (`rcu_identity_t`): who opens it gives it, and its seats
-/// have it too.
+/// The identity of an engine (`rcu_identity_t`), which no other engine of the process has: its
+/// opener gives it, and its seats have it too.
 #[repr(C)]
 #[derive(Clone, Copy)]
 pub struct Identity {
-    /// Who counts: no two that count have the same.
+    /// The place of the counter: no two counters have the same.
     pub place: u64,
-    /// Which of the engines that were opened there it is.
+    /// Which of the engines that this counter numbered it is.
     pub count: u64,
 }
 

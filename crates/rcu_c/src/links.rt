@@ -1,6 +1,6 @@
 //! Links in nodes of the caller's own, deferred by a seat alone, as the values are. Each is a
 //! number here, its address, which no call follows: `rcu_defer_link` and `rcu_defer_take` write and
-//! read what links one to the next. The nodes stay the caller's where a seat or an engine closes.
+//! read what links one to the next. The nodes stay the caller's if a seat or an engine closes.
 ghost use Rattle.std.specs.Prelude.{◌≡◌, ◌≢◌, ◌≤◌, IfOk, None, OnErr, OnOk, false, nat_lt, true};
 ghost use Rattle.std.specs.Result.{result_err};
 ghost use Rattle.rcu_defer.specs.Marks.{defer_refusal, ready_of};
@@ -72,8 +72,8 @@ impl Links {
     }
 }
 
-/// Defers a link, behind all others: `rcu_defer_link` stands on it. Writes the link before it, 0
-/// where none is left of those.
+/// Defers a link, behind all others; `rcu_defer_link` is built on it. Writes the link before it, or
+/// 0 if none is left.
 ///
 /// Fault 15: 2^62 were deferred.
 #[unsafe(no_mangle)]
@@ -92,8 +92,8 @@ pub extern "C" fn rcu_links_push(seat: &mut RcuSeat, link: u64, last: &mut u64) 
     }
 }
 
-/// The first link where it is known to be done, with no look at the number: else 0, also where
-/// `seat` is no open seat's.
+/// Returns the first link if it is known to be done, with no look at the number. Else 0, and if
+/// `seat` is not an open seat.
 #[unsafe(no_mangle)]
 pub extern "C" fn rcu_links_ready(seat: &mut RcuSeat) -> u64
     ensures unchanged { seat.new.contents ≡ seat.old.contents }
@@ -105,8 +105,8 @@ pub extern "C" fn rcu_links_ready(seat: &mut RcuSeat) -> u64
     }
 }
 
-/// The first link that is done, after one look at the number: those that were deferred since the
-/// last look wait from now on. 0 where none is done, and where `seat` is no open seat's.
+/// Returns the first link that is done, after one look at the number: those that were deferred
+/// since the last look wait from now on. 0 if none is done, or if `seat` is not an open seat.
 ///
 /// Fence: before.
 #[unsafe(no_mangle)]
@@ -131,8 +131,8 @@ pub extern "C" fn rcu_links_tend_unfenced(seat: &mut RcuSeat) -> u64
     }
 }
 
-/// Takes the first link out, where it is done: this one is the first from now on. Whether it was
-/// done: false, too, where `seat` is no open seat's.
+/// Takes the first link out, if it is done: `next` is the first one from now on. Returns whether it
+/// was done; false if `seat` is not an open seat.
 #[unsafe(no_mangle)]
 pub extern "C" fn rcu_links_pop(seat: &mut RcuSeat, next: u64) -> bool
     ensures value { result ≡ nat_lt 0 (ready_of (links_of seat.old.contents).marks) }

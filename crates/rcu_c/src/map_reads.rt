@@ -1,5 +1,5 @@
 //! The map of an engine, as a seat's section reads it: with no lock, beside all calls on other
-//! handles. What a section found stays as it is until the section ends.
+//! handles. An entry that a section found stays as it is until the section ends.
 ghost use Rattle.std.specs.Prelude.{◌≡◌, ◌≢◌, length};
 ghost use Rattle.rcu_c.specs.Answers.{number_in_c};
 ghost use Rattle.rcu_c.specs.Maps.{HasWalked, IsGotInC, IsNextInC, reading_refusal};
@@ -12,16 +12,16 @@ use crate::keyed_words::tell;
 use crate::refusal::Refusal;
 use rcu_seq::Fault;
 
-/// Looks a key up in the open section, and writes the words of its entry, or the key 0 where it
-/// finds none: then the others stay. A key that is in the map from the section's beginning on is
-/// found, also where its entry is replaced meanwhile; what is found was there at some moment of the
-/// section. It costs two loads for each entry of the key's bucket up to there, and one for each
-/// further word.
+/// Looks a key up in the open section, and writes the words of its entry, or the key 0 if it finds
+/// none: then the others stay. A key that is in the map from the section's beginning on is found,
+/// even if its entry is replaced meanwhile; what is found was there at some moment of the section.
+/// It costs two loads for each entry of the key's bucket up to there, and one for each further
+/// word.
 ///
-/// Where it finds an entry, what the thread did before that put it in comes before what follows
+/// If it finds an entry, all that the thread that put it in did before comes before what follows
 /// this call.
 ///
-/// Faults: 5 where no section is open; 32 where an entry has another number of words.
+/// Faults: 5 if no section is open; 32 if an entry has another number of words.
 #[unsafe(no_mangle)]
 pub extern "C" fn rcu_map_get(seat: &mut RcuSeat, key: u64, entry: &mut [u64]) -> u32
     ensures fault { result ≡ seat_number seat.old.contents
@@ -48,15 +48,15 @@ pub extern "C" fn rcu_map_get(seat: &mut RcuSeat, key: u64, entry: &mut [u64]) -
 }
 
 /// Goes on from a key to the entry behind it, in the open section, and writes the words of that, or
-/// the key 0 where there is none any more. Behind the key 0 stands the first one. The entries are
-/// in the order of their buckets, and in each of their keys; the key need not be in the map. So
-/// calls from the key 0 on, each with the key that the one before wrote, write each key that is in
-/// the map as long as the section lasts. It costs two loads for each entry of the key's bucket up
-/// to there, one for each bucket with no further entry, and one for each further word.
+/// the key 0 if there is none any more. From the key 0 it goes to the first one. The entries are in
+/// the order of their buckets, and in each of their keys; the key need not be in the map. So calls
+/// from the key 0 on, each with the key that the one before wrote, write each key that is in the
+/// map as long as the section lasts. It costs two loads for each entry of the key's bucket up to
+/// there, one for each bucket with no further entry, and one for each further word.
 ///
 /// It orders what `rcu_map_get` orders.
 ///
-/// Faults: 5 where no section is open; 32 where an entry has another number of words.
+/// Faults: 5 if no section is open; 32 if an entry has another number of words.
 #[unsafe(no_mangle)]
 pub extern "C" fn rcu_map_next(seat: &mut RcuSeat, key: u64, entry: &mut [u64]) -> u32
     ensures fault { result ≡ seat_number seat.old.contents

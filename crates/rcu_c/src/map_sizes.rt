@@ -16,10 +16,10 @@ pub struct MapSizes {
     /// How many entries there is room for at a time, plus `buckets`: each bucket takes one. An
     /// entry that was replaced or removed keeps its own until a grace period is over.
     pub nodes: u64,
-    /// What decides which bucket a key is in: draw it at random where others choose the keys.
+    /// The seed of the hash that assigns keys to buckets: draw it at random if others choose keys.
     pub seed: u64,
-    /// How many words an entry has, 2 or more, of which word 0 is its key. 0 stands for 2: a key
-    /// and a value.
+    /// How many words an entry has, 2 or more, of which word 0 is its key. 0 means 2: a key and a
+    /// value.
     pub words: u64,
 }
 

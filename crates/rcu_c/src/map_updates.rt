@@ -1,5 +1,5 @@
-//! What is put into the map of an engine and taken out: `rcu` is under the caller's lock. Sections
-//! read the map meanwhile, and see the entries as they were before a call or as they are after it.
+//! Updates of the map of an engine: `rcu` is under the caller's lock. Sections read the map
+//! meanwhile, and see the entries as they were before a call or as they are after it.
 ghost use Rattle.std.specs.Prelude.{◌≡◌, ◌≢◌, length};
 ghost use Rattle.rcu_map.specs.Entries.{entries_in};
 ghost use Rattle.rcu_map.specs.Waits.{AreAllLive};
@@ -48,15 +48,15 @@ fn put(rcu: &mut Rcu, how: Put, entry: &[u64], old: &mut [u64]) -> u32
     0
 }
 
-/// Puts an entry of these words in, by one store, where none has its key. Writes the words of the
-/// one that has it: then nothing else happened. Else it writes the key 0. It costs a step for each
+/// Puts an entry of these words in, by one store, if none has its key, and writes the key 0. Else
+/// it writes the words of the entry that has the key, and changes nothing. It costs a step for each
 /// entry of the key's bucket up to there, and for each word.
 ///
-/// What the thread did before comes before what follows a section's `rcu_map_get` that finds the
-/// entry.
+/// All that the thread did before comes before what follows a section's `rcu_map_get` that finds
+/// the entry.
 ///
-/// Faults: 32 where an entry has another number of words than `entry` or `old`; 30 where the key is
-/// 0; 31 where no entry has the key, and no node is free.
+/// Faults: 32 if an entry has another number of words than `entry` or `old`; 30 if the key is 0; 31
+/// if no entry has the key, and no node is free.
 #[unsafe(no_mangle)]
 pub extern "C" fn rcu_map_insert(rcu: &mut Rcu, entry: &[u64], old: &mut [u64]) -> u32
     ensures fault { result ≢ 31 → result ≡ engine_number rcu.old.contents
@@ -72,14 +72,14 @@ pub extern "C" fn rcu_map_insert(rcu: &mut Rcu, entry: &[u64], old: &mut [u64]) 
 }
 
 /// Puts an entry in the place of the one that has its key, by one store, and writes that: a section
-/// finds the old one or the new one. Where none has the key, it writes the key 0, and nothing else
-/// happens. Costs and orders as `rcu_map_insert`.
+/// finds the old one or the new one. If none has the key, it writes the key 0, and changes nothing.
+/// Costs and orders as `rcu_map_insert`.
 ///
-/// What words of the old entry lead to may be freed when a full grace period has passed, as by
+/// Data that words of the old entry lead to may be freed when a full grace period has passed, as by
 /// `rcu_queue` or `rcu_defer_link`.
 ///
-/// Faults: 32 as of `rcu_map_insert`; 30 where the key is 0; 31 where an entry has the key, and no
-/// node is free.
+/// Faults: 32 as of `rcu_map_insert`; 30 if the key is 0; 31 if an entry has the key, and no node
+/// is free.
 #[unsafe(no_mangle)]
 pub extern "C" fn rcu_map_replace(rcu: &mut Rcu, entry: &[u64], old: &mut [u64]) -> u32
     ensures fault { result ≢ 31 → result ≡ engine_number rcu.old.contents
@@ -94,10 +94,10 @@ pub extern "C" fn rcu_map_replace(rcu: &mut Rcu, entry: &[u64], old: &mut [u64])
     put(rcu, Put::Replace, entry, old)
 }
 
-/// Puts an entry in, by one store, in the place of the one that has its key, as `rcu_map_replace`,
-/// or where none has it, as `rcu_map_insert`. Writes the one that had it, or the key 0.
+/// Puts an entry in, by one store: in the place of the one that has its key, as `rcu_map_replace`,
+/// or if none has it, as `rcu_map_insert`. Writes the one that had it, or the key 0.
 ///
-/// Faults: 32 as of `rcu_map_insert`; 30 where the key is 0; 31 where no node is free.
+/// Faults: 32 as of `rcu_map_insert`; 30 if the key is 0; 31 if no node is free.
 #[unsafe(no_mangle)]
 pub extern "C" fn rcu_map_put(rcu: &mut Rcu, entry: &[u64], old: &mut [u64]) -> u32
     ensures fault { result ≢ 31 → result ≡ engine_number rcu.old.contents
@@ -112,10 +112,10 @@ pub extern "C" fn rcu_map_put(rcu: &mut Rcu, entry: &[u64], old: &mut [u64]) -> 
     put(rcu, Put::Upsert, entry, old)
 }
 
-/// Takes the entry of a key out, by one store, and writes its words, or the key 0 where there is
-/// none. Its node is free again once a call of `rcu_map_age` has found it removed, and a later one
-/// a full grace period gone by since. What its words lead to may be freed when a full grace period
-/// has passed.
+/// Takes the entry of a key out, by one store, and writes its words, or the key 0 if there is none.
+/// Its node is free again once a call of `rcu_map_age` has found it removed, and a later one finds
+/// that a full grace period has passed since. Data that its words lead to may be freed when a full
+/// grace period has passed.
 ///
 /// Fault 32: an entry has another number of words.
 #[unsafe(no_mangle)]
@@ -163,7 +163,7 @@ pub extern "C" fn rcu_map_find(rcu: &mut Rcu, key: u64, entry: &mut [u64]) -> u3
     0
 }
 
-/// How many entries the map has. 0 where `rcu` is no open engine's.
+/// Returns how many entries the map has. 0 if `rcu` is not an open engine.
 #[unsafe(no_mangle)]
 pub extern "C" fn rcu_map_len(rcu: &mut Rcu) -> u64
     ensures unchanged { rcu.new.contents ≡ rcu.old.contents }
@@ -176,12 +176,13 @@ pub extern "C" fn rcu_map_len(rcu: &mut Rcu) -> u64
     }
 }
 
-/// Looks at the number: the nodes of entries that were replaced or removed wait from now on for the
-/// grace period of the cookie that this writes, and those whose grace period has passed are free.
-/// No entry changes. It costs a load, and a step for each node that waits from now on or is free.
+/// Reclaims nodes, after one look at the number: the nodes of entries that were replaced or removed
+/// wait from now on for the grace period of the cookie that this writes, and those whose grace
+/// period has passed are free. No entry changes. It costs a load, and a step for each node that
+/// waits from now on or is free.
 ///
-/// Where a node is wanted (31): call it, drive until the cookie is done, and call it again; or call
-/// `rcu_map_wait`.
+/// If a put finds no node free (31): call it, drive until the cookie is done, and call it again; or
+/// call `rcu_map_wait`.
 #[unsafe(no_mangle)]
 pub extern "C" fn rcu_map_age(rcu: &mut Rcu, cookie: &mut u64) -> u32
     ensures fault { result ≡ engine_number rcu.old.contents 0 }
@@ -199,16 +200,16 @@ pub extern "C" fn rcu_map_age(rcu: &mut Rcu, cookie: &mut u64) -> u32
     }
 }
 
-/// One step of waiting for a free node, for who drives: it looks at the number, as `rcu_map_age`.
-/// Where no node is free then, it takes a step of driving for the cookie of that number, as
+/// One step of waiting for a free node, for the driver: it looks at the number, as `rcu_map_age`.
+/// If no node is free then, it takes a step of driving for the cookie of that number, as
 /// `rcu_drive_for`. No entry changes.
 ///
-/// Where a call that puts an entry in finds no node free (31): call this, and that again, until it
-/// is done or this is refused. In between let other threads run; the caller's own processor is
+/// If a call that puts an entry in finds no node free (31): call this, and that again, until the
+/// entry is in or this is refused. In between let other threads run; the caller's own processor is
 /// idle or offline, or passes quiescent states. It orders what `rcu_drive_for` orders.
 ///
-/// Faults: 31 where each node has an entry, so that none becomes free before one is removed; 11
-/// where a grace period would begin, and the number is the last one. At 11 it has looked.
+/// Faults: 31 if each node has an entry, so that none becomes free before one is removed; 11 if a
+/// grace period would begin, and the number is the last one. At 11 it has looked.
 ///
 /// Fence: behind.
 #[unsafe(no_mangle)]

@@ -57,7 +57,7 @@ fn put(handle: &mut Handle, contents: Box<Contents, Global>)
 /// one (26), and compares identities for that. `rcu_open` makes it, of a counter and the place of
 /// that. A program in another language makes its own.
 ///
-/// Faults: 17 for no processor or more than 4,096; 19 where `last` is no such number; 16.
+/// Faults: 17 for no processor or more than 4,096; 19 if `last` is no such number; 16.
 #[unsafe(no_mangle)]
 pub extern "C" fn rcu_open_as(
     alloc: Global,
@@ -80,9 +80,9 @@ pub extern "C" fn rcu_open_as(
 /// Opens an engine as `rcu_open_as`, with a map of these sizes, which is empty. Each of its seats
 /// reads it. Needs: `rcu` is closed.
 ///
-/// Faults: 29 where there is no bucket, an entry has one word, there are fewer nodes than buckets,
-/// or more than 2^32 words in all, an entry's and one more a node; 17 for no processor or more than
-/// 4,096; 19 where `last` is no such number; 16.
+/// Faults: 29 if there is no bucket, an entry has one word, there are fewer nodes than buckets, or
+/// more than 2^32 words in all, an entry's and one more a node; 17 for no processor or more than
+/// 4,096; 19 if `last` is no such number; 16.
 #[unsafe(no_mangle)]
 pub extern "C" fn rcu_open_map_as(
     alloc: Global,
@@ -110,7 +110,7 @@ pub extern "C" fn rcu_open_map_as(
 }
 
 /// Closes an engine, and frees all that it has; values that are still queued are not handed out.
-/// Seats that are open go on, and are closed in turn. Of a handle that is no open engine's it does
+/// Seats that are open go on, and are closed in turn. If `rcu` is not an open engine, it does
 /// nothing. Needs: `rcu` is under the caller's lock.
 #[unsafe(no_mangle)]
 pub extern "C" fn rcu_close(alloc: Global, rcu: &mut Rcu)
@@ -171,12 +171,12 @@ fn hold(contents: &mut Contents, seat: SeatParts)
     *contents = Contents::Seat(seat);
 }
 
-/// Deals the seat of a processor; each has one. That of processor 0 is online at first, any other
-/// offline; one that was handed back is as it was then. Processor 0 is awaited like any other:
-/// where no thread reads on it, make its seat idle once. Needs: `rcu` is under the caller's lock,
-/// and `seat` is closed.
+/// Deals the seat of a processor; each has one. The seat of processor 0 is online at first, any
+/// other offline; one that was returned is as it was then. Processor 0 is awaited like any other:
+/// if no thread reads on it, make its seat idle once. Needs: `rcu` is under the caller's lock, and
+/// `seat` is closed.
 ///
-/// Faults: 1 where there is no such processor; 25 where its seat is dealt; 16.
+/// Faults: 1 if there is no such processor; 25 if its seat is dealt; 16.
 #[unsafe(no_mangle)]
 pub extern "C" fn rcu_seat_open(alloc: Global, rcu: &mut Rcu, cpu: u32, seat: &mut RcuSeat) -> u32
     requires closed { IsNone seat.old.contents }
@@ -203,8 +203,8 @@ pub extern "C" fn rcu_seat_open(alloc: Global, rcu: &mut Rcu, cpu: u32, seat: &m
     }
 }
 
-/// Whether `rcu_seat_open` can deal the seat of the processor: there is such a processor, and its
-/// seat is not dealt. False, too, where `rcu` is no open engine's. Needs: `rcu` is under the
+/// Returns whether `rcu_seat_open` can deal the seat of the processor: there is such a processor,
+/// and its seat is not dealt. False if `rcu` is not an open engine. Needs: `rcu` is under the
 /// caller's lock.
 #[unsafe(no_mangle)]
 pub extern "C" fn rcu_has_seat(rcu: &mut Rcu, cpu: u32) -> bool
@@ -217,10 +217,10 @@ pub extern "C" fn rcu_has_seat(rcu: &mut Rcu, cpu: u32) -> bool
     }
 }
 
-/// Hands a seat back to its engine, which can deal it again, and closes it: for a thread that ends.
-/// Its processor stays as it is: depart first, or, where it is processor 0, make it idle. Else each
-/// grace period waits until another thread has the seat. Needs: `rcu` is under the caller's lock,
-/// and `seat` is in no other call.
+/// Returns a seat to its engine, which can deal it again, and closes it: for a thread that ends.
+/// Its processor stays as it is: depart first, or make processor 0 idle. Else each grace period
+/// waits until another thread has the seat. Needs: `rcu` is under the caller's lock, and `seat` is
+/// in no other call.
 ///
 /// Fault 26: the seat is of another engine.
 #[unsafe(no_mangle)]
@@ -241,8 +241,8 @@ pub extern "C" fn rcu_seat_return(alloc: Global, rcu: &mut Rcu, seat: &mut RcuSe
 }
 
 /// Closes a seat, which its engine does not deal again: for when the engine goes. Its processor
-/// stays as it is: one that is online is awaited by each grace period that begins, for good. Of a
-/// handle that is no open seat's it does nothing.
+/// stays as it is: one that is online is awaited by each grace period that begins, for good. If
+/// `seat` is not an open seat, it does nothing.
 #[unsafe(no_mangle)]
 pub extern "C" fn rcu_seat_close(alloc: Global, seat: &mut RcuSeat)
     ensures closed { seat_refusal seat.old.contents ≡ None → IsNone seat.new.contents }

@@ -18,12 +18,12 @@ use crate::handle::RcuSeat;
 /// processor until it unpins. Of one that found it idle, or at whose number the section began, the
 /// section sees what came before its begin, and what a thread did before it took a cookie that is
 /// done at its end. Unfenced, what came before an `rcu_seat_take` is sure to be seen by
-/// sequentially consistent loads alone: where all readers load by such, the unfenced form serves.
-/// An inner one makes no fence.
+/// sequentially consistent loads alone: if all readers load by such, the unfenced form is enough.
+/// An inner one executes no fence.
 ///
-/// Faults: 2 where the processor is offline; 6 where the depth is 65,535.
+/// Faults: 2 if the processor is offline; 6 if the depth is 65,535.
 ///
-/// Fence: behind where `depth` is 1.
+/// Fence: behind if `depth` is 1.
 #[unsafe(no_mangle)]
 pub extern "C" fn rcu_seat_pin_unfenced(seat: &mut RcuSeat, depth: &mut u32) -> u32
     ensures fault { result ≡ seat_number seat.old.contents
@@ -40,13 +40,13 @@ pub extern "C" fn rcu_seat_pin_unfenced(seat: &mut RcuSeat, depth: &mut u32) -> 
     }
 }
 
-/// Leaves the innermost section. Writes the depth, 0 where the section closed: then the processor
-/// is idle, as by `rcu_seat_idle`, also where it was awake before the section.
+/// Leaves the innermost section. Writes the depth. At 0 the section closed: then the processor is
+/// idle, as by `rcu_seat_idle`, even if it was awake before the section.
 ///
-/// What the thread did before comes before what follows the collection or the begin that finds it
-/// idle.
+/// All that the thread did before comes before what follows the collection or the begin that finds
+/// it idle.
 ///
-/// Faults: 2 where the processor is offline; 5 where no section is open.
+/// Faults: 2 if the processor is offline; 5 if no section is open.
 #[unsafe(no_mangle)]
 pub extern "C" fn rcu_seat_unpin(seat: &mut RcuSeat, depth: &mut u32) -> u32
     ensures fault { result ≡ seat_number seat.old.contents
@@ -64,15 +64,14 @@ pub extern "C" fn rcu_seat_unpin(seat: &mut RcuSeat, depth: &mut u32) -> u32
 }
 
 /// Renews the section that a pin opened, as `rcu_seat_renew`: no grace period that began before
-/// waits for it any more. What the section read before, the thread uses no more. Writes the number
-/// of the quiescent state.
+/// waits for it any more. From here on the thread uses nothing that the section read before. Writes
+/// the number of the quiescent state.
 ///
 /// `number` is as in `rcu_seat_renew`, and 0 after a pin; so are the order and the fence.
 ///
-/// Faults: 2 where the processor is offline; 5 where no section is open; 4 where the open one
-/// nests.
+/// Faults: 2 if the processor is offline; 5 if no section is open; 4 if the open one nests.
 ///
-/// Fence: behind where `number` changed.
+/// Fence: behind if `number` changed.
 #[unsafe(no_mangle)]
 pub extern "C" fn rcu_seat_repin_unfenced(seat: &mut RcuSeat, number: &mut u64) -> u32
     ensures fault { result ≡ seat_number seat.old.contents

@@ -15,14 +15,14 @@ ghost use Rattle.rcu_c.specs.Staying.{BothStay};
 use crate::codes::{code, status, write_out};
 use crate::handle::{Rcu, RcuSeat};
 
-/// The seat's processor comes online.
+/// Brings the seat's processor online.
 ///
 /// A section may open once it returns. A grace period that begins later awaits the processor. Of
 /// one that runs already the section sees what came before its begin, and what a thread did before
 /// it took a cookie that is done at its end. Unfenced, what came before an `rcu_seat_take` is sure
 /// to be seen by sequentially consistent loads alone.
 ///
-/// Faults: 26 where the seat is of another engine; 3 where the processor is online.
+/// Faults: 26 if the seat is of another engine; 3 if the processor is online.
 ///
 /// Fence: behind.
 #[unsafe(no_mangle)]
@@ -46,15 +46,15 @@ pub extern "C" fn rcu_arrive_unfenced(rcu: &mut Rcu, seat: &mut RcuSeat) -> u32
     status(arrived)
 }
 
-/// The seat's processor goes offline, and its callbacks move to processor 0, at a step for each.
+/// Takes the seat's processor offline, and moves its callbacks to processor 0, at a step for each.
 /// Writes how many.
 ///
-/// What the thread did before comes before what follows the collection or the begin that finds it
-/// offline.
+/// All that the thread did before comes before what follows the collection or the begin that finds
+/// it offline.
 ///
-/// Faults: 26 where the seat is of another engine; 12 for processor 0; 4 where a section is open; 2
-/// where it was offline and has no callback; 16. At 2 nothing has changed that a call tells. At 16
-/// the processor is offline, and its callbacks stay: the same call again moves them.
+/// Faults: 26 if the seat is of another engine; 12 for processor 0; 4 if a section is open; 2 if it
+/// was offline and has no callback; 16. At 2 no call sees a change. At 16 the processor is offline,
+/// and its callbacks stay: the same call again moves them.
 #[unsafe(no_mangle)]
 pub extern "C" fn rcu_depart(rcu: &mut Rcu, seat: &mut RcuSeat, moved: &mut u64) -> u32
     ensures seat_fault { going_refusal rcu.old.contents seat.old.contents ≢ None →

@@ -1,5 +1,5 @@
-//! What an engine says of itself: `rcu` is under the caller's lock. What is no open engine has no
-//! processor, and its number is 0.
+//! Queries of an engine: `rcu` is under the caller's lock. On a handle that is not an open engine
+//! they return 0 or false, unless the note says otherwise.
 ghost use Rattle.std.specs.Prelude.{◌≡◌, ◌≢◌, ◌<◌, ◌≤◌, None, false};
 ghost use Rattle.rcu_seq.specs.Seq.{cookie_of, number_of};
 ghost use Rattle.rcu_seq.specs.Tags.{is_done_first};
@@ -13,7 +13,7 @@ use crate::handle::Rcu;
 use rcu_node::Awaited;
 use rcu_seq::Cookie;
 
-/// How many processors the engine has.
+/// Returns how many processors the engine has.
 #[unsafe(no_mangle)]
 pub extern "C" fn rcu_cpus(rcu: &mut Rcu) -> u32
     ensures unchanged { rcu.new.contents ≡ rcu.old.contents }
@@ -25,7 +25,7 @@ pub extern "C" fn rcu_cpus(rcu: &mut Rcu) -> u32
     }
 }
 
-/// The grace-period number: 4 for each grace period that ended, and 1 more while one runs.
+/// Returns the grace-period number: 4 for each grace period that ended, and 1 more while one runs.
 #[unsafe(no_mangle)]
 pub extern "C" fn rcu_number(rcu: &mut Rcu) -> u64
     ensures unchanged { rcu.new.contents ≡ rcu.old.contents }
@@ -37,7 +37,7 @@ pub extern "C" fn rcu_number(rcu: &mut Rcu) -> u64
     }
 }
 
-/// Whether a grace period runs.
+/// Returns whether a grace period runs.
 #[unsafe(no_mangle)]
 pub extern "C" fn rcu_running(rcu: &mut Rcu) -> bool
     ensures unchanged { rcu.new.contents ≡ rcu.old.contents }
@@ -49,7 +49,7 @@ pub extern "C" fn rcu_running(rcu: &mut Rcu) -> bool
     }
 }
 
-/// Whether the engine has the processor as online: false too where there is no such processor.
+/// Returns whether the engine has the processor as online. False if there is no such processor.
 #[unsafe(no_mangle)]
 pub extern "C" fn rcu_online(rcu: &mut Rcu, cpu: u32) -> bool
     ensures unchanged { rcu.new.contents ≡ rcu.old.contents }
@@ -63,7 +63,8 @@ pub extern "C" fn rcu_online(rcu: &mut Rcu, cpu: u32) -> bool
     }
 }
 
-/// Whether the processor is awaited: false too where there is no such processor.
+/// Returns whether the running grace period awaits the processor. False if there is no such
+/// processor.
 #[unsafe(no_mangle)]
 pub extern "C" fn rcu_awaits(rcu: &mut Rcu, cpu: u32) -> bool
     ensures unchanged { rcu.new.contents ≡ rcu.old.contents }
@@ -77,7 +78,7 @@ pub extern "C" fn rcu_awaits(rcu: &mut Rcu, cpu: u32) -> bool
     }
 }
 
-/// How many processors are awaited.
+/// Returns how many processors the running grace period awaits.
 #[unsafe(no_mangle)]
 pub extern "C" fn rcu_awaited(rcu: &mut Rcu) -> u32
     ensures unchanged { rcu.new.contents ≡ rcu.old.contents }
@@ -89,9 +90,9 @@ pub extern "C" fn rcu_awaited(rcu: &mut Rcu) -> u32
     }
 }
 
-/// Takes a cookie: the number at which a grace period that begins from now on has ended. It asks
-/// for none: somebody begins one (`rcu_begin`, or `rcu_turn` where a tended callback waits).
-/// 2^64 - 1, which is done nowhere, where `rcu` is no open engine's.
+/// Takes a cookie: the number at which a grace period that begins from now on has ended. It
+/// requests no grace period: begin one (`rcu_begin`, or `rcu_turn` if a tended callback waits).
+/// Returns 2^64 - 1, which is never done, if `rcu` is not an open engine.
 #[unsafe(no_mangle)]
 pub extern "C" fn rcu_take(rcu: &mut Rcu) -> u64
     ensures unchanged { rcu.new.contents ≡ rcu.old.contents }
@@ -105,12 +106,12 @@ pub extern "C" fn rcu_take(rcu: &mut Rcu) -> u64
     }
 }
 
-/// Whether a cookie is done: the number has reached it. Then each section that was open at the
-/// taking has ended. Of a number that no taking gave nothing is said but that. False where `rcu` is
-/// no open engine's.
+/// Returns whether a cookie is done: the number has reached it, so each section that was open at
+/// its taking has ended. For a number that no taking returned, the result means no more than that
+/// the number has reached it. False if `rcu` is not an open engine.
 ///
-/// Where it returns true, of each section one of two holds: all of it comes before what follows
-/// this call, or it sees what the thread that took did before it took.
+/// If it returns true, of each section one of two holds: all of it comes before what follows this
+/// call, or it sees what the thread that took the cookie did before it took it.
 #[unsafe(no_mangle)]
 pub extern "C" fn rcu_poll(rcu: &mut Rcu, cookie: u64) -> bool
     ensures unchanged { rcu.new.contents ≡ rcu.old.contents }

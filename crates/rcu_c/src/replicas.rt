@@ -36,7 +36,7 @@ fn box_replica(alloc: Global, cpus: u32, last: u64) -> Result<Box<Contents, Glob
 /// Opens a replica of 1 to 4,096 processors at number 0, which awaits nobody. No grace period
 /// begins at `last`, a multiple of 4 from 4 to 2^62. Needs: `replica` is closed.
 ///
-/// Faults: 17 for no processor or more than 4,096; 19 where `last` is no such number; 16.
+/// Faults: 17 for no processor or more than 4,096; 19 if `last` is no such number; 16.
 #[unsafe(no_mangle)]
 pub extern "C" fn rcu_replica_open(
     alloc: Global,
@@ -59,10 +59,10 @@ pub extern "C" fn rcu_replica_open(
 }
 
 /// Begins a grace period that awaits the processors whose bits are set in words of 64, the lowest
-/// first; bits of processors that there are not say nothing. Writes its number, four for each that
+/// first; bits of processors that there are not mean nothing. Writes its number, four for each that
 /// ended and one more. It costs a step a processor, and takes no memory.
 ///
-/// Faults: 8 where one runs; 11 where the number is the last one.
+/// Faults: 8 if one runs; 11 if the number is the last one.
 #[unsafe(no_mangle)]
 pub extern "C" fn rcu_replica_begin(
     replica: &mut RcuReplica,
@@ -97,9 +97,9 @@ fn answer_in_c(answer: Answer) -> u32
     }
 }
 
-/// A processor reports a quiescent state with the number that it had noted. A report of another
-/// number than that of the running grace period changes nothing, nor does a repeated one. Writes an
-/// `rcu_answer`.
+/// Takes a processor's report of a quiescent state, with the number that it had noted. A report of
+/// another number than that of the running grace period changes nothing, nor does a repeated one.
+/// Writes an `rcu_answer`.
 ///
 /// Fault 1: there is no such processor.
 #[unsafe(no_mangle)]
@@ -124,10 +124,11 @@ pub extern "C" fn rcu_replica_report(
     }
 }
 
-/// A processor departs: it is awaited no more in the running grace period. Its message has no
-/// number that is compared, so tell it where it departed in this grace period alone.
+/// Takes a processor's departure: it is awaited no more in the running grace period. Its message
+/// has no number that is compared, so pass it on only if the processor departed in this grace
+/// period.
 ///
-/// Faults: 1 where there is no such processor; 12 for processor 0.
+/// Faults: 1 if there is no such processor; 12 for processor 0.
 #[unsafe(no_mangle)]
 pub extern "C" fn rcu_replica_depart(replica: &mut RcuReplica, cpu: u32) -> u32
     ensures fault { result ≡ replica_number replica.old.contents (number_for
@@ -142,8 +143,9 @@ pub extern "C" fn rcu_replica_depart(replica: &mut RcuReplica, cpu: u32) -> u32
     }
 }
 
-/// Takes in what another replica of the same grace period has heard: the first awaits then whom
-/// both await. `other` is another handle, and stays as it is. It costs a step a processor.
+/// Takes in what another replica of the same grace period has heard: the first one then awaits the
+/// processors that both await. `other` is another handle, and stays as it is. It costs a step a
+/// processor.
 ///
 /// Fault 20: number of processors, number or start set differ.
 #[unsafe(no_mangle)]
@@ -167,7 +169,7 @@ pub extern "C" fn rcu_replica_merge(replica: &mut RcuReplica, other: &mut RcuRep
 }
 
 /// Lists the processors that a replica awaits, in order, `room` at most: writes them from `cpus`
-/// on, where there is room for so many, and how many; what lies behind them stays.
+/// on, and how many they are; the rest of the room stays.
 #[unsafe(no_mangle)]
 pub extern "C" fn rcu_replica_awaited(
     replica: &mut RcuReplica,
@@ -194,7 +196,7 @@ pub extern "C" fn rcu_replica_awaited(
 
 /// Ends the grace period. Writes the new number.
 ///
-/// Faults: 9 where none runs; 10 where a processor is awaited.
+/// Faults: 9 if none runs; 10 if a processor is awaited.
 #[unsafe(no_mangle)]
 pub extern "C" fn rcu_replica_end(replica: &mut RcuReplica, number: &mut u64) -> u32
     ensures fault { result ≡ replica_number replica.old.contents (number_for
@@ -211,7 +213,7 @@ pub extern "C" fn rcu_replica_end(replica: &mut RcuReplica, number: &mut u64) ->
     }
 }
 
-/// Closes a replica, and frees all that it has. Of a handle that is no open replica's it does
+/// Closes a replica, and frees all that it has. If `replica` is not an open replica, it does
 /// nothing.
 #[unsafe(no_mangle)]
 pub extern "C" fn rcu_replica_close(alloc: Global, replica: &mut RcuReplica)

@@ -18,7 +18,7 @@ use crate::codes::{NEVER_DONE, NO_CPU, status, write_out};
 use crate::handle::RcuSeat;
 use rcu_seq::Cookie;
 
-/// The seat's processor. 2^32 - 1, which is none, where `seat` is no open seat's.
+/// Returns the seat's processor, or 2^32 - 1, which is none, if `seat` is not an open seat.
 #[unsafe(no_mangle)]
 pub extern "C" fn rcu_seat_cpu(seat: &mut RcuSeat) -> u32
     ensures unchanged { seat.new.contents ≡ seat.old.contents }
@@ -30,8 +30,8 @@ pub extern "C" fn rcu_seat_cpu(seat: &mut RcuSeat) -> u32
     }
 }
 
-/// How deep the read sections of the seat nest: 0 where none is open, also where `seat` is no open
-/// seat's.
+/// Returns how deep the read sections of the seat nest: 0 if none is open, or if `seat` is not an
+/// open seat.
 #[unsafe(no_mangle)]
 pub extern "C" fn rcu_seat_depth(seat: &mut RcuSeat) -> u32
     ensures unchanged { seat.new.contents ≡ seat.old.contents }
@@ -43,8 +43,8 @@ pub extern "C" fn rcu_seat_depth(seat: &mut RcuSeat) -> u32
     }
 }
 
-/// Whether the seat's processor is online, be it awake or idle. False where `seat` is no open
-/// seat's.
+/// Returns whether the seat's processor is online, awake or idle. False if `seat` is not an open
+/// seat.
 #[unsafe(no_mangle)]
 pub extern "C" fn rcu_seat_is_online(seat: &mut RcuSeat) -> bool
     ensures unchanged { seat.new.contents ≡ seat.old.contents }
@@ -56,7 +56,7 @@ pub extern "C" fn rcu_seat_is_online(seat: &mut RcuSeat) -> bool
     }
 }
 
-/// Whether the seat's processor is idle. False where `seat` is no open seat's.
+/// Returns whether the seat's processor is idle. False if `seat` is not an open seat.
 #[unsafe(no_mangle)]
 pub extern "C" fn rcu_seat_is_idle(seat: &mut RcuSeat) -> bool
     ensures unchanged { seat.new.contents ≡ seat.old.contents }
@@ -70,7 +70,7 @@ pub extern "C" fn rcu_seat_is_idle(seat: &mut RcuSeat) -> bool
 
 /// Opens a read section by one load, or nests one deeper in the open one by none. Writes the depth.
 ///
-/// Faults: 2 where the processor is offline; 23 where it is idle; 6 where the depth is 65,535.
+/// Faults: 2 if the processor is offline; 23 if it is idle; 6 if the depth is 65,535.
 #[unsafe(no_mangle)]
 pub extern "C" fn rcu_seat_enter(seat: &mut RcuSeat, depth: &mut u32) -> u32
     ensures fault { result ≡ seat_number seat.old.contents
@@ -87,7 +87,7 @@ pub extern "C" fn rcu_seat_enter(seat: &mut RcuSeat, depth: &mut u32) -> u32
     }
 }
 
-/// Leaves the innermost section. Writes the depth: 0 where one load closed the section.
+/// Leaves the innermost section. Writes the depth, which is 0 if one load closed the section.
 ///
 /// Neither this nor `rcu_seat_enter` orders what the thread stores: what a section did comes before
 /// the next quiescent state or departure.
@@ -109,17 +109,17 @@ pub extern "C" fn rcu_seat_exit(seat: &mut RcuSeat, depth: &mut u32) -> u32
     }
 }
 
-/// Passes a quiescent state, by one load and one store: what the thread read before, it uses no
-/// more. Writes the number that it saw.
+/// Passes a quiescent state, by one load and one store: from here on the thread uses nothing that
+/// it read before. Writes the number that it saw.
 ///
-/// What the thread did before comes before what follows the collection or the begin that finds this
-/// call. The sections that follow see what came before a begin whose number it saw, and what a
-/// thread did before it took a cookie that such a grace period makes done. A full fence stands
-/// before the look, so the number tests a cookie as `rcu_seat_poll` does. Unfenced the last does
-/// not hold, and what came before an `rcu_seat_take` is sure to be seen by sequentially consistent
-/// loads alone.
+/// All that the thread did before comes before what follows the collection or the begin that finds
+/// this call. The sections that follow see what came before a begin whose number it saw, and what a
+/// thread did before it took a cookie that such a grace period makes done. A full fence precedes
+/// the load, so the number tests a cookie as `rcu_seat_poll` does. Unfenced the last does not hold,
+/// and what came before an `rcu_seat_take` is sure to be seen by sequentially consistent loads
+/// alone.
 ///
-/// Faults: 2 where the processor is offline; 23 where it is idle; 4 where a section is open.
+/// Faults: 2 if the processor is offline; 23 if it is idle; 4 if a section is open.
 ///
 /// Fence: before and behind.
 #[unsafe(no_mangle)]
@@ -137,21 +137,21 @@ pub extern "C" fn rcu_seat_quiesce_unfenced(seat: &mut RcuSeat, number: &mut u64
     }
 }
 
-/// Passes a quiescent state by a load alone, where the last one still serves: where the number is
-/// the one that the seat's last `rcu_seat_quiesce`, `rcu_seat_wake`, `rcu_arrive` or call of this
-/// saw, this call stores nothing. No grace period began or ended since, so the processor is quiet
-/// for as much as it would be. Else it is as `rcu_seat_quiesce`. Writes the number that it saw.
+/// Passes a quiescent state by a load alone, if the last one still counts: if the number is the one
+/// that the seat's last `rcu_seat_quiesce`, `rcu_seat_wake`, `rcu_arrive` or call of this saw, it
+/// stores nothing. No grace period began or ended since, so the earlier report still counts. Else
+/// it does what `rcu_seat_quiesce` does. Writes the number that it saw.
 ///
 /// `number` has what the seat's last `rcu_seat_quiesce`, `rcu_seat_wake` or call of this wrote, or
-/// 0. Where that is the number still, this call makes no fence: the one that wrote it made one, or
-/// no grace period was ever. The sections that follow see the same as after `rcu_seat_quiesce`. No
-/// fence stands before the look: its number tests no cookie for a thread that stored a wish to be
-/// woken. Unfenced, they are sure to see what came before an `rcu_seat_take` by sequentially
-/// consistent loads alone.
+/// 0. If that is still the number, this call executes no fence: the call that wrote it executed the
+/// fence, or no grace period has begun yet. The sections that follow see the same as after
+/// `rcu_seat_quiesce`. No fence precedes the load: its number tests no cookie for a thread that
+/// stored a request to be woken. Unfenced, they are sure to see what came before an `rcu_seat_take`
+/// by sequentially consistent loads alone.
 ///
-/// Faults: 2 where the processor is offline; 23 where it is idle; 4 where a section is open.
+/// Faults: 2 if the processor is offline; 23 if it is idle; 4 if a section is open.
 ///
-/// Fence: behind where `number` changed.
+/// Fence: behind if `number` changed.
 #[unsafe(no_mangle)]
 pub extern "C" fn rcu_seat_quiesce_since_unfenced(seat: &mut RcuSeat, number: &mut u64) -> u32
     ensures fault { result ≡ seat_number seat.old.contents
@@ -169,17 +169,17 @@ pub extern "C" fn rcu_seat_quiesce_since_unfenced(seat: &mut RcuSeat, number: &m
 
 /// Renews the open section: closes it, passes a quiescent state, and opens the next one, by two
 /// loads. For a thread that reads all the time: it keeps one section open, and makes this call
-/// between two looks at the data. What it read before, it uses no more. Writes the number of the
-/// quiescent state.
+/// between two looks at the data. From here on it uses nothing that it read before. Writes the
+/// number of the quiescent state.
 ///
-/// Where the number is the one of the seat's last quiescent state, wake or renewal, it stores
-/// nothing. `number` is as in `rcu_seat_quiesce_since`, and so are the order and the fence. The
-/// section that follows is one of those that "follow".
+/// If the number is the one of the seat's last quiescent state, wake or renewal, it stores nothing.
+/// `number` is as in `rcu_seat_quiesce_since`, and so are the order and the fence. The section that
+/// follows is one of those that "follow".
 ///
-/// Faults: 2 where the processor is offline; 23 where it is idle; 5 where no section is open; 4
-/// where the open one nests.
+/// Faults: 2 if the processor is offline; 23 if it is idle; 5 if no section is open; 4 if the open
+/// one nests.
 ///
-/// Fence: behind where `number` changed.
+/// Fence: behind if `number` changed.
 #[unsafe(no_mangle)]
 pub extern "C" fn rcu_seat_renew_unfenced(seat: &mut RcuSeat, number: &mut u64) -> u32
     ensures fault { result ≡ seat_number seat.old.contents
@@ -194,14 +194,14 @@ pub extern "C" fn rcu_seat_renew_unfenced(seat: &mut RcuSeat, number: &mut u64) 
     }
 }
 
-/// The processor gets idle by one store, until it wakes or departs: it opens no section, and no
+/// Makes the processor idle by one store, until it wakes or departs: it opens no section, and no
 /// grace period waits for it. It stays online, and its callbacks stay. For a thread that is about
 /// to block.
 ///
-/// What the thread did before comes before what follows the collection or the begin that finds it
-/// idle.
+/// All that the thread did before comes before what follows the collection or the begin that finds
+/// it idle.
 ///
-/// Faults: 2 where the processor is offline; 23 where it is idle; 4 where a section is open.
+/// Faults: 2 if the processor is offline; 23 if it is idle; 4 if a section is open.
 #[unsafe(no_mangle)]
 pub extern "C" fn rcu_seat_idle(seat: &mut RcuSeat) -> u32
     ensures fault { result ≡ seat_number seat.old.contents
@@ -215,15 +215,16 @@ pub extern "C" fn rcu_seat_idle(seat: &mut RcuSeat) -> u32
     }
 }
 
-/// The processor wakes, by one load and one store. Writes the number that it saw.
+/// Wakes the processor, by one load and one store. Writes the number that it saw.
 ///
 /// A section may open once it returns. A grace period that begins later awaits the processor. Of
 /// one that found it idle, or whose number it saw, the section sees what came before its begin, and
 /// what a thread did before it took a cookie that is done at its end. Unfenced, what came before an
-/// `rcu_seat_take` is sure to be seen by sequentially consistent loads alone. No fence stands
-/// before the look: who stored a wish to be woken polls by `rcu_seat_poll`, and not by this number.
+/// `rcu_seat_take` is sure to be seen by sequentially consistent loads alone. No fence precedes the
+/// load: a thread that stored a request to be woken polls by `rcu_seat_poll`, and not by this
+/// number.
 ///
-/// Faults: 2 where the processor is offline; 24 where it is awake.
+/// Faults: 2 if the processor is offline; 24 if it is awake.
 ///
 /// Fence: behind.
 #[unsafe(no_mangle)]
@@ -242,10 +243,10 @@ pub extern "C" fn rcu_seat_wake_unfenced(seat: &mut RcuSeat, number: &mut u64) -
 }
 
 /// Takes a cookie, as `rcu_take`, at the number that one load sees, which no later load is below.
-/// In a section or not, online or not. 2^64 - 1, which is done nowhere, where `seat` is no open
-/// seat's.
+/// In a section or not, online or not. Returns 2^64 - 1, which is never done, if `seat` is not an
+/// open seat.
 ///
-/// A full fence stands between what the thread did before, as an unlink, and that load. Unfenced, a
+/// A full fence lies between what the thread did before, as an unlink, and that load. Unfenced, a
 /// section may still come to what was unlinked once the cookie is done.
 ///
 /// Fence: before.
@@ -265,14 +266,14 @@ pub extern "C" fn rcu_seat_take_unfenced(seat: &mut RcuSeat) -> u64
     }
 }
 
-/// Whether a cookie is done, as `rcu_poll`, at the number that one load sees, which no later load
-/// is below. In a section or not, online or not. False where `seat` is no open seat's.
+/// Returns whether a cookie is done, as `rcu_poll`, at the number that one load sees, which no
+/// later load is below. In a section or not, online or not. False if `seat` is not an open seat.
 ///
-/// Where it returns false, what the thread stored before it is seen by what follows the `rcu_end`,
+/// If it returns false, all that the thread stored before it is seen by what follows the `rcu_end`,
 /// the `rcu_turn` or the `rcu_seat_poll` that makes or finds the cookie done. Unfenced it is not: a
-/// thread that stores a wish to be woken, polls, and sleeps may sleep for good.
+/// thread that stores a request to be woken, polls, and sleeps may sleep for good.
 ///
-/// Fence: before, and behind where it returns true.
+/// Fence: before, and behind if it returns true.
 #[unsafe(no_mangle)]
 pub extern "C" fn rcu_seat_poll_unfenced(seat: &mut RcuSeat, cookie: u64) -> bool
     ensures look { seat_refusal seat.old.contents ≡ None → WatchedAt seat.old.contents
