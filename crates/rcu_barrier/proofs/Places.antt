@@ -47,7 +47,8 @@ module _ {X : Type 0} where
       let c = sum_by-cons (λ (q : Queued X). cond (eqb q.ord j) 1 0) call (take_answer xs m) in
       omega (arith, i, c)
 
-  lies-parts : (j : ℕ) (xs : List (Item X)) → lies j (front xs) + lies j (behind xs) ≡ lies j xs
+  -- what stands in the done part and behind it
+  pub lies-parts : (j : ℕ) (xs : List (Item X)) → lies j (front xs) + lies j (behind xs) ≡ lies j xs
   lies-parts j [] = refl
   lies-parts j (Marker ∷ xs) = lies-parts j xs
   lies-parts j (Of call Unmarked ∷ xs) = omega arith

@@ -1,15 +1,16 @@
 //! What the words of a run say, on small runs.
-ghost use Rattle.std.specs.Prelude.{◌≡◌, ◌<◌, ◌==◌, ◌+◌, ◌++◌, [], ◌∷◌, ℕ, All, Bool, List, None};
-ghost use Rattle.std.specs.Prelude.{Some, false, if◌then◌else◌, true};
+ghost use Rattle.std.specs.Prelude.{◌≡◌, ◌<◌, ◌==◌, ◌+◌, ◌++◌, ◌⊎◌, [], ◌∷◌, ℕ, All, Bool, List};
+ghost use Rattle.std.specs.Prelude.{None, Some, true, false, if◌then◌else◌};
 ghost use Rattle.std.specs.List.{list_any};
 ghost use Rattle.rcu_seq.specs.Numbers.{Number};
 ghost use Rattle.rcu_seq.specs.declared.tag.Tag.{Tag};
-ghost use Rattle.rcu_cblist.specs.SegList.{Done, Of, Unmarked, take_answer};
+ghost use Rattle.rcu_cblist.specs.SegList.{Done, Of, Unmarked, behind, callbacks, take_answer};
 ghost use Rattle.rcu_barrier.specs.Lists.{AllLists, at_first, barrier_test_answer, cpus_of};
 ghost use Rattle.rcu_barrier.specs.Lists.{list_of};
 ghost use Rattle.rcu_barrier.specs.Runs.{Call, IsNew, IsRun, copies, lists_after, queued_as};
 ghost use Rattle.rcu_barrier.specs.Runs.{queued_before_barrier, times_handed_out, times_listed};
 ghost use Rattle.rcu_barrier.specs.Runs.{begins_barrier, whereabouts};
+ghost use Rattle.rcu_barrier.specs.Settled.{unsettles};
 ghost use Rattle.rcu_barrier.specs.declared.lists.BarrierState.{BarrierState};
 
 /// A callback is handed out once: it was queued, tended at number 0, tended at 4, and run. It came
@@ -124,6 +125,28 @@ pub fn a_run_is_made_call_by_call<T: Drop>()
         IsRun first calls → IsRun first (Call.Renumber ∷ calls) }
     ensures earlier { (first : AllLists T) (call : Call T) (calls : List (Call T)) →
         IsRun first (call ∷ calls) → IsRun first calls }
+{}
+
+/// A list is unsettled by its own migration and by a renumbering, and by no other call.
+pub fn a_list_is_unsettled_by_two_calls<T: Drop>()
+    ensures migration { (cpu : ℕ) → unsettles {X = T} cpu (Call.Migrate cpu) ≡ true }
+    ensures renumbering { (cpu : ℕ) → unsettles {X = T} cpu Call.Renumber ≡ true }
+    ensures no_other { (cpu : ℕ) (call : Call T) → unsettles cpu call ≡ true →
+        (call ≡ Call.Migrate cpu) ⊎ (call ≡ Call.Renumber) }
+{}
+
+/// Two tends finish a callback, each of them counts, and so does the number of the second: after
+/// one tend the callback waits, and so it does if the grace period that it waits for has not ended.
+pub fn a_callback_waits_until_a_second_tend<T: Drop>()
+    ensures second { (most : ℕ) (at : Tag) (value : T) → copies 1 (callbacks (behind (list_of
+        (lists_after (at_first 2 most) (Call.Tend 0 4 ∷ Call.Tend 0 0 ∷ Call.Queue 0 at value ∷ []))
+        0))) ≡ 0 }
+    ensures first { (most number : ℕ) (at : Tag) (value : T) → copies 1 (callbacks (behind (list_of
+        (lists_after (at_first 2 most) (Call.Tend 0 number ∷ Call.Queue 0 at value ∷ [])) 0)))
+        ≡ 1 }
+    ensures early { (most : ℕ) (at : Tag) (value : T) → copies 1 (callbacks (behind (list_of
+        (lists_after (at_first 2 most) (Call.Tend 0 1 ∷ Call.Tend 0 0 ∷ Call.Queue 0 at value ∷ []))
+        0))) ≡ 1 }
 {}
 
 /// Lists are new before any call, and are not once a callback was queued.

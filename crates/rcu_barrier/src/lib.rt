@@ -5,6 +5,7 @@ pub mod definition_laws;
 pub mod laws;
 pub mod lists;
 mod moving;
+pub mod progress;
 pub mod run_laws;
 mod visits;
 

@@ -1,0 +1,36 @@
+//! How many steps hand a callback out, over every run of calls on the lists, by any callers.
+ghost use Rattle.std.specs.Prelude.{◌≡◌, ◌<◌, ◌≤◌, ◌∷◌, ◌++◌, ℕ, List, false, length};
+ghost use Rattle.std.specs.List.{list_any};
+ghost use Rattle.rcu_seq.specs.Numbers.{snapshot};
+ghost use Rattle.rcu_cblist.specs.SegList.{IsAtMost, behind, callbacks, front};
+ghost use Rattle.rcu_barrier.specs.Lists.{AllLists, list_of};
+ghost use Rattle.rcu_barrier.specs.Runs.{Call, IsNew, IsRun, copies, lists_after, times_handed_out};
+ghost use Rattle.rcu_barrier.specs.Settled.{unsettles};
+
+/// Two tends finish a list: if the number of the second has reached the snapshot of the number of
+/// the first, no callback that was in the list before them waits, and a run with a limit of at
+/// least as many as are done hands it out. Any calls may come between, except a migration of this
+/// list and a renumbering. Before the first tend no callback may wait for a number above that
+/// snapshot, which holds if the lists were tended at the engine's number.
+pub fn two_tends_finish_callbacks<T: Drop>()
+    ensures done { (first : AllLists T) (later earlier : List (Call T))
+        (cpu number reached place : ℕ) → IsNew first →
+        IsRun first (Call.Tend cpu reached ∷ later ++ Call.Tend cpu number ∷ earlier) →
+        IsAtMost (snapshot number) (list_of (lists_after first earlier) cpu) →
+        snapshot number ≤ reached → list_any (unsettles cpu) later ≡ false → 0 < place →
+        place ≤ (lists_after first earlier).queued →
+        copies place (callbacks (list_of (lists_after first earlier) cpu)) ≡ 1 →
+        copies place (callbacks (behind (list_of (lists_after first
+        (Call.Tend cpu reached ∷ later ++ Call.Tend cpu number ∷ earlier)) cpu))) ≡ 0 }
+    ensures handed_out { (first : AllLists T) (later earlier : List (Call T))
+        (cpu number reached most place : ℕ) → IsNew first → IsRun first
+        (Call.Run cpu most ∷ Call.Tend cpu reached ∷ later ++ Call.Tend cpu number ∷ earlier) →
+        IsAtMost (snapshot number) (list_of (lists_after first earlier) cpu) →
+        snapshot number ≤ reached → list_any (unsettles cpu) later ≡ false → 0 < place →
+        place ≤ (lists_after first earlier).queued →
+        copies place (callbacks (list_of (lists_after first earlier) cpu)) ≡ 1 →
+        length (callbacks (front (list_of (lists_after first
+        (Call.Tend cpu reached ∷ later ++ Call.Tend cpu number ∷ earlier)) cpu))) ≤ most →
+        times_handed_out place first
+        (Call.Run cpu most ∷ Call.Tend cpu reached ∷ later ++ Call.Tend cpu number ∷ earlier) ≡ 1 }
+{}
