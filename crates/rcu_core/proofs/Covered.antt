@@ -110,7 +110,7 @@ barrier_each : (s : Size) (h : History) → AreAccepted s h → Barrier h
 barrier_each s [] p = record { covered = λ r c v. absurd (cc); before_le = omega arith }
 barrier_each s (e ∷ h) p = barrier_step s e h p.0 (barrier_each s h p.1)
 
-sum_zero : (n : ℕ) (f : ℕ → ℕ) → ((c : ℕ) → c < n → f c ≡ 0) → sum_below n f ≡ 0
+pub sum_zero : (n : ℕ) (f : ℕ → ℕ) → ((c : ℕ) → c < n → f c ≡ 0) → sum_below n f ≡ 0
 sum_zero zero f h = refl
 sum_zero (suc n) f h =
     let a = h n (omega arith) in

@@ -1,5 +1,9 @@
 -- Runs made longer by legal replies.
-use Rattle.std.proofs.Common.{◌≡◌, ℕ, List, [], ◌∷◌, length, refl, sym, subst, ap, suc}
+use Rattle.std.proofs.Common.{◌≡◌, ◌≢◌, ◌∙◌, ℕ, List, [], ◌∷◌, Some, length, slice_get, refl, sym}
+use Rattle.std.proofs.Common.{subst, ap, zero, suc}
+use Rattle.rcu_seq.specs.declared.fault.Fault.{Fault}
+use Rattle.rcu_core.specs.Progress.{SurelyLeads}
+use Rattle.rcu_core.specs.declared.reply.Reply.TheVariants as reply
 use Rattle.rcu_core.specs.Core.{Represents, State, size_at}
 use Rattle.rcu_core.specs.History.{History}
 use Rattle.rcu_core.specs.Links.{onto}
@@ -75,3 +79,42 @@ ran_one_each v w h events replies ran = one_each (size_at v) h ran.reached event
 pub first_ran_legally : (v w : State ℕ) (events : List Event) (replies : List Reply) →
     RunsLegally v [] events replies w → IsLegalRun (size_at v) (onto events replies [])
 first_ran_legally v w events replies ran = ran_legally v w [] [] events replies ran record {} refl
+
+-- what surely leads on leads a core there, and it refuses nothing
+same_end : (s : Size) (h g k : History) (events : List Event) (replies : List Reply)
+    → Leads s h events replies g → SurelyLeads s h events k → g ≡ k
+same_end s h g k [] [] t u = t ∙ sym u
+same_end s h g k (e ∷ events) (r ∷ replies) t u =
+    same_end s (with_event h e r) g k events replies t.1 (u r t.0).1
+same_end s h g k [] (r ∷ replies) t u = absurd t
+same_end s h g k (e ∷ events) [] t u = absurd t
+
+none_refused : (s : Size) (h g k : History) (events : List Event) (replies : List Reply) (at : ℕ)
+    (fault : Fault)
+    → Leads s h events replies g
+    → SurelyLeads s h events k
+    → slice_get replies at ≢ Some (reply.Fault fault)
+none_refused s h g k [] [] at fault t u i = absurd (cc)
+none_refused s h g k (e ∷ events) (r ∷ replies) zero fault t u i =
+    (u r t.0).0 fault (value_of i)
+  where
+    value_of : {x y : Reply} → Some x ≡ Some y → x ≡ y
+    value_of i = cc
+none_refused s h g k (e ∷ events) (r ∷ replies) (suc at) fault t u i =
+    none_refused s (with_event h e r) g k events replies at fault t.1 (u r t.0).1 i
+none_refused s h g k [] (r ∷ replies) at fault t u i = absurd t
+none_refused s h g k (e ∷ events) [] at fault t u i = absurd t
+
+pub led_there : (v w : State ℕ) (h g : History) (events : List Event) (replies : List Reply)
+    → RunsLegally v h events replies w → SurelyLeads (size_at v) h events g → Represents w g
+led_there v w h g events replies ran u =
+    subst (λ k. Represents w k) (same_end (size_at v) h ran.reached g events replies ran.leads u)
+    ran.has
+
+pub led_unrefused : (v w : State ℕ) (h g : History) (events : List Event) (replies : List Reply)
+    (at : ℕ) (fault : Fault)
+    → RunsLegally v h events replies w
+    → SurelyLeads (size_at v) h events g
+    → slice_get replies at ≢ Some (reply.Fault fault)
+led_unrefused v w h g events replies at fault ran u =
+    none_refused (size_at v) h ran.reached g events replies at fault ran.leads u

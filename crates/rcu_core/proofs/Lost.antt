@@ -16,7 +16,7 @@ use Rattle.rcu_core.proofs.Once.{lies_below, queued_once, sum_below}
 use Rattle.rcu_core.proofs.Readers.{possible}
 
 -- a sum over the processors, from the last one and from the first
-sums_are : (n : ℕ) (f g : ℕ → ℕ) → ((c : ℕ) → f c ≡ g c)
+pub sums_are : (n : ℕ) (f g : ℕ → ℕ) → ((c : ℕ) → f c ≡ g c)
     → sum_by f (range_with_len 0 n) ≡ sum_below n g
 sums_are zero f g e = refl
 sums_are (suc n) f g e =

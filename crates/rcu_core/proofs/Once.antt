@@ -44,7 +44,7 @@ change (suc n) f g d h = elim (cases_eq n d) [
       ]
 ]
 
-sums : (n : ℕ) (f g : ℕ → ℕ) (d : ℕ) → d < n → ((c : ℕ) → (c ≡ d → ⊥) → g c ≡ f c)
+pub sums : (n : ℕ) (f g : ℕ → ℕ) (d : ℕ) → d < n → ((c : ℕ) → (c ≡ d → ⊥) → g c ≡ f c)
     → sum_below n g + f d ≡ sum_below n f + g d
 sums n f g d l h = elim (change n f g d h) [ inl a ↦ a.1 | inr a ↦ absurd (omega arith) ]
 
@@ -209,7 +209,7 @@ once_each s j [] p =
     }
 once_each s j (e ∷ h) p = once_step s j e h p.0 (once_each s j h p.1)
 
-at_most_once : (s : Size) (j : ℕ) (h : History) → AreAccepted s h → times_handed_out j h ≤ 1
+pub at_most_once : (s : Size) (j : ℕ) (h : History) → AreAccepted s h → times_handed_out j h ≤ 1
 unfolding total
 at_most_once s j h p = let o = (once_each s j h p).once in omega (arith, o)
 

@@ -14,7 +14,9 @@ use Rattle.rcu_seq.specs.Tags.{clock_of, is_before}
 use Rattle.rcu_cblist.specs.SegList.{mark_renumbered}
 use Rattle.rcu_cblist.specs.declared.items.Queued.{Queued}
 use Rattle.rcu_cblist.specs.SegList.{Item, Of, Marker, Mark, Unmarked, callbacks, front}
-use Rattle.rcu_cblist.specs.SegList.{after_migrate, remarked, take_answer, after_take, as_it_leaves}
+use Rattle.rcu_cblist.specs.SegList.{after_migrate, remarked, after_take, as_it_leaves}
+use Rattle.rcu_cblist.proofs.SegListLemmas.{each_front, each_moved, each_untaken}
+use Rattle.rcu_barrier.proofs.Maturing.{each_leaving}
 use Rattle.rcu_barrier.specs.Tending.{mark_after_tend, after_tend}
 use Rattle.rcu_core.specs.Callbacks.{handed_out, is_owed, list, queue_count}
 use Rattle.rcu_core.specs.History.{History, depth, enters, epoch, number, opening, section, tag_now}
@@ -31,8 +33,7 @@ use Rattle.rcu_core.proofs.Facts.{Facts, facts}
 use Rattle.rcu_core.proofs.Kept.{queue_counts}
 use Rattle.rcu_core.proofs.Readers.{Open, open_from, possible}
 use Rattle.rcu_state.proofs.Timely.{all_at}
-use Rattle.rcu_core.proofs.Waited.{Waited, each_cond, each_from, each_front, each_leaving}
-use Rattle.rcu_core.proofs.Waited.{each_moved, front_waited, lists_kept, clock_at_queueing}
+use Rattle.rcu_core.proofs.Waited.{Waited, each_cond, front_waited, lists_kept, clock_at_queueing}
 use Rattle.rcu_core.proofs.Waited.{ran_values}
 use Rattle.rcu_core.proofs.Writes.{eqb_self}
 
@@ -95,7 +96,7 @@ lists_step (Run d m) h a c =
     let P = IsAsQueued (Run d m ∷ h) in
     let b = All-weaker (IsAsQueued h) P (stays (Run d m) h) (list c h) (a c) in
     each_cond P (eqb d c) (after_take (list c h) m) (list c h)
-    (each_from P (length (take_answer (list c h) m)) (list c h) b) b
+    (each_untaken P m (list c h) b) b
 lists_step (Visit d) h a c =
     let P = IsAsQueued (Visit d ∷ h) in
     let b = All-weaker (IsAsQueued h) P (stays (Visit d) h) (list c h) (a c) in

@@ -65,7 +65,7 @@ after_answer : (s : Size) (h : History) (e : Event) (o : Option Fault)
 after_answer s h e (Some f) i p = p
 after_answer s h e None i p = after_accepted s h e i p
 
-after_legal : (s : Size) (h : History) (e : Event) (r : Reply)
+pub after_legal : (s : Size) (h : History) (e : Event) (r : Reply)
     → IsLegalReply s (situation h) e r → AreAccepted s h → AreAccepted s (with_event h e r)
 after_legal s h e r (inl i) p = rw i (after_answer s h e (fault_in s (situation h) e) refl p)
 after_legal s h e r (inr i) p = rw i.2 p
@@ -106,7 +106,7 @@ abbrev cookie_in : Reply → Cookie
 cookie_in (reply.Cookie cookie) = cookie
 cookie_in _ = record { epoch = 0; number = 0 }
 
-cookie_is : (s : Size) (h : History) (e : Event) (k : Cookie) → takes e ≡ true
+pub cookie_is : (s : Size) (h : History) (e : Event) (k : Cookie) → takes e ≡ true
     → IsLegalReply s (situation h) e (reply.Cookie k) → k ≡ cookie_at (tag_now h)
 cookie_is s h Take k t (inl i) = ap (λ r. cookie_in r) i
 cookie_is s h Take k t (inr i) = absurd (cc)

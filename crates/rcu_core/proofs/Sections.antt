@@ -32,11 +32,11 @@ same_section : (c : ℕ) (g h : History) → depth c g ≡ depth c h → opening
     → section c g ≡ section c h
 same_section c g h d o = ap₂ (λ (n : ℕ) (y : History). cond (ltb 0 n) (Some y) None) d o
 
-one_deeper : (c : ℕ) (h : History) → exit_count c h ≤ enter_count c h
+pub one_deeper : (c : ℕ) (h : History) → exit_count c h ≤ enter_count c h
     → depth c (Enter c ∷ h) ≡ depth c h + 1
 one_deeper c h le = let n = enter_counts c c h in let i = eqb_self c in grind (arith, nat_tests)
 
-one_less : (c : ℕ) (h : History) → 0 < depth c h → depth c h ≡ depth c (Exit c ∷ h) + 1
+pub one_less : (c : ℕ) (h : History) → 0 < depth c h → depth c h ≡ depth c (Exit c ∷ h) + 1
 one_less c h l = let n = exit_counts c c h in let i = eqb_self c in grind (arith, nat_tests)
 
 opens : (a b : Bool) (x y : History) → a ≡ true → b ≡ true → cond (a && b) x y ≡ x

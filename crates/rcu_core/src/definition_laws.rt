@@ -1,14 +1,18 @@
 //! What the words of a history say, case by case.
-ghost use Rattle.std.specs.Prelude.{◌≡◌, ◌≢◌, ◌⊎◌, ◌+◌, ◌<◌, ◌≤◌, ◌∷◌, ℕ, List, None, Some};
-ghost use Rattle.std.specs.Prelude.{length, true};
+ghost use Rattle.std.specs.Prelude.{◌≡◌, ◌≢◌, ◌⊎◌, ◌+◌, ◌<◌, ◌≤◌, [], ◌∷◌, ℕ, Bool, List, None};
+ghost use Rattle.std.specs.Prelude.{Some, length, true};
 ghost use Rattle.rcu_barrier.specs.Runs.{copies};
 ghost use Rattle.rcu_core.specs.Callbacks.{handed_out, queue_count, queued_before_barrier};
 ghost use Rattle.rcu_core.specs.Callbacks.{times_handed_out};
-ghost use Rattle.rcu_core.specs.History.{History, depth, is_old, section};
 ghost use Rattle.rcu_core.specs.Links.{QueuedAt};
+ghost use Rattle.rcu_core.specs.History.{History, awaits, depth, is_idle, is_old, running};
+ghost use Rattle.rcu_core.specs.History.{section};
+ghost use Rattle.rcu_core.specs.Progress.{EndsBy, HasEnded, HasReported, IsQuiet, LeadsWithMemory};
+ghost use Rattle.rcu_core.specs.Progress.{SurelyLeads, collects, helps, hinders, how_often};
+ghost use Rattle.rcu_core.specs.Progress.{retires, steps_left};
 ghost use Rattle.rcu_core.specs.Replies.{AreAccepted, IsLegalReply, Size, answer};
 ghost use Rattle.rcu_core.specs.Situation.{situation};
-ghost use Rattle.rcu_core.specs.Runs.{takes};
+ghost use Rattle.rcu_core.specs.Runs.{IsLegalRun, Run, history, takes};
 
 use crate::event::Event;
 use crate::reply::Reply;
@@ -96,4 +100,118 @@ pub fn memory_is_wanted_only_for_what_is_stored()
     ensures marked { (size : Size) (h : History) (cpu : ℕ)
         → IsLegalReply size (situation h) (Event.Visit cpu) (Reply.Fault Fault.NoMemory)
         → answer size (situation h) (Event.Visit cpu) ≡ Reply.Visited Visit.Marked }
+{}
+
+/// A begin surely leads on from a new core. An end while a processor is awaited does not, since it
+/// may be refused; nor does what takes memory, as a quiescent state.
+pub fn what_may_be_refused_does_not_surely_lead()
+    ensures begin { (most : ℕ) → SurelyLeads (record { cpus = 1; last = 4; most = most }) []
+        (Event.Begin ∷ []) (Event.Begin ∷ []) }
+    ensures awaited { (last most : ℕ) (reached : History) →
+        SurelyLeads (record { cpus = 1; last = last; most = most }) (Event.Begin ∷ [])
+        (Event.End ∷ []) reached → ⊥ }
+    ensures memory { (last most : ℕ) (reached : History) →
+        SurelyLeads (record { cpus = 1; last = last; most = most }) (Event.Begin ∷ [])
+        (Event.Quiesce 0 ∷ []) reached → ⊥ }
+{}
+
+/// With memory a quiescent state leads on; an end while a processor is awaited still does not.
+pub fn what_memory_alone_refuses_leads_with_memory()
+    ensures quiescent { (last most : ℕ) →
+        LeadsWithMemory (record { cpus = 1; last = last; most = most }) (Event.Begin ∷ [])
+        (Event.Quiesce 0 ∷ []) (Event.Quiesce 0 ∷ Event.Begin ∷ []) }
+    ensures awaited { (last most : ℕ) (reached : History) →
+        LeadsWithMemory (record { cpus = 1; last = last; most = most }) (Event.Begin ∷ [])
+        (Event.End ∷ []) reached → ⊥ }
+{}
+
+/// A grace period has ended if one more end has come and none runs: not while it runs, nor once the
+/// next one has begun, nor once two have ended.
+pub fn a_grace_period_has_ended_after_one_end()
+    ensures ended { HasEnded (Event.Begin ∷ [])
+        (Event.End ∷ Event.Scan 0 ∷ Event.Idle 0 ∷ Event.Begin ∷ []) }
+    ensures runs { HasEnded (Event.Begin ∷ [])
+        (Event.Scan 0 ∷ Event.Idle 0 ∷ Event.Begin ∷ []) → ⊥ }
+    ensures begun { HasEnded (Event.Begin ∷ [])
+        (Event.Begin ∷ Event.End ∷ Event.Begin ∷ []) → ⊥ }
+    ensures two { HasEnded (Event.Begin ∷ [])
+        (Event.End ∷ Event.Begin ∷ Event.End ∷ Event.Begin ∷ []) → ⊥ }
+{}
+
+/// The steps that are left are two for each awaited processor, or one if it is idle, and one more
+/// for each open enter; none for a processor that is not awaited; and one for the end.
+pub fn steps_that_are_left_are_counted()
+    ensures begun { (last most : ℕ) → steps_left (record { cpus = 1; last = last; most = most })
+        (Event.Begin ∷ []) ≡ 3 }
+    ensures idle { (last most : ℕ) → steps_left (record { cpus = 1; last = last; most = most })
+        (Event.Idle 0 ∷ Event.Begin ∷ []) ≡ 2 }
+    ensures nested { (last most : ℕ) → steps_left (record { cpus = 1; last = last; most = most })
+        (Event.Enter 0 ∷ Event.Enter 0 ∷ Event.Begin ∷ []) ≡ 5 }
+    ensures scanned { (last most : ℕ) → steps_left (record { cpus = 1; last = last; most = most })
+        (Event.Scan 0 ∷ Event.Idle 0 ∷ Event.Begin ∷ []) ≡ 1 }
+    ensures each { (last most : ℕ) → steps_left (record { cpus = 2; last = last; most = most })
+        (Event.Begin ∷ Event.Online 1 ∷ []) ≡ 5 }
+    ensures late { (last most : ℕ) → steps_left (record { cpus = 2; last = last; most = most })
+        (Event.Online 1 ∷ Event.Begin ∷ []) ≡ 3 }
+{}
+
+/// A step is taken by an exit, a step to idle or a scan, and added by an enter or a wake, of an
+/// awaited processor only.
+pub fn three_events_take_a_step_and_two_add_one()
+    ensures helps { (event : Event) (h : History) → helps event h ≡ true → (cpu : ℕ)
+        × ((awaits cpu h ≡ true) × ((event ≡ Event.Exit cpu) ⊎ ((event ≡ Event.Idle cpu)
+        ⊎ (event ≡ Event.Scan cpu)))) }
+    ensures hinders { (event : Event) (h : History) → hinders event h ≡ true → (cpu : ℕ)
+        × ((awaits cpu h ≡ true) × ((event ≡ Event.Enter cpu) ⊎ (event ≡ Event.Wake cpu))) }
+    ensures exit { (h : History) (cpu : ℕ) → helps (Event.Exit cpu) h ≡ awaits cpu h }
+    ensures idle { (h : History) (cpu : ℕ) → helps (Event.Idle cpu) h ≡ awaits cpu h }
+    ensures scan { (h : History) (cpu : ℕ) → helps (Event.Scan cpu) h ≡ awaits cpu h }
+    ensures enter { (h : History) (cpu : ℕ) → hinders (Event.Enter cpu) h ≡ awaits cpu h }
+    ensures wake { (h : History) (cpu : ℕ) → hinders (Event.Wake cpu) h ≡ awaits cpu h }
+{}
+
+/// Each step counts where it was taken: a second scan of the same processor is no step.
+pub fn steps_count_where_they_are_taken()
+    ensures none { (test : Event → History → Bool) (h : History) → how_often test [] h ≡ 0 }
+    ensures taken { how_often helps (Event.Scan 0 ∷ Event.Scan 0 ∷ Event.Idle 0 ∷ [])
+        (Event.Begin ∷ []) ≡ 2 }
+    ensures added { how_often hinders (Event.Wake 0 ∷ Event.Idle 0 ∷ Event.Exit 0 ∷ Event.Enter 0
+        ∷ []) (Event.Begin ∷ []) ≡ 2 }
+{}
+
+/// A report is of the processor that made it and of the tag that it had noted: none of another
+/// processor, none of an earlier tag, and none before the quiescent state.
+pub fn a_report_is_of_its_processor_and_tag()
+    ensures reported { HasReported 0 (Event.Quiesce 0 ∷ Event.Note 0 ∷ Event.Begin ∷ []) }
+    ensures other { HasReported 1 (Event.Quiesce 0 ∷ Event.Note 0 ∷ Event.Begin ∷ []) → ⊥ }
+    ensures early { HasReported 0 (Event.Quiesce 0 ∷ Event.Begin ∷ Event.Note 0 ∷ []) → ⊥ }
+    ensures noted { HasReported 0 (Event.Note 0 ∷ Event.Begin ∷ []) → ⊥ }
+{}
+
+/// A processor is quiet if it is idle or has reported; not once it is awake again without a report.
+pub fn a_quiet_processor_is_idle_or_has_reported()
+    ensures idle { (h : History) (cpu : ℕ) → is_idle cpu h ≡ true → IsQuiet cpu h }
+    ensures reported { (h : History) (cpu : ℕ) → HasReported cpu h → IsQuiet cpu h }
+    ensures awake { IsQuiet 0 (Event.Wake 0 ∷ Event.Idle 0 ∷ Event.Begin ∷ []) → ⊥ }
+{}
+
+/// Which events retire an awaited processor, and which collect what a quiet one has said.
+pub fn few_events_retire_or_collect()
+    ensures retires { (event : Event) → retires event ≡ true → (event ≡ Event.End) ⊎ ((cpu : ℕ)
+        × ((event ≡ Event.Exit cpu) ⊎ ((event ≡ Event.Idle cpu) ⊎ (event ≡ Event.Scan cpu)))) }
+    ensures collects { (event : Event) → collects event ≡ true → (event ≡ Event.End) ⊎ ((place : ℕ)
+        × ((event ≡ Event.Deliver place) ⊎ (event ≡ Event.Scan place))) }
+{}
+
+/// A grace period of one processor ends by three events that retire it, and by no fewer; by two
+/// that collect its report.
+pub fn a_grace_period_ends_by_its_steps()
+    ensures retired { (last most : ℕ) →
+        EndsBy retires (record { cpus = 1; last = last; most = most }) (Event.Begin ∷ []) 3 }
+    ensures collected { (last most : ℕ) →
+        EndsBy collects (record { cpus = 1; last = last; most = most })
+        (Event.Quiesce 0 ∷ Event.Note 0 ∷ Event.Begin ∷ []) 2 }
+    ensures fewer { (size : Size) (run : Run) (count : ℕ) → IsLegalRun size run
+        → running (history run) ≡ true → EndsBy retires size (history run) count
+        → steps_left size (history run) ≤ count }
 {}

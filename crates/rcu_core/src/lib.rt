@@ -7,6 +7,7 @@ pub mod definition_laws;
 pub mod event;
 pub mod event_core;
 pub mod laws;
+pub mod progress;
 pub mod reply;
 pub mod run_laws;
 pub mod value_list;
