@@ -26,11 +26,11 @@ use Rattle.rcu_live.specs.Runs.{Collect, CollectAwaited, StartPoll, Join, Leave,
 use Rattle.rcu_live.specs.Runs.{Queue, Tend, Run, BarrierBegin, Visit, BarrierTest}
 
 -- the counter after an end
-abbrev ended : Periods → Periods
+abbrev pub ended : Periods → Periods
 ended p = record p { ends = p.ends + 1; running = false }
 
 -- what one call does to the counter: nothing, a begin, an end, or both
-data Moved (old new : Periods) : Type 0 where
+pub data Moved (old new : Periods) : Type 0 where
   Stays : new ≡ old → Moved old new
   Begins : old.running ≡ false → new ≡ record old { running = true } → Moved old new
   Ends : old.running ≡ true → new ≡ ended old → Moved old new
@@ -221,7 +221,7 @@ module _ {C X : Type 0} where
       (λ _. Stays (same_grace (reports_quiescence (number_of e.grace.seq) word) e.grace.seq
       (after_current_report e.grace cpu) e.grace refl refl)) (λ _. Stays refl)
 
-  moved : (e : Locked C X) (call : Call X) → MayCall e call
+  pub moved : (e : Locked C X) (call : Call X) → MayCall e call
       → Moved e.grace.seq (after_call e call).grace.seq
   moved e (Begin word) may = Begins may refl
   moved e End may = Ends may refl

@@ -37,7 +37,7 @@ module _ {X : Type 0} where
   arrived g cpu true = refl
   arrived g cpu false = refl
 
-  departed : (g : Grace X) (cpu : ℕ) → (with_departure g cpu).lists ≡ g.lists
+  pub departed : (g : Grace X) (cpu : ℕ) → (with_departure g cpu).lists ≡ g.lists
   departed g cpu = heard (is_in g.processors.online cpu) g (with_call g (Depart cpu)) refl
 
   visited_length : (all : AllLists X) (xs : List (List (Item X))) (flags : List Bool) (b : Bool)
@@ -68,7 +68,7 @@ module _ {X : Type 0} where
 
 module _ {C X : Type 0} where
   -- what changes no list and no processor's count
-  record Keeps (e f : Locked C X) : Type 0 where
+  pub record Keeps (e f : Locked C X) : Type 0 where
     pub same : f.grace.lists ≡ e.grace.lists
     pub count : f.cpus ≡ e.cpus
 
@@ -82,23 +82,23 @@ module _ {C X : Type 0} where
   kept_if true e f g k l = k
   kept_if false e f g k l = l
 
-  kept_begin : (e : Locked C X) (word : ℕ → ℕ) → Keeps e (after_begin e word)
+  pub kept_begin : (e : Locked C X) (word : ℕ → ℕ) → Keeps e (after_begin e word)
   kept_begin e word = record { same = refl; count = refl }
 
-  kept_end : (e : Locked C X) → Keeps e (after_end e)
+  pub kept_end : (e : Locked C X) → Keeps e (after_end e)
   kept_end e = record { same = refl; count = refl }
 
-  kept_turn : (e : Locked C X) (word : ℕ → ℕ) → Keeps e (after_turn e word)
+  pub kept_turn : (e : Locked C X) (word : ℕ → ℕ) → Keeps e (after_turn e word)
   kept_turn e word =
       let ended = kept_if (awaited_in e.grace == 0) e (after_end e) e (kept_end e) (kept e) in
       let begun = kept_if (wants_begin (periods_of e.grace)) e (after_begin e word) e
       (kept_begin e word) (kept e) in
       kept_if e.grace.seq.running e _ _ ended begun
 
-  kept_collections : (e : Locked C X) (word : ℕ → ℕ) → Keeps e (after_collections e word)
+  pub kept_collections : (e : Locked C X) (word : ℕ → ℕ) → Keeps e (after_collections e word)
   kept_collections e word = record { same = refl; count = refl }
 
-  kept_drive : (e : Locked C X) (is_wanted : Bool) (word : ℕ → ℕ)
+  pub kept_drive : (e : Locked C X) (is_wanted : Bool) (word : ℕ → ℕ)
       → Keeps e (after_drive e is_wanted word)
   kept_drive e is_wanted word =
       let now = moved_on e is_wanted word in
@@ -107,20 +107,20 @@ module _ {C X : Type 0} where
       kept_if (now.grace.seq.running && (awaited_in now.grace == 0)) e (after_end now) now
       (kept_both e now (after_end now) moved (kept_end now)) moved
 
-  kept_collect : (e : Locked C X) (cpu word : ℕ) → Keeps e (after_collect e cpu word)
+  pub kept_collect : (e : Locked C X) (cpu word : ℕ) → Keeps e (after_collect e cpu word)
   kept_collect e cpu word =
       let told = reports_quiescence (number_of e.grace.seq) word in
       kept_if e.grace.seq.running e _ e
       (record { same = heard told e.grace (after_current_report e.grace cpu) refl; count = refl })
       (kept e)
 
-  kept_join : (e : Locked C X) (cpu : ℕ) → Keeps e (after_join e cpu)
+  pub kept_join : (e : Locked C X) (cpu : ℕ) → Keeps e (after_join e cpu)
   kept_join e cpu = record {
     same = arrived e.grace cpu (is_in e.grace.processors.online cpu);
     count = refl;
   }
 
-  kept_departure : (e : Locked C X) (cpu word : ℕ) → Keeps e (after_departure e cpu word)
+  pub kept_departure : (e : Locked C X) (cpu word : ℕ) → Keeps e (after_departure e cpu word)
   kept_departure e cpu word = record { same = departed e.grace cpu; count = refl }
 
   kept_start_poll : (e : Locked C X) → Keeps e (on_grace (λ g. after_start_poll g) e)
@@ -130,7 +130,7 @@ module _ {C X : Type 0} where
   kept_look e cpu word = record { same = refl; count = refl }
 
   -- which call on the lists a call of the engine is, if any
-  abbrev on_lists : Locked C X → Call X → List (lists.Call X)
+  abbrev pub on_lists : Locked C X → Call X → List (lists.Call X)
   on_lists e (Leave cpu word) = lists.Migrate cpu ∷ []
   on_lists e (Queue cpu value) = lists.Queue cpu (tag_of e.grace.seq) value ∷ []
   on_lists e (Tend cpu) = lists.Tend cpu (number_of e.grace.seq) ∷ []
@@ -141,14 +141,14 @@ module _ {C X : Type 0} where
   on_lists e _ = []
 
   -- the calls on the lists that a run makes
-  abbrev list_calls : Locked C X → List (Call X) → List (lists.Call X)
+  abbrev pub list_calls : Locked C X → List (Call X) → List (lists.Call X)
   list_calls first [] = []
   list_calls first (call ∷ calls) =
       on_lists (engine_after first calls) call ++ list_calls first calls
 
   -- a run on the lists that leaves the lists of an engine, and tells of it what the run of the
   -- engine does
-  record Onto (first : AllLists X) (run : List (lists.Call X)) (e : Locked C X) (times : ℕ → ℕ)
+  pub record Onto (first : AllLists X) (run : List (lists.Call X)) (e : Locked C X) (times : ℕ → ℕ)
       (before : ℕ) (queued : ℕ → Option (Queued X)) : Type 0 where
     pub leaves : lists.lists_after first run ≡ e.grace.lists
     pub is : lists.IsRun first run
@@ -278,13 +278,22 @@ module _ {C X : Type 0} where
   }
   each first (call ∷ calls) sized is = step first call calls is.0 (each first calls sized is.1)
 
+  pub runs_onto : (first : Locked C X) (calls : List (Call X))
+      → length first.grace.lists.lists ≡ first.cpus
+      → IsRun first calls
+      → Onto first.grace.lists (list_calls first calls) (engine_after first calls)
+      (λ j. times_handed_out j first calls) (queued_before_barrier first calls)
+      (λ j. queued_as j first calls)
+  unfolding Stands
+  runs_onto first calls sized is = each first calls sized is
+
 module _ {C X : Type 0} (first : Locked C X) (calls : List (Call X)) (place : ℕ)
     (new : IsNew first) where
   -- there are as many lists as processors, and they are as at first
-  as_many_lists : length first.grace.lists.lists ≡ first.cpus
+  pub as_many_lists : length first.grace.lists.lists ≡ first.cpus
   as_many_lists = ap (λ (all : AllLists X). length all.lists) new ∙ length-replicate first.cpus []
 
-  lists_new : lists.IsNew first.grace.lists
+  pub lists_new : lists.IsNew first.grace.lists
   lists_new = new ∙ ap (λ n. at_first n first.grace.lists.most) (sym as_many_lists)
 
   -- no callback is handed out twice

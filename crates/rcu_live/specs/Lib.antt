@@ -9,6 +9,7 @@ pub mod Met
 pub mod NextCpu
 pub mod Numbers
 pub mod Opening
+pub mod Progress
 pub mod Rule
 pub mod Runs
 pub mod Several

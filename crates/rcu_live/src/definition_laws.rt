@@ -16,6 +16,7 @@ ghost use Rattle.rcu_live.specs.Engine.{HasWaited, Locked};
 ghost use Rattle.rcu_live.specs.EngineLists.{AreDue};
 ghost use Rattle.rcu_live.specs.Numbers.{idle_word, is_number_word};
 ghost use Rattle.rcu_live.specs.Opening.{engine_at_first};
+ghost use Rattle.rcu_live.specs.Progress.{leaves};
 ghost use Rattle.rcu_live.specs.Runs.{Call, IsNew, IsRun, Makes, MayCall, after_call};
 ghost use Rattle.rcu_live.specs.Runs.{engine_after, queued_as, queued_before_barrier};
 ghost use Rattle.rcu_live.specs.Runs.{times_handed_out, turns_since};
@@ -191,6 +192,13 @@ pub fn what_is_due_has_waited<T: Drop>()
         length calls ≤ most }
     ensures word { (number most : ℕ) (calls : List (Queued T)) → AreDue number most calls →
         is_number_word number ≡ true }
+{}
+
+/// A processor leaves by a leave of its own, and by no other call.
+pub fn a_processor_leaves_by_its_leave<T: Drop>()
+    ensures leave { (cpu word : ℕ) → leaves {X = T} cpu (Call.Leave cpu word) ≡ true }
+    ensures no_other { (cpu : ℕ) (call : Call T) → leaves cpu call ≡ true →
+        (word : ℕ) × (call ≡ Call.Leave cpu word) }
 {}
 
 /// A pair of clients holds where each one's rule holds of its own words, the second's behind the

@@ -24,6 +24,7 @@ pub mod meeting;
 mod next_cpu;
 pub mod opening;
 pub mod parts;
+pub mod progress;
 pub mod reading;
 pub mod rule;
 mod seats;
