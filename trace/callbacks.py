@@ -1,0 +1,131 @@
+"""Callbacks: what they wait for, when they are invoked, and the barrier."""
+from comparison import snapshot
+
+
+class Callbacks:
+    """A part of a replay, by the events rcu_callback, rcu_batch_start, rcu_invoke_callback,
+    rcu_batch_end, rcu_barrier and rcu_sr_normal."""
+
+    def __init__(self):
+        self.ids = 0
+        self.queued = {}  # of a callback's address: its id (0: in no list), its cookie, the event
+        self.handed = []  # ids that the engine handed out, and Linux has not invoked yet
+        self.batch = {}  # of a CPU: the ids that its batch invoked so far
+        self.taken_at = None  # the number at which a cookie was taken last
+        self.in_barrier = False
+
+    def take(self, event):
+        """The cookie of a snapshot that Linux takes now."""
+        cookie = snapshot(self.number)
+        if self.taken_at != self.number:
+            self.taken_at = self.number
+            self.want("take", "cookies", event, f"cookie {cookie}",
+                      f"a snapshot of the number {self.linux(self.number)}")
+        return cookie
+
+    def accelerate(self, event, needs):
+        cookie, wanted = self.take(event), needs - self.base
+        first_known = any(low <= event.cpu <= high for low, high in self.begun)
+        if wanted != cookie and wanted == self.before and not first_known:
+            self.seen["AccWaitCB, AccReadyCB: number read just before a start"] += 1
+            cookie = self.before
+        self.compare("needed numbers (AccWaitCB, AccReadyCB)", event, wanted == cookie,
+                     f"Linux lets callbacks of CPU {event.cpu} wait for {needs}, the engine for "
+                     f"{self.linux(cookie)}")
+
+    def rcu_callback(self, event):
+        cpu, address = event.cpu, event.words[1]
+        if cpu not in self.online:
+            self.queued[address] = 0, self.take(event), event
+            self.seen["callbacks queued, and not given to a list"] += 1
+            return
+        self.ids += 1
+        self.queued[address] = self.ids, self.take(event), event
+        self.want(f"queue {cpu} {self.ids}", "callbacks queued", event, f"queued {self.ids}",
+                  "a callback is queued")
+        self.say(f"tend {cpu}")
+
+    # ---- a batch, in which a CPU invokes callbacks
+
+    def hand_out(self, event):
+        """The engine hands out what is done of the CPU's list."""
+        def take_ids(reply):
+            self.handed.extend(int(it) for it in reply.split()[1:] if it != "none")
+        self.say(f"tend {event.cpu}")
+        self.say(f"run {event.cpu} 1000000", "batches", event, take_ids)
+
+    def is_early_leaf(self):
+        """Between the end in a leaf and that in the root, a leaf's gp_seq is ahead."""
+        return bool(self.period and self.period.rooted)
+
+    def rcu_batch_start(self, event):
+        self.batch[event.cpu] = []
+        if not self.is_early_leaf():
+            self.hand_out(event)
+
+    def rcu_invoke_callback(self, event):
+        if "rcu_barrier_callback" in event.text:
+            return
+        queued = self.queued.pop(event.words[1], None)
+        if not queued:
+            self.seen["callbacks invoked that were queued before the trace"] += 1
+            return
+        if self.is_early_leaf() and queued[1] > self.number:
+            self.seen["callbacks invoked between the end in a leaf and that in the root"] += 1
+            self.late.append(lambda: (self.hand_out(event), self.invoke(event, queued)))
+        else:
+            if self.is_early_leaf():
+                self.hand_out(event)
+            self.invoke(event, queued)
+
+    def invoke(self, event, queued):
+        """The callback's grace period is over, and the engine handed it out, of any list."""
+        number, cookie, at = queued
+        waits_for = self.linux(cookie) - 3
+        words = (f"Linux invokes callback {event.words[1]} on CPU {event.cpu}, queued at line "
+                 f"{at.line}")
+        self.want(f"poll {cookie}", "callbacks invoked", event, "done",
+                  f"{words}, before grace period {waits_for} has ended")
+        if number:
+            self.say("", "callbacks handed out", event,
+                     lambda _: None if number in self.handed else
+                     f"{words} on CPU {at.cpu}; in the engine's list it still waits, for grace "
+                     f"period {waits_for} or a later one")
+            self.say("", None, event, lambda _: self.note_order(event.cpu, number))
+
+    def note_order(self, cpu, number):
+        """Whether Linux's order is that of the engine's lists (it is another one after a
+        migration)."""
+        ordered = not self.handed or self.handed[0] == number
+        self.seen["callbacks in " + ("the order of the engine's lists" if ordered else
+                                     "another order")] += 1
+        self.handed.remove(number)
+
+    # ---- waiting for callbacks, and for readers
+
+    def rcu_barrier(self, event):
+        what, cpu = event.words[1], int(event.words[3])
+        if what == "Inc1":
+            self.in_barrier = True
+            self.want("bar", "barriers begun", event, "barrier begun", "rcu_barrier begins")
+        elif what in ("IRQ", "IRQNQ", "NQ", "OfflineNoCBQ") and self.in_barrier:
+            self.say(f"visit {event.cpu if cpu < 0 else cpu}", "visits of a barrier", event,
+                     lambda it: None if it in ("marked", "empty", "already") else
+                     f"rcu_barrier looks at a CPU; the engine says '{it}'")
+        elif what == "Inc2" and self.in_barrier:
+            self.in_barrier = False
+            self.want("bartest", "barriers done", event, "barrier done",
+                      "rcu_barrier is done in Linux")
+
+    def rcu_sr_normal(self, event):
+        address, what = "sync " + event.words[1], event.words[-1]
+        if what == "event=request":
+            self.queued[address] = 0, self.take(event), event
+        elif what == "event=complete" and address in self.queued:
+            _, cookie, _ = self.queued.pop(address)
+            self.want(f"poll {cookie}", "returns of synchronize_rcu", event, "done",
+                      f"synchronize_rcu returns on CPU {event.cpu} before grace period "
+                      f"{self.linux(cookie) - 3} has ended")
+
+    def rcu_batch_end(self, event):
+        self.batch.pop(event.cpu, None)

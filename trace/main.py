@@ -1,0 +1,246 @@
+#!/usr/bin/env python3
+"""Compares a trace of Linux's RCU with the proved engine.
+
+Use: rcu trace [--script FILE] [--svg FILE] [--only A..B] [--most N] [--totals] TRACE..
+
+TRACE is a file that /sys/kernel/tracing/trace, trace_pipe or 'trace-cmd report' wrote, packed by
+gzip or not, or '-' for standard input. It has the events rcu:* and cpuhp:*, of a kernel with
+CONFIG_RCU_TRACE. Each event becomes lines of a script, and the replies of the proved engine are
+compared with what the event says.
+
+It prints a line for each grace period: who was awaited, how long it took, and which CPU was heard
+of last, and by what. Then it prints totals. At a difference it says in Linux's words what the
+kernel did and the engine would not, and goes on with the next grace period.
+
+  --script FILE  writes the script, for './rcu script'
+  --svg FILE     draws the grace periods, as many as 200
+  --only A..B    lists and draws the grace periods from number A to number B alone
+  --most N       ends after N differences (5)
+  --totals       prints no line for each grace period
+
+The status is 0 if the kernel and the engine agree, 1 if they differ, 2 if the trace cannot be
+compared, 3 if the program rcu is missing or ends.
+"""
+import argparse
+import collections
+import os
+import sys
+
+HERE = os.path.dirname(os.path.realpath(__file__))
+sys.dont_write_bytecode = True
+sys.path.insert(0, HERE)
+from comparison import Difference, cpus
+from engine import Engine, Stopped
+from events import Order, read, windows
+from periods import Ahead, Standing, Tree
+from picture import picture
+from replay import Replay, is_boot
+
+MOST_DRAWN = 200
+
+
+class Unusable(Exception):
+    """The trace cannot be compared, and why."""
+
+
+class Trace:
+    """The comparison of a whole trace: it replays stretch after stretch, and prints."""
+
+    def __init__(self, options):
+        self.options, self.order, self.standing = options, Order(), Standing()
+        self.tree, self.replay, self.engine, self.first = None, None, None, True
+        self.agreed, self.seen = collections.Counter(), collections.Counter()
+        self.drawn, self.events, self.periods, self.lines, self.differences = [], 0, 0, 0, 0
+        self.script = open(options.script, "w", encoding="ascii") if options.script else None
+
+    def compare(self):
+        """Compares all of it. Returns whether the kernel and the engine agree."""
+        for window in windows(read(self.options.trace, self.say_lost)):
+            self.events += len(window)
+            window = self.order.mended(window)
+            ahead = Ahead(window, self.standing.watched)
+            self.find_tree(ahead)
+            self.compare_window(window, ahead)
+            self.list_periods(ahead)
+            if self.differences >= self.options.most:
+                break
+        self.close()
+        if not self.tree:
+            raise Unusable("the trace has no rcu_grace_period 'start' with rcu_grace_period_init, "
+                           "so nobody knows who is awaited: record the events rcu:*")
+        return not self.differences
+
+    @staticmethod
+    def say_lost(line, words):
+        print(f"line {line}: events were lost, so differences behind it mean little: {words}")
+
+    def find_tree(self, ahead):
+        period = next((it for it in ahead.period_at.values() if it.inits), None)
+        if self.tree is None and period:
+            self.tree = Tree(period, period.start.words[0] == "rcu_preempt")
+
+    # ---- one window: all events up to the end of a grace period
+
+    def compare_window(self, window, ahead):
+        place = 0
+        while place < len(window) and self.differences < self.options.most:
+            if self.replay and self.replay.is_long():
+                self.close()
+            if not self.replay:
+                begin = self.begin(window, ahead, place)
+                self.stand(window[place:begin])
+                if begin == len(window):
+                    return
+                place = begin
+            end = self.go_on(window, ahead, place)
+            self.stand(window[place:end])
+            place = end
+
+    def begin(self, window, ahead, place):
+        """Begins a replay at the next start of a grace period. Returns the place of its event, or
+        that behind the window."""
+        for at in range(place, len(window)):
+            period = ahead.period_at.get(at)
+            if period and period.inits and self.tree:
+                boots = self.first and is_boot(period)
+                at = place if boots else at
+                self.stand(window[place:at])
+                self.replay = Replay(self.tree, period, None if boots else self.standing)
+                self.engine = Engine(self.options.rcu, self.tree, self.script)
+                self.first = False
+                return at
+        return len(window)
+
+    def go_on(self, window, ahead, place):
+        """Compares the window from this place on. Returns the place behind what was compared."""
+        for at in range(place, len(window)):
+            self.replay.take_event(at, window[at], ahead)
+        checks = self.replay.take_checks()
+        replies = self.engine.replies([it.line for it in checks if it.line])
+        try:
+            for check in checks:
+                self.replay.settle(check, next(replies) if check.line else "")
+            for _ in replies:  # (waits for the writer)
+                pass
+        except Difference as difference:
+            self.tell(difference)
+            self.close()
+            return max(place + 1, next((at for at, it in enumerate(window)
+                                        if it.line > difference.event.line), len(window)))
+        return len(window)
+
+    def stand(self, events):
+        for it in events:
+            self.standing.take(it)
+
+    def tell(self, difference):
+        event = difference.event
+        self.differences += 1
+        print(f"line {event.line}, {event.time}, CPU {event.cpu}, {event.task}: {event.name} "
+              f"{event.text}\n    {difference.words}")
+
+    def close(self):
+        """Ends the replay. What it counted stays."""
+        if self.replay:
+            self.agreed.update(self.replay.agreed)
+            self.seen.update(self.replay.seen)
+            self.lines += self.engine.lines
+            self.engine.close()
+            self.replay = None
+
+    # ---- what is printed
+
+    def list_periods(self, ahead):
+        low, high = self.options.only
+        for period in ahead.period_at.values():
+            self.periods += 1
+            if not low <= period.number <= high:
+                continue
+            if self.options.svg and len(self.drawn) < MOST_DRAWN:
+                self.drawn.append(period)
+            if not self.options.totals:
+                print(line_of(period, self.tree))
+
+    def totals(self):
+        print(f"{self.events} events, {self.periods} grace periods, {self.tree.cpus} CPUs, "
+              f"{self.lines} lines of script")
+        for kind, count in sorted(self.agreed.items()):
+            print(f"{count:9} {kind}: agree")
+        for kind, count in sorted(self.seen.items()):
+            print(f"{count:9} {kind}")
+        if self.order.moved:
+            print(f"{self.order.moved:9} reports in a wrong order within one time "
+                  "(trace_clock=counter has no such ties)")
+        print(f"{self.differences} differences")
+
+
+def line_of(period, tree):
+    """A grace period in a line."""
+    head = f"grace period {period.number}: awaited {cpus(period.awaited())}"
+    heard = [it for it in period.heard if tree and it[0] < tree.cpus + len(tree.readers)]
+    if not period.end:
+        return f"{head}; not over"
+    took = float(period.end.time) - float(period.start.time)
+    took = f"{took * 1000:.3f} ms" if "." in period.start.time else f"{took:.0f} events"
+    if not heard:
+        return f"{head}; took {took}"
+    cpu, _, how = heard[-1]
+    who = f"CPU {cpu}" if cpu < tree.cpus else "readers"
+    return f"{head}; took {took}; last was {who} ({how})"
+
+
+def range_of(words):
+    low, dots, high = words.partition("..")
+    if not dots:
+        raise argparse.ArgumentTypeError("a range is A..B")
+    return int(low or -10**9), int(high or 10**9)
+
+
+def options_of(words):
+    parser = argparse.ArgumentParser(prog="rcu trace", usage=__doc__.splitlines()[2][5:],
+                                     description=__doc__, add_help=False,
+                                     formatter_class=argparse.RawDescriptionHelpFormatter)
+    parser.add_argument("trace", nargs="+")
+    parser.add_argument("--rcu", action="append", help=argparse.SUPPRESS)
+    parser.add_argument("--script")
+    parser.add_argument("--svg")
+    parser.add_argument("--only", type=range_of, default=(-10**9, 10**9))
+    parser.add_argument("--most", type=int, default=5)
+    parser.add_argument("--totals", action="store_true")
+    options = parser.parse_args(words)
+    options.rcu = options.rcu or [os.environ.get("RCU", "rcu")]
+    return options
+
+
+def main(words):
+    if not words or words[0] in ("-h", "--help"):
+        print(__doc__, end="", file=sys.stdout if words else sys.stderr)
+        return 0 if words else 2
+    options = options_of(words)
+    trace = Trace(options)
+    try:
+        agree = trace.compare()
+        trace.totals()
+        if options.svg:
+            with open(options.svg, "w", encoding="utf-8") as file:
+                file.write(picture(trace.drawn, trace.tree.cpus))
+    except BrokenPipeError:
+        raise
+    except (OSError, EOFError) as error:
+        print(f"rcu trace: {error}", file=sys.stderr)
+        return 3 if isinstance(error, FileNotFoundError) and error.filename in options.rcu else 2
+    except Unusable as error:
+        print(f"rcu trace: {error}", file=sys.stderr)
+        return 2
+    except Stopped as error:
+        print(f"rcu trace: {error}", file=sys.stderr)
+        return 3
+    return 0 if agree else 1
+
+
+if __name__ == "__main__":
+    try:
+        sys.exit(main(sys.argv[1:]))
+    except BrokenPipeError:
+        os.dup2(os.open(os.devnull, os.O_WRONLY), sys.stdout.fileno())
+        sys.exit(1)

@@ -1,0 +1,59 @@
+"""A replay of a trace's stretch on the engine, from the start of a grace period on."""
+from callbacks import Callbacks
+from comparison import Comparison
+from grace_periods import GracePeriods
+from hotplug import Hotplug
+from quiescence import QuiescentStates
+
+FIRST = -300 * 4  # rcu_state.gp_seq as a kernel boots
+# A script takes 1,000,000 callbacks: some before that a replay begins anew.
+MOST_CALLBACKS = 900_000
+
+
+def is_boot(period):
+    """Whether a trace begins as its kernel boots: then its first events count, too."""
+    return FIRST < period.number < FIRST + 100 and period.awaited() <= {0}
+
+
+class Replay(GracePeriods, Hotplug, QuiescentStates, Callbacks, Comparison):
+    """Takes the events of a stretch, in order, and says the lines that they become."""
+
+    def __init__(self, tree, period, standing):
+        Comparison.__init__(self, tree)
+        for part in (GracePeriods, Hotplug, QuiescentStates, Callbacks):
+            part.__init__(self)
+        self.event, self.place, self.ahead = None, 0, None
+        self.is_boot = standing is None
+        self.base = FIRST if self.is_boot else period.number - 1
+        online = {0} if self.is_boot else {0} | period.awaited()
+        for cpu in sorted(online - {0}) + sorted(tree.readers.values()):
+            self.say(f"online {cpu}")
+        self.online = online
+        if standing:
+            self.stand_as(standing)
+
+    def stand_as(self, standing):
+        """Takes over what stands as the stretch begins."""
+        for cpu in sorted(self.online):
+            if cpu not in standing.watched:
+                self.unknown.add(cpu)
+            elif standing.watched[cpu]:
+                self.idle.add(cpu)
+                self.say(f"idle {cpu}")
+        self.dying = standing.dying & self.online
+        for event in standing.blocked.values() if self.tree.readers else ():
+            self.rcu_preempt_task(event)
+
+    def take_event(self, place, event, ahead):
+        self.place, self.event, self.ahead = place, event, ahead
+        if event.cpu in self.arriving:
+            self.arrive(event.cpu)
+        self.task[event.cpu] = event.task
+        take = getattr(self, event.name, None) if event.name.startswith(("rcu", "cpuhp")) else None
+        if take:
+            take(event)
+        else:
+            self.seen[f"not used: {event.name}"] += 1
+
+    def is_long(self):
+        return self.ids > MOST_CALLBACKS
