@@ -26,11 +26,9 @@ class Failure(Exception):
 
 
 class Process:
-    """A machine as a process; what it printed is kept."""
+    """A machine as a process of Python; what it printed is kept."""
 
-    def __init__(self, room, own, source, *options, via="socket"):
-        words = ["-m", "rcu_replica.command", f"unix://{room}/{via}", "--cpus", "64", "--own", own,
-                 "--timeout", "1", *options]
+    def __init__(self, words, own, source):
         self.own, self.lines, self.changed = own, [], threading.Condition()
         self.process = subprocess.Popen(
             ["/usr/bin/python3", *words], env={**os.environ, "PYTHONPATH": source}, text=True,
@@ -106,7 +104,12 @@ class Cluster:
         self.redis.wait()
 
     def start(self, own, *options, via=None):
-        self.processes.append(Process(self.room, own, self.source, *options, via=via or self.via))
+        url = f"unix://{self.room}/{via or self.via}"
+        return self.run(own, "-m", "rcu_replica.command", url, "--cpus", "64", "--own", own,
+                        "--timeout", "1", *options)
+
+    def run(self, own, *words):
+        self.processes.append(Process(words, own, self.source))
         return self.processes[-1]
 
     def machines(self, *options):
@@ -137,29 +140,23 @@ class Cluster:
         return streams.Begin.of(self.server.xrevrange("rcu:begins", count=1)[0])
 
     def open_one(self, machines):
-        """A section is open on processor 50, and a grace period waits for it. Returns its number,
-        and where each machine's lines go on."""
+        """A section is open on processor 50, and a grace period waits for it alone. Returns its
+        number, and where each machine's lines go on."""
         places = [len(it.lines) for it in machines]
         self.enter(machines[2], 50)
-        number = self.top().number
         machines[0].tell("begin")
         until = time.monotonic() + LIMIT
-        while time.monotonic() < until and (self.top().number == number or not all(
-                it.has(f"begun {self.top().number}") is not None for it in machines)):
+        while time.monotonic() < until:
+            number = self.top().number
+            if all(it.has(f"begun {number}") is not None and self.awaits(it) == "awaits 50"
+                   for it in machines):
+                return number, places
             time.sleep(0.02)
-        for it in machines:
-            self.wait_awaited(it)
-        return self.top().number, places
+        raise Failure(f"others are awaited: {[it.lines[-3:] for it in machines]}")
 
     @staticmethod
-    def wait_awaited(machine):
-        until = time.monotonic() + LIMIT
-        while time.monotonic() < until:
-            after = machine.ask("awaits", "awaits ")
-            if machine.lines[after - 1] == "awaits 50":
-                return
-            time.sleep(0.02)
-        raise Failure(f"machine {machine.own} awaits others: {machine.lines[-3:]}")
+    def awaits(machine):
+        return machine.lines[machine.ask("awaits", "awaits ") - 1]
 
     def close_one(self, machines, number):
         """Nobody ended that grace period; the section is closed, and all end it."""

@@ -227,6 +227,15 @@ def a_stall_is_told(source):
         return machines[0].lines
 
 
+def busy_readers(source):
+    """On each processor of three machines one short section follows another, and each grace period
+    ends: busy.py tells how."""
+    with Cluster(source) as cluster:
+        machines = [cluster.run(own, f"{HERE}/busy.py", f"unix://{cluster.room}/socket", "12", own,
+                                "20") for own in ("0-3", "4-7", "8-11")]
+        return [it.lines[it.wait("waited") - 1] for it in machines]
+
+
 def two_clusters(source):
     """Two clusters share a Redis, by their prefixes; one of them has a section open."""
     with Cluster(source) as cluster:
@@ -286,7 +295,7 @@ def sizes(source, periods=2000):
 
 TESTS = [redis_restarted, redis_killed, redis_out_of_reach, a_write_refused, a_full_disk,
          an_answer_never_comes, a_machine_killed, redis_lost_all, redis_lost_a_begin, a_slow_machine,
-         leaving_and_back, a_stall_is_told, two_clusters, a_service, sizes]
+         leaving_and_back, a_stall_is_told, busy_readers, two_clusters, a_service, sizes]
 
 
 def outcome(test, source):
@@ -301,7 +310,7 @@ def outcome(test, source):
         return None, "left out: nothing may be mounted here"
     if test is sizes:
         return None, "; ".join(told)
-    words = ("waits for", "goes on", "stops:", "has left")
+    words = ("waits for", "goes on", "stops:", "has left", "waited")
     return None, "; ".join(it for it in told if any(word in it for word in words))
 
 

@@ -2,10 +2,13 @@
 
 Each machine has a replica (replica_model) and some processors. Messages get lost, come twice, and
 come in another order, some of them long after; so they are sent again until an answer makes that
-needless. Readers open and close sections all the time.
+needless. Readers open and close sections all the time. A busy reader opens the next one at the tick
+at which it closes one, so whenever its machine looks a section is open.
 """
 import heapq
 import random
+from dataclasses import dataclass
+from typing import Optional
 
 from model import Replica, bits, members
 
@@ -14,8 +17,24 @@ LOST, TWICE, LATE = 0.1, 0.1, 0.02  # shares of messages
 DELAY, LONG = 20, 800   # ticks until a message comes, at most; and until a late one does
 AGAIN, MOST = 150, 1200  # ticks until it is sent again; each time takes twice as long, to the most
 OPEN, CLOSED = 40, 1600  # ticks of a section, and between two, at most
+BUSY, LOOK = 300, 10    # ticks of a busy reader's section; and until a machine looks, at most
 LIMIT = 20_000          # ticks that anything may take: longest seen were 3,000
-PLANTED = ("old-tag", "unbegun-merge")
+PLANTED = ("old-tag", "unbegun-merge", "samples", "kept-moments")
+BUSY_ALONE = ("samples",)  # readers that rest do not show it
+
+
+@dataclass(frozen=True)
+class Shape:
+    """So many machines, which report to machine 0: each by itself (flat), or by a tree in which
+    each has so many children; and whether their readers are busy."""
+
+    machines: int
+    fanout: Optional[int] = None
+    is_busy: bool = False
+
+    def __str__(self):
+        return (f"{self.machines:,} machines, {'tree' if self.fanout else 'flat'}"
+                f"{', busy readers' if self.is_busy else ''}")
 
 
 class Node:
@@ -33,22 +52,24 @@ class Node:
         """As it is at first, and when it comes back: it knows nothing."""
         self.replica, self.told, self.greatest = self.make(self.cpus), 0, 0
         self.begins = {}  # each start set by its number
+        self.passed, self.will_look = set(), False  # who left its sections since the begin
 
     def is_running(self, tag):
         return tag & 3 == 1 and self.replica.value == tag
 
 
 class Simulation:
-    """Machines that report to machine 0: each by itself (flat), or by a tree in which each has so
-    many children, and ships its merged replica upward once nobody below it is awaited."""
+    """Machines of such a shape. In a tree each ships its merged replica upward once nobody below it
+    is awaited."""
 
-    def __init__(self, machines, fanout, seed, planted=None, make=Replica):
-        self.source, self.planted = random.Random(seed), planted
+    def __init__(self, shape, seed, planted=None, make=Replica):
+        self.source, self.planted, self.is_busy = random.Random(seed), planted, shape.is_busy
         self.time, self.order, self.events = 0, 0, []
-        self.is_flat, cpus = fanout is None, EACH * machines
+        self.is_flat, cpus = shape.fanout is None, EACH * shape.machines
         self.nodes = []
-        for place in range(machines):
-            above = None if place == 0 else self.nodes[0 if self.is_flat else (place - 1) // fanout]
+        for place in range(shape.machines):
+            above = None if place == 0 else self.nodes[
+                0 if self.is_flat else (place - 1) // shape.fanout]
             self.nodes.append(Node(place, above, cpus, make))
             if above:
                 above.children.append(self.nodes[-1])
@@ -56,9 +77,10 @@ class Simulation:
             node.parent.below |= node.below
         self.open, self.old, self.departing, self.departed, self.dead = set(), {}, set(), 0, set()
         self.held, self.early, self.sent, self.looks, self.old_sections = set(), [], 0, 0, 0
+        self.old_of = {}  # those of the sets in `old` that a processor is in
         self.ended = {}  # by number, the machines that ended that grace period
         for cpu in range(cpus):
-            self.after(CLOSED, self.enter, cpu)
+            self.after(OPEN if self.is_busy else CLOSED, self.enter, cpu)
 
     def draw(self, below):
         return int(self.source.random() * below)
@@ -150,18 +172,28 @@ class Simulation:
     def begin(self, node, start):
         tag = node.replica.begin(start)
         node.begins[tag], node.told = start, 0
+        if self.planted != "kept-moments":
+            node.passed.clear()
         for child in node.children:
             self.repeat(lambda child=child: node.is_running(tag) and node.replica.awaited
                         & child.below, AGAIN, child, "begin", node, tag, start)
-        for cpu in members(node.own & start):
-            if cpu not in self.open:
+        self.look(node)
+
+    def look(self, node):
+        """The machine looks which of its processors passed a quiescent state since the begin."""
+        node.will_look = False
+        if node in self.dead or not node.is_running(node.replica.tag):
+            return
+        for cpu in members(node.own & node.replica.awaited):
+            if cpu not in self.open or cpu in node.passed and self.planted != "samples":
                 self.quiet(node, cpu)
         self.settle(node)
 
     def quiet(self, node, cpu):
-        """The processor notes its machine's number, and reports it or departs."""
+        """The processor notes its machine's number, and reports it. It departs if it is to, and no
+        section is open on it."""
         tag = node.replica.tag
-        if cpu in self.departing:
+        if cpu in self.departing and cpu not in self.open:
             node.replica.depart(cpu)
             if node.parent:
                 self.repeat(lambda: node.is_running(tag), AGAIN, self.nodes[0], "depart", node, tag,
@@ -198,24 +230,29 @@ class Simulation:
     # Readers
 
     def enter(self, cpu):
-        node = self.nodes[cpu // EACH]
-        if cpu not in self.departing and node not in self.dead:
+        if self.nodes[cpu // EACH] in self.dead:
+            self.after(CLOSED, self.enter, cpu)
+        elif cpu not in self.departing:
             self.open.add(cpu)
-            self.after(OPEN, self.exit, cpu)
+            self.after(BUSY if self.is_busy else OPEN, self.exit, cpu)
 
     def exit(self, cpu):
         if cpu in self.held:
             self.after(OPEN, self.exit, cpu)
             return
         self.open.discard(cpu)
-        for old in self.old.values():
+        for old in self.old_of.pop(cpu, ()):
             self.old_sections += cpu in old
             old.discard(cpu)
         node = self.nodes[cpu // EACH]
-        if node not in self.dead and node.is_running(node.replica.tag):
-            self.quiet(node, cpu)
-            self.settle(node)
-        self.after(CLOSED, self.enter, cpu)
+        if not node.will_look and (cpu not in node.passed or cpu in self.departing):
+            node.will_look = True
+            self.after(LOOK, self.look, node)
+        node.passed.add(cpu)
+        if self.is_busy:
+            self.enter(cpu)
+        else:
+            self.after(CLOSED, self.enter, cpu)
 
     # The course of a run
 
@@ -224,6 +261,8 @@ class Simulation:
         root = self.nodes[0]
         tag = root.replica.value + 1
         self.old[tag] = set(self.open)
+        for cpu in self.open:
+            self.old_of.setdefault(cpu, []).append(self.old[tag])
         self.begin(root, bits(range(root.cpus)) & ~self.departed)
 
     def run_until(self, holds, ticks=LIMIT):
@@ -239,7 +278,7 @@ class Simulation:
         self.dead.add(node)
         for cpu in members(node.own):
             self.open.discard(cpu)
-            for old in self.old.values():
+            for old in self.old_of.pop(cpu, ()):
                 old.discard(cpu)
         self.after(300, self.revive, node)
 
@@ -248,13 +287,13 @@ class Simulation:
         node.start_anew()
 
 
-def why_it_fails(machines, fanout, periods, seed, planted=None, make=Replica):
+def why_it_fails(shape, periods, seed, planted=None, make=Replica):
     """Runs so many grace periods on all machines, and one more that stays open. In the middle one
     machine is killed, and comes back, and one departs. Returns what is wrong, None where nothing
     is, and the messages a grace period: of all, and of the machine that gets the most."""
-    run = Simulation(machines, fanout, seed, planted, make)
+    run = Simulation(shape, seed, planted, make)
     root, killed, leaver = run.nodes[0], run.nodes[1], run.nodes[-1]
-    run.run_until(lambda: len(run.open) >= 2)
+    run.run_until(lambda: len(run.open) >= (root.cpus if shape.is_busy else 2))
     for period in range(periods):
         run.start_next()
         if period == periods // 3:
@@ -266,7 +305,7 @@ def why_it_fails(machines, fanout, periods, seed, planted=None, make=Replica):
         if run.early:
             return run.early[0], None
     ended = run.ended[4 * periods - 3]  # (who departed need not hear)
-    if not run.run_until(lambda: len(ended) - (leaver.place in ended) == machines - 1):
+    if not run.run_until(lambda: len(ended) - (leaver.place in ended) == shape.machines - 1):
         return f"not all ended {periods} grace periods", None
     counts = run.sent / periods, max(it.received for it in run.nodes) / periods
     held = set(list(members(root.own))[1:])

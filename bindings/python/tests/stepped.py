@@ -10,7 +10,6 @@ from machines import SOURCE, Cluster, Failure
 from rcu_replica import Protocol, Streams
 from rcu_replica.streams import connect
 
-PLANTED = ("old-tag", "open-section")
 CPUS, STEPS = 2, 50  # each machine has a processor, and so many steps for what has to come
 NEVER = 1e9          # seconds until what lies there is read again
 
@@ -27,30 +26,55 @@ class Stepped(Protocol):
             messages = [type(it)(it.kind, it.cpu, self.at.number, self.at.mark) for it in messages]
         super().hear(messages)
 
+    def begin(self):
+        passed = set(self.passed)
+        begun = super().begin()
+        if self.planted == "kept-moments":  # a moment before the begin counts
+            self.passed |= passed
+        return begun
+
     def quiet(self):
         if self.planted == "open-section":  # a processor reports whose section is open
             return self.awaited & self.own - self.sent
+        if self.planted == "samples":  # it counts who is outside when it looks
+            return super().quiet() - self.inside.keys()
         return super().quiet()
 
+    def renew(self):
+        """Closes a section on each own processor, and opens the next one."""
+        for cpu in self.own:
+            self.exit(cpu)
+            self.open(cpu)
 
-def go(machines, word):
-    """Steps the machines in turn until each has returned that word."""
+    def open(self, cpu):
+        if not self.enter(cpu):
+            raise Failure("no section may be opened")
+
+
+def go(machines, word, before=lambda machine: None):
+    """Steps the machines in turn until each has returned that word. Before each step of a machine
+    it does that."""
     left = list(machines)
     for _ in range(STEPS):
-        left = [it for it in left if it.step(0) != word]
+        waiting = []
+        for it in left:
+            before(it)
+            if it.step(0) != word:
+                waiting.append(it)
+        left = waiting
         if not left:
             return
     raise Failure(f"not {word} in {STEPS} steps: {[it.number for it in left]}")
 
 
 def an_old_report_comes_again(machines):
-    """A grace period begins while the second machine reads. All reports of the one before come
-    once more, and nobody ends it. When the section is closed, all do."""
+    """A grace period begins while the second machine reads, in its second section. All reports of
+    the one before come once more, and nobody ends it. When the section is closed, all do."""
     first, second = machines
     go(machines, "begun")
     go(machines, "ended")
-    if not second.enter(1):
-        raise Failure("no section may be opened")
+    second.open(1)
+    second.renew()
     first.want()
     go(machines, "begun")
     for _ in range(STEPS):
@@ -63,12 +87,24 @@ def an_old_report_comes_again(machines):
     go(machines, "ended")
 
 
+def each_look_finds_a_section(machines):
+    """Sections follow one another on each processor, and one is open at each step. A grace period
+    ends all the same: each of its processors passed a moment between two sections."""
+    for it in machines:
+        for cpu in it.own:
+            it.open(cpu)
+    machines[0].want()
+    for word in ("begun", "ended"):
+        go(machines, word, Stepped.renew)
+
+
 def main(words):
     planted = words[0] if words else None
     with Cluster(SOURCE, append_only=False) as cluster:
         machines = [Stepped(f"{cluster.room}/socket", cpu, planted) for cpu in range(CPUS)]
         try:
             an_old_report_comes_again(machines)
+            each_look_finds_a_section(machines)
         except Failure as found:
             print(found)
             return 1

@@ -38,6 +38,7 @@ class Protocol:
         self.left: set[int] = set()
         self.joined: set[int] = set()
         self.inside: dict[int, int] = {}  # how many sections are open on a processor
+        self.passed: set[int] = set()  # own processors that left their sections since the begin
         self.let_in: frozenset[int] = frozenset()  # own processors that may open sections
         self.again = self.wait = again
         self.begun = self.due = time.monotonic()
@@ -74,7 +75,9 @@ class Protocol:
             self.inside[cpu] -= 1
             if not self.inside[cpu]:
                 del self.inside[cpu]
-                self.wake.set()
+                if self.leaving or cpu not in self.passed:  # (the first time says all, else)
+                    self.wake.set()
+                self.passed.add(cpu)
 
     def leave(self) -> bool:
         """From now on no section is opened, and an own processor without one departs where it would
@@ -158,6 +161,7 @@ class Protocol:
             raise Lost(f"the begin {begin.number} does not follow that of {self.number}")
         with self.lock:
             self.at, self.next, self.place, self.running = begin, None, begin.before, True
+            self.passed.clear()  # what was before says nothing of this grace period
         self.left, self.joined, self.awaited, self.sent = set(), set(), begin.cpus, frozenset()
         self.begun, self.wait = time.monotonic(), self.again
         self.due = self.begun + self.wait
@@ -190,9 +194,11 @@ class Protocol:
             self.sent = frozenset()
 
     def quiet(self) -> frozenset[int]:
-        """The awaited own processors that have no section open, and of which nothing was sent."""
+        """The awaited own processors that passed a quiescent state since the begin, and of which
+        nothing was sent. One between two sections is one, though each look finds a section open."""
         with self.lock:
-            return self.awaited & self.own - self.inside.keys() - self.sent
+            outside = self.own - self.inside.keys()
+            return self.awaited & (outside | self.passed) - self.sent
 
     def wishes(self) -> frozenset[int]:
         """The own processors that are not named, and want to be."""
@@ -204,14 +210,18 @@ class Protocol:
         return bool(self.quiet() or self.wishes()) if self.running else self.wants_to_begin()
 
     def speak(self) -> None:
-        """Ships a message of each quiet processor, and of each that wants to be named. (Where the
-        next begin is there, this one has ended.)"""
+        """Ships a message of each quiet processor, and of each that wants to be named. A processor
+        departs only while no section is open on it: the next begin does not name it. (If the next
+        begin is there, this grace period has ended.)"""
         assert self.at
-        kind = "depart" if self.leaving else "report"
-        for it, cpus in ((kind, self.quiet()), ("join", self.wishes())):
+        with self.lock:
+            quiet = self.quiet()
+            departing = quiet - self.inside.keys() if self.leaving else frozenset()
+        for kind, cpus in (("report", quiet - departing), ("depart", departing),
+                           ("join", self.wishes())):
             self.sent |= cpus
             if cpus:
-                self.streams.ship(it, self.at, cpus)
+                self.streams.ship(kind, self.at, cpus)
 
     def end(self) -> str:
         """The grace period ends here."""
