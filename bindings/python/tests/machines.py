@@ -112,11 +112,17 @@ class Cluster:
         self.processes.append(Process(words, own, self.source))
         return self.processes[-1]
 
-    def machines(self, *options):
-        """The three machines, once each may open sections."""
-        all_three = [self.start(own, *options) for own in OWN]
+    def machines(self):
+        """The three machines of a cluster that begins, once each may open sections."""
+        all_three = self.started()
         for it in all_three:
             it.wait("ended 1")
+        return all_three
+
+    def started(self):
+        """Three machines, once each may open sections."""
+        all_three = [self.start(own) for own in OWN]
+        for it in all_three:
             self.enter(it, it.own.split("-")[0])
             it.ask(f"exit {it.own.split('-')[0]}", "done")
         return all_three

@@ -17,7 +17,7 @@ import time
 
 sys.dont_write_bytecode = True
 from machines import HERE, LIMIT, OWN, SOURCE, Cluster, Failure
-from rcu_replica import Machine
+from rcu_replica import Machine, streams
 
 PLANTED = {  # what stands in place of a line of the driver; and the test that finds it
     "believes": ("protocol.py", 'if not self.at or begins and begins[0] == self.at:',
@@ -195,19 +195,39 @@ def a_slow_machine(source):
         return ran.stdout.splitlines()
 
 
-def leaving_and_back(source):
-    """SIGTERM makes a machine leave in order; the others go on without it, and it comes back."""
+def a_machine_gone(source):
+    """The machine with processor 0 is killed by -9 for good, and another one leaves in its place."""
     with Cluster(source) as cluster:
         machines = cluster.machines()
-        machines[2].process.send_signal(signal.SIGTERM)
-        machines[2].wait("has left")
-        machines[2].end(0)
-        machines[0].ask("begin", "ended")
-        if cluster.top().cpus & set(range(43, 64)):
-            raise Failure("who left is named")
-        machines[2] = cluster.start(OWN[2])
-        cluster.enter(machines[2], 50)
-        if not cluster.top().cpus >= set(range(64)):
+        machines[0].process.kill()
+        machines[0].process.wait()
+        machines[1].tell("begin")
+        heir = cluster.start(OWN[0], "--leave")
+        heir.wait("has left")
+        heir.end(0)
+        for it in machines[1:]:
+            it.ask("begin", "ended")
+        if cluster.top().cpus != set(range(22, 64)):
+            raise Failure(f"named are {sorted(cluster.top().cpus)}")
+        return heir.lines
+
+
+def leaving_and_back(source):
+    """SIGTERM makes a machine leave in order, one after another, that with processor 0 first; the
+    others go on without it. All come back."""
+    with Cluster(source) as cluster:
+        machines, rest = cluster.machines(), set(range(64))
+        for it in machines:
+            it.process.send_signal(signal.SIGTERM)
+            it.wait("has left")
+            it.end(0)
+            rest -= streams.numbered(it.own)
+            if cluster.top().cpus != rest:
+                raise Failure(f"named are {sorted(cluster.top().cpus)}, and not {sorted(rest)}")
+            for other in machines[machines.index(it) + 1:]:
+                other.ask("begin", "ended")
+        machines = cluster.started()
+        if cluster.top().cpus != set(range(64)):
             raise Failure("who came back is not named")
         return machines[2].lines
 
@@ -295,7 +315,8 @@ def sizes(source, periods=2000):
 
 TESTS = [redis_restarted, redis_killed, redis_out_of_reach, a_write_refused, a_full_disk,
          an_answer_never_comes, a_machine_killed, redis_lost_all, redis_lost_a_begin, a_slow_machine,
-         leaving_and_back, a_stall_is_told, busy_readers, two_clusters, a_service, sizes]
+         a_machine_gone, leaving_and_back, a_stall_is_told, busy_readers, two_clusters, a_service,
+         sizes]
 
 
 def outcome(test, source):

@@ -3,7 +3,8 @@
 Each machine has a replica (replica_model) and some processors. Messages get lost, come twice, and
 come in another order, some of them long after; so they are sent again until an answer makes that
 needless. Readers open and close sections all the time. A busy reader opens the next one at the tick
-at which it closes one, so whenever its machine looks a section is open.
+at which it closes one, so whenever its machine looks a section is open. Processor 0 of a replica is
+of no machine; the last machine has the processors behind it, is killed, comes back and departs.
 """
 import heapq
 import random
@@ -40,9 +41,9 @@ class Shape:
 class Node:
     """A machine: its replica, its processors, and the machine that it reports to."""
 
-    def __init__(self, place, parent, cpus, make):
+    def __init__(self, place, parent, own, cpus, make):
         self.place, self.parent, self.children = place, parent, []
-        self.own = bits(range(EACH * place, EACH * (place + 1)))
+        self.own = bits(own)
         self.below = self.own  # the processors of those that report to it, too
         self.make, self.cpus = make, cpus
         self.received = 0
@@ -65,12 +66,13 @@ class Simulation:
     def __init__(self, shape, seed, planted=None, make=Replica):
         self.source, self.planted, self.is_busy = random.Random(seed), planted, shape.is_busy
         self.time, self.order, self.events = 0, 0, []
-        self.is_flat, cpus = shape.fanout is None, EACH * shape.machines
+        self.is_flat, self.cpus = shape.fanout is None, range(1, EACH * shape.machines + 1)
         self.nodes = []
         for place in range(shape.machines):
             above = None if place == 0 else self.nodes[
                 0 if self.is_flat else (place - 1) // shape.fanout]
-            self.nodes.append(Node(place, above, cpus, make))
+            own = self.cpus[EACH * (shape.machines - 1 - place):][:EACH]
+            self.nodes.append(Node(place, above, own, self.cpus.stop, make))
             if above:
                 above.children.append(self.nodes[-1])
         for node in reversed(self.nodes[1:]):
@@ -79,7 +81,7 @@ class Simulation:
         self.held, self.early, self.sent, self.looks, self.old_sections = set(), [], 0, 0, 0
         self.old_of = {}  # those of the sets in `old` that a processor is in
         self.ended = {}  # by number, the machines that ended that grace period
-        for cpu in range(cpus):
+        for cpu in self.cpus:
             self.after(OPEN if self.is_busy else CLOSED, self.enter, cpu)
 
     def draw(self, below):
@@ -229,8 +231,11 @@ class Simulation:
 
     # Readers
 
+    def node_of(self, cpu):
+        return self.nodes[-1 - (cpu - 1) // EACH]
+
     def enter(self, cpu):
-        if self.nodes[cpu // EACH] in self.dead:
+        if self.node_of(cpu) in self.dead:
             self.after(CLOSED, self.enter, cpu)
         elif cpu not in self.departing:
             self.open.add(cpu)
@@ -244,7 +249,7 @@ class Simulation:
         for old in self.old_of.pop(cpu, ()):
             self.old_sections += cpu in old
             old.discard(cpu)
-        node = self.nodes[cpu // EACH]
+        node = self.node_of(cpu)
         if not node.will_look and (cpu not in node.passed or cpu in self.departing):
             node.will_look = True
             self.after(LOOK, self.look, node)
@@ -263,7 +268,7 @@ class Simulation:
         self.old[tag] = set(self.open)
         for cpu in self.open:
             self.old_of.setdefault(cpu, []).append(self.old[tag])
-        self.begin(root, bits(range(root.cpus)) & ~self.departed)
+        self.begin(root, bits(self.cpus) & ~self.departed)
 
     def run_until(self, holds, ticks=LIMIT):
         """Takes events until that holds; returns whether it did, within the ticks."""
@@ -288,16 +293,17 @@ class Simulation:
 
 
 def why_it_fails(shape, periods, seed, planted=None, make=Replica):
-    """Runs so many grace periods on all machines, and one more that stays open. In the middle one
-    machine is killed, and comes back, and one departs. Returns what is wrong, None where nothing
-    is, and the messages a grace period: of all, and of the machine that gets the most."""
+    """Runs so many grace periods on all machines, and one more that stays open. In the middle two
+    machines are killed, and come back, and one of them departs. Returns what is wrong, None where
+    nothing is, and the messages a grace period: of all, and of the machine that gets the most."""
     run = Simulation(shape, seed, planted, make)
     root, killed, leaver = run.nodes[0], run.nodes[1], run.nodes[-1]
-    run.run_until(lambda: len(run.open) >= (root.cpus if shape.is_busy else 2))
+    run.run_until(lambda: len(run.open) >= (len(run.cpus) if shape.is_busy else 2))
     for period in range(periods):
         run.start_next()
         if period == periods // 3:
             run.kill(killed)
+            run.kill(leaver)
         if period == periods // 2:
             run.departing |= set(members(leaver.own))
         if not run.run_until(lambda: run.early or root.replica.value == 4 * period + 4):

@@ -12,6 +12,7 @@ from rcu_replica.streams import connect
 
 CPUS, STEPS = 2, 50  # each machine has a processor, and so many steps for what has to come
 NEVER = 1e9          # seconds until what lies there is read again
+PLACES = 20          # calls of Redis, at each of which a machine dies
 
 
 class Stepped(Protocol):
@@ -98,6 +99,76 @@ def each_look_finds_a_section(machines):
         go(machines, word, Stepped.renew)
 
 
+class Dead(Exception):
+    """The machine is no more."""
+
+
+class Mortal(Streams):
+    """Its machine dies at a call of Redis: before that is made, or behind it."""
+
+    def __init__(self, server, place, is_made):
+        super().__init__(server)
+        self.left, self.is_made = place, is_made
+
+    def attempt(self, call):
+        self.left -= 1
+        if self.left:
+            return super().attempt(call)
+        if self.is_made:
+            super().attempt(call)
+        raise Dead
+
+
+def live(machine):
+    """A step of a machine that wants one grace period after another, and whose reader is busy."""
+    if not machine.running:
+        machine.want()
+    for cpu in machine.own:
+        if cpu in machine.inside:
+            machine.exit(cpu)
+        machine.enter(cpu)
+    return machine.step(0)
+
+
+def steps_without(server, victim, place, is_made, leaves):
+    """The machine of that processor dies at that call; another one is started in its place, and
+    leaves or stays. Returns how many steps it takes from then on until both have begun and ended a
+    grace period that was wanted after that."""
+    server.flushall()
+    other = Protocol(Streams(server), CPUS, [1 - victim], again=NEVER)
+    try:
+        mortal = Protocol(Mortal(server, place, is_made), CPUS, [victim], again=NEVER)
+        for _ in range(10 * STEPS):
+            live(mortal)
+            live(other)
+        raise Failure(f"no call {place} was made")
+    except Dead:
+        pass
+    heir = Protocol(Streams(server), CPUS, [victim], again=NEVER)
+    if leaves:
+        heir.leave()
+    above = heir.want()
+    for steps in range(STEPS):
+        live(other)
+        if leaves and not heir.has_left():
+            heir.step(0)
+        elif not leaves:
+            live(heir)
+        if other.ended > above and (heir.has_left() if leaves else heir.inside):
+            return steps
+    raise Failure(f"not ended in {STEPS} steps: processor {victim}'s machine died at call {place}")
+
+
+def a_machine_dies_anywhere(server):
+    """The machine with processor 0, and the other one, die at each of their first calls of Redis.
+    What comes after that takes as many steps for the one as for the other."""
+    first, second = [[steps_without(server, victim, place, is_made, leaves)
+                      for place in range(1, PLACES + 1) for is_made in (False, True)
+                      for leaves in (False, True)] for victim in range(CPUS)]
+    if first != second:
+        raise Failure(f"without processor 0's machine {first} steps, without the other {second}")
+
+
 def main(words):
     planted = words[0] if words else None
     with Cluster(SOURCE, append_only=False) as cluster:
@@ -105,6 +176,7 @@ def main(words):
         try:
             an_old_report_comes_again(machines)
             each_look_finds_a_section(machines)
+            a_machine_dies_anywhere(connect(f"unix://{cluster.room}/socket"))
         except Failure as found:
             print(found)
             return 1

@@ -3,6 +3,8 @@
 It prints what began and ended, and what it waits for. Lines on its input: 'enter C' and 'exit C' of
 a reader on the own processor C, 'begin' to ask for a grace period, 'awaits', and 'status' for a line
 of JSON. SIGTERM makes it leave the cluster in order: it stops once no begin names its processors.
+With --leave it leaves at once, in place of a machine that is gone for good: all others wait for
+that one till then.
 
 The variables RCU_REDIS_USER and RCU_REDIS_PASSWORD have user and password, and RCU_LIBRARY the path
 of librcu.so. Status 0: it left in order, 1: Redis lost what it had answered, or it left too late.
@@ -55,6 +57,8 @@ def main(words: Optional[List[str]] = None) -> int:
     parser.add_argument("--own", required=True, help="those of this machine, as 0-21")
     parser.add_argument("--prefix", default="rcu", help="of the names of its keys (rcu)")
     parser.add_argument("--status", action="store_true", help="print a line of JSON a second")
+    parser.add_argument("--leave", action="store_true",
+                        help="leave at once: for a machine that is gone, and all of its readers")
     parser.add_argument("--patience", type=float, default=30.0, metavar="SECONDS",
                         help="how long SIGTERM lets it leave in order (30)")
     parser.add_argument("--timeout", type=float, default=5.0, metavar="SECONDS",
@@ -71,6 +75,8 @@ def main(words: Optional[List[str]] = None) -> int:
         signal.signal(number, on_signal)
     signal.signal(signal.SIGUSR1, lambda *_: say(json.dumps(machine.status())))
     machine.start()
+    if given.leave:
+        stop.set()
 
     def read() -> None:
         for line in sys.stdin:
@@ -80,9 +86,8 @@ def main(words: Optional[List[str]] = None) -> int:
     while not stop.wait(1.0 if given.status else 0.1) and machine.thread.is_alive():
         if given.status:
             say(json.dumps(machine.status()))
-    is_well = machine.close(given.patience) if machine.thread.is_alive() else False
-    if is_well:
-        say("stays named, and stopped" if 0 in machine.own else "has left")
+    is_well = machine.thread.is_alive() and machine.close(given.patience)
+    say("has left" if is_well else "has not left")
     return 0 if is_well else 1
 
 

@@ -61,8 +61,8 @@ class Machine:
 
     def close(self, timeout: float = 30.0) -> bool:
         """Leaves the cluster in order: no section is opened any more, and it stops once no begin
-        names its processors. (That with processor 0 stops once no section is open, and stays named.)
-        After so many seconds it stops anyway. Returns whether it left in order."""
+        names its processors. After so many seconds it stops anyway. Returns whether it left in
+        order."""
         with self.changed:
             self.is_asked_to_stop = True
         self.thread.join(timeout)
@@ -95,8 +95,8 @@ class Machine:
             raise Stopping("it had not left in time")
         if not self.is_asked_to_stop or self.deferred or self.fresh:
             return False
-        if not protocol.leaving and not protocol.leave():
-            return not protocol.inside
+        if not protocol.leaving:
+            protocol.leave()
         return protocol.has_left()
 
     def turn(self, protocol: Protocol) -> None:

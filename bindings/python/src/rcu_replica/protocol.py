@@ -14,6 +14,9 @@ from .library import Replica
 from .streams import Begin, Lost, Message, Streams
 
 AGAIN, LONGEST = 1.0, 30.0  # seconds until all is read and sent again: each time twice as many
+# Processor 0 of a replica never departs. It belongs to no machine, and no begin names it: processor
+# C of the cluster is C + 1 of each replica, so that each machine may leave.
+FIRST = 1
 
 
 class Protocol:
@@ -28,7 +31,7 @@ class Protocol:
         if not self.own or not self.own <= frozenset(range(cpus)):
             raise ValueError(f"the own processors are some of 0 to {cpus - 1}")
         self.lock = threading.RLock()
-        self.replica, self.make = make(cpus), make
+        self.make, self.replica = make, make(cpus + FIRST)
         self.at: Optional[Begin] = None  # the begin of the grace period that it is in, or was
         self.next: Optional[Begin] = None
         self.running = self.leaving = self.is_idle = False
@@ -79,12 +82,11 @@ class Protocol:
                     self.wake.set()
                 self.passed.add(cpu)
 
-    def leave(self) -> bool:
+    def leave(self) -> None:
         """From now on no section is opened, and an own processor without one departs where it would
-        have reported. Returns whether it may: processor 0 never departs."""
+        have reported."""
         with self.lock:
-            self.leaving = 0 not in self.own
-            return self.leaving
+            self.leaving = True
 
     def has_left(self) -> bool:
         """Whether no section is open here, and the begin at hand names no own processor."""
@@ -144,7 +146,7 @@ class Protocol:
         if is_in or not first or first.number <= self.at.number:
             raise Lost(f"the begin {self.at.number} is not there any more")
         if self.running:
-            self.replica = self.make(self.cpus)
+            self.replica = self.make(self.cpus + FIRST)
         with self.lock:
             self.be_silent()
         self.at, self.next = None, first
@@ -157,7 +159,7 @@ class Protocol:
         assert begin
         if not self.at:
             self.replica.run_to(begin.number - 1)
-        if self.replica.begin(begin.cpus) != begin.number:
+        if self.replica.begin(cpu + FIRST for cpu in begin.cpus) != begin.number:
             raise Lost(f"the begin {begin.number} does not follow that of {self.number}")
         with self.lock:
             self.at, self.next, self.place, self.running = begin, None, begin.before, True
@@ -175,13 +177,13 @@ class Protocol:
             if (it.number, it.mark) != (self.at.number, self.at.mark):
                 continue
             if it.kind == "report":
-                self.replica.report(it.cpu, it.number)
+                self.replica.report(it.cpu + FIRST, it.number)
             elif it.kind == "depart":
                 self.left.add(it.cpu)
-                self.replica.depart(it.cpu)
+                self.replica.depart(it.cpu + FIRST)
             else:
                 self.joined.add(it.cpu)
-        self.awaited = self.replica.awaited()
+        self.awaited = frozenset(cpu - FIRST for cpu in self.replica.awaited())
 
     def do_again(self, at_once: bool) -> None:
         """Once it waits for long, it reads and sends again what lies in this grace period."""
