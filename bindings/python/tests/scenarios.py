@@ -8,8 +8,10 @@ have that fault.
 import concurrent.futures
 import json
 import os
+import re
 import shutil
 import signal
+import socket
 import subprocess
 import sys
 import tempfile
@@ -26,6 +28,7 @@ PLANTED = {  # what stands in place of a line of the driver; and the test that f
     "believes-marks": ("protocol.py", "begins and begins[0] == self.at:",
                        "begins and begins[0].number == self.at.number:", "redis_lost_a_begin"),
     "cuts-more": ("streams.py", "minid=at.before", "minid=begin.before", "a_slow_machine"),
+    "hears-no-other": ("protocol.py", "if is_other and", "if False and", "one_range_twice"),
     "opens-at-once": ("protocol.py", "may = cpu in self.let_in and not self.leaving", "may = True",
                       "a_machine_killed"),
 }
@@ -233,15 +236,20 @@ def leaving_and_back(source):
 
 
 def a_stall_is_told(source):
-    """After ten seconds each machine tells once whom it waits for, and `status` has it too."""
+    """After ten seconds each machine tells once whom it waits for, by name, and since when; and
+    `status` has it too."""
     with Cluster(source) as cluster:
         machines = cluster.machines()
+        holder = f"{socket.gethostname()}:{machines[2].process.pid}"
         number, _ = cluster.open_one(machines)
         for it in machines:
-            it.wait(f"grace period {number} waits for processors 50 for 1")
+            line = it.lines[it.wait("stall: ") - 1]
+            if not re.fullmatch(rf"stall: grace period {number} has waited 1\d.\d seconds for "
+                                rf"processors 50 of {holder} \(since [-\d]+ [:\d]+ UTC\)", line):
+                raise Failure(f"it says '{line}', and holder is {holder}")
         after = machines[0].ask("status", "{")
         status = json.loads(machines[0].lines[after - 1])
-        if status["awaited"] != "50" or status["age"] < 10 or not status["running"]:
+        if status["awaited_of"] != {holder: "50"} or status["age"] < 10 or not status["running"]:
             raise Failure(f"its status is {status}")
         cluster.close_one(machines, number)
         return machines[0].lines
@@ -254,6 +262,21 @@ def busy_readers(source):
         machines = [cluster.run(own, f"{HERE}/busy.py", f"unix://{cluster.room}/socket", "12", own,
                                 "20") for own in ("0-3", "4-7", "8-11")]
         return [it.lines[it.wait("waited") - 1] for it in machines]
+
+
+def one_range_twice(source):
+    """A machine is started with the processors of one that is there. Who hears the other one stops."""
+    with Cluster(source) as cluster:
+        first, both = cluster.processes, [cluster.machines()[1], cluster.start(OWN[1])]
+        both[1].wait(("ended", "stops: machine"))
+        last = cluster.top().number + 40
+        until = time.monotonic() + LIMIT
+        while not any(it.has("stops: machine") is not None for it in both):
+            if cluster.top().number > last or time.monotonic() > until:
+                raise Failure("two machines speak for one processor, and none stops")
+            first[0].tell("begin")
+            time.sleep(0.02)
+        return next(it.lines for it in both if it.has("stops: machine") is not None)
 
 
 def two_clusters(source):
@@ -272,8 +295,8 @@ def a_service(_):
     """What a service embeds: sections, waits and deferred calls."""
     with Cluster(SOURCE) as cluster:
         url, said = f"unix://{cluster.room}/socket", []
-        with Machine(url, 8, range(0, 4), say=said.append) as one, Machine(
-                url, 8, range(4, 8), say=said.append) as two:
+        with Machine(url, 8, range(0, 4), say=said.append, stall=0.1) as one, Machine(
+                url, 8, range(4, 8), say=said.append, name="two") as two:
             done = []
             with two.section(5), two.section(5):
                 one.defer(lambda: done.append("deferred"))
@@ -283,11 +306,13 @@ def a_service(_):
                 except TimeoutError:
                     pass
             one.synchronize(LIMIT)
+            if not any("for processors 5 of two (since" in it for it in said):
+                raise Failure(f"no stall was told: {said}")
             if done != ["deferred"] or one.status()["deferred"]:
                 raise Failure(f"deferred calls: {done}, {one.status()}")
             two.close()
             one.synchronize(LIMIT)
-        return said or ["nothing"]
+        return said
 
 
 def sizes(source, periods=2000):
@@ -315,8 +340,8 @@ def sizes(source, periods=2000):
 
 TESTS = [redis_restarted, redis_killed, redis_out_of_reach, a_write_refused, a_full_disk,
          an_answer_never_comes, a_machine_killed, redis_lost_all, redis_lost_a_begin, a_slow_machine,
-         a_machine_gone, leaving_and_back, a_stall_is_told, busy_readers, two_clusters, a_service,
-         sizes]
+         a_machine_gone, one_range_twice, leaving_and_back, a_stall_is_told, busy_readers,
+         two_clusters, a_service, sizes]
 
 
 def outcome(test, source):
@@ -331,7 +356,7 @@ def outcome(test, source):
         return None, "left out: nothing may be mounted here"
     if test is sizes:
         return None, "; ".join(told)
-    words = ("waits for", "goes on", "stops:", "has left", "waited")
+    words = ("waits for", "goes on", "stops:", "has left", "waited", "stall:")
     return None, "; ".join(it for it in told if any(word in it for word in words))
 
 

@@ -4,6 +4,7 @@ The command `run` beside it runs it. With the name of a planted fault as its wor
 that fault. It needs redis-server and python3-redis, and the library by the variable RCU_LIBRARY.
 """
 import sys
+from dataclasses import replace
 
 sys.dont_write_bytecode = True
 from machines import SOURCE, Cluster, Failure
@@ -24,7 +25,7 @@ class Stepped(Protocol):
 
     def hear(self, messages):
         if self.planted == "old-tag":  # a message with an old tag is given the new one
-            messages = [type(it)(it.kind, it.cpu, self.at.number, self.at.mark) for it in messages]
+            messages = [replace(it, number=self.at.number, mark=self.at.mark) for it in messages]
         super().hear(messages)
 
     def begin(self):

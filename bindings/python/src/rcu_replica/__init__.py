@@ -5,6 +5,7 @@
 from .library import Fault, Replica
 from .machine import Machine
 from .protocol import Protocol
-from .streams import Begin, Lost, Stopping, Streams
+from .streams import Begin, Lost, Replaced, Stopping, Streams
 
-__all__ = ["Begin", "Fault", "Lost", "Machine", "Protocol", "Replica", "Stopping", "Streams"]
+__all__ = ["Begin", "Fault", "Lost", "Machine", "Protocol", "Replaced", "Replica", "Stopping",
+           "Streams"]

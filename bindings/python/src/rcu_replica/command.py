@@ -7,7 +7,8 @@ With --leave it leaves at once, in place of a machine that is gone for good: all
 that one till then.
 
 The variables RCU_REDIS_USER and RCU_REDIS_PASSWORD have user and password, and RCU_LIBRARY the path
-of librcu.so. Status 0: it left in order, 1: Redis lost what it had answered, or it left too late.
+of librcu.so. Status 0: it left in order; 1: it did not leave in time, Redis lost what it had
+answered, or another machine speaks for a processor of this one.
 """
 from __future__ import annotations
 
@@ -18,7 +19,7 @@ import sys
 import threading
 from typing import Any, List, Optional
 
-from .machine import Machine
+from .machine import STALL, Machine
 from .streams import named, numbered
 
 
@@ -55,6 +56,8 @@ def main(words: Optional[List[str]] = None) -> int:
     parser.add_argument("url", help="redis://HOST:PORT/DB, rediss://.. or unix://PATH")
     parser.add_argument("--cpus", type=int, required=True, help="processors of the whole cluster")
     parser.add_argument("--own", required=True, help="those of this machine, as 0-21")
+    parser.add_argument("--name", default="",
+                        help="what the others call it when they wait for it (HOST:PROCESS)")
     parser.add_argument("--prefix", default="rcu", help="of the names of its keys (rcu)")
     parser.add_argument("--status", action="store_true", help="print a line of JSON a second")
     parser.add_argument("--leave", action="store_true",
@@ -63,9 +66,12 @@ def main(words: Optional[List[str]] = None) -> int:
                         help="how long SIGTERM lets it leave in order (30)")
     parser.add_argument("--timeout", type=float, default=5.0, metavar="SECONDS",
                         help="after which an answer of Redis is given up (5)")
+    parser.add_argument("--stall", type=float, default=STALL, metavar="SECONDS",
+                        help="after which it tells whom a grace period waits for (10; 0: never)")
     given = parser.parse_args(words)
     machine = Machine(given.url, given.cpus, numbered(given.own.replace(",", " ")), given.prefix,
-                      say, watch=say, timeout=given.timeout)
+                      say, watch=say, timeout=given.timeout, name=given.name,
+                      stall=given.stall)
     stop = threading.Event()
 
     def on_signal(*_: Any) -> None:

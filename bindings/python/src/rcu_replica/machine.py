@@ -12,12 +12,11 @@ import time
 from collections import deque
 from typing import Any, Callable, Deque, Iterable, Iterator, List, Optional, Tuple
 
-from .library import Replica
 from .protocol import AGAIN, Protocol
 from .streams import Stopping, Streams, connect, named
 
 LOG = logging.getLogger("rcu_replica")
-STALL = 10.0  # seconds after which it tells whom it waits for, and then each time twice as many
+STALL = 10.0  # seconds until it tells whom it waits for, and then each time twice as many
 # How long it waits before it looks at the streams again: shortly while something happens, and longer
 # once nothing happened for a while. What its service asks is done at once.
 SHORT, LONG, WHILE = 0.001, 0.02, 0.1
@@ -33,19 +32,22 @@ class Machine:
             machine.defer(free)    # the same, and calls `free` then, in the machine's own thread
 
     Where Redis is out of reach it waits. Where its thread stopped for good, as by `Lost`, each call
-    raises what stopped it. `watch` is told of each step: 'begun' or 'ended', and the number.
+    raises what stopped it. `name` is what the others call it when they wait for it; `say` is told
+    what it waits for, of a grace period after `stall` seconds (0: never); `watch` is told of each
+    step: 'begun' or 'ended', and the number.
     """
 
     def __init__(self, url: str, cpus: int, own: Iterable[int], prefix: str = "rcu",
                  say: Callable[[str], None] = LOG.warning, again: float = AGAIN,
                  watch: Callable[[str, int], None] = lambda done, number: None,
-                 timeout: float = 5.0, make: Callable[[int], Replica] = Replica) -> None:
-        self.say, self.watch, self.make, self.again = say, watch, make, again
+                 timeout: float = 5.0, name: str = "", stall: float = STALL) -> None:
+        self.say, self.watch, self.again, self.stall = say, watch, again, stall
         self.cpus, self.own = cpus, frozenset(own)
         self.changed = threading.Condition()
         self.is_asked_to_stop = self.is_giving_up = self.has_ended = False
         self.stopped_by: Optional[BaseException] = None
-        self.streams = Streams(connect(url, timeout), prefix, say, lambda: self.is_giving_up)
+        self.streams = Streams(connect(url, timeout), prefix, say, lambda: self.is_giving_up,
+                               name=name)
         self.protocol: Optional[Protocol] = None
         self.fresh: List[Callable[[], Any]] = []  # deferred, and not yet waiting for a number
         self.deferred: Deque[Tuple[int, Callable[[], Any]]] = deque()
@@ -79,7 +81,7 @@ class Machine:
     def run(self) -> None:
         """What its thread does."""
         try:
-            self.protocol = Protocol(self.streams, self.cpus, self.own, self.make, self.again)
+            self.protocol = Protocol(self.streams, self.cpus, self.own, again=self.again)
             while not self.is_done(self.protocol):
                 self.turn(self.protocol)
         except BaseException as error:  # it is raised by each call from now on
@@ -125,12 +127,17 @@ class Machine:
             LOG.exception("a deferred call failed")
 
     def tell_stall(self, protocol: Protocol) -> None:
-        """Tells once whom a grace period waits for, after ten seconds, twice as many, and so on."""
+        """Tells whom a grace period waits for, and since when: after so many seconds, twice as
+        many, and so on."""
         age = time.monotonic() - protocol.begun
-        if protocol.running and age >= max(STALL, 2 * self.told):
-            self.told = age
-            self.say(f"grace period {protocol.number} waits for processors "
-                     f"{named(protocol.awaited)} for {age:.0f} seconds")
+        if not self.stall or not protocol.running or age < max(self.stall, 2 * self.told):
+            return
+        self.told = age
+        since = time.strftime("%Y-%m-%d %H:%M:%S UTC", time.gmtime(protocol.begun_at))
+        held = "; ".join(f"processors {named(cpus)} of {name or 'a machine that never spoke'}"
+                         for name, cpus in protocol.holders().items())
+        self.say(f"stall: grace period {protocol.number} has waited {age:.1f} seconds for {held} "
+                 f"(since {since})")
 
     # What a service calls
 
@@ -207,6 +214,8 @@ class Machine:
             return {
                 "number": protocol.number, "running": protocol.running,
                 "awaited": named(protocol.awaited) if protocol.running else "",
+                "awaited_of": {name: named(cpus) for name, cpus in protocol.holders().items()
+                               if protocol.running},
                 "age": round(now - protocol.begun, 3), "ended": protocol.ends,
                 "open_sections": named(protocol.inside), "may_enter": named(protocol.let_in),
                 "sent_again": protocol.sent_again, "read_again": protocol.read_again,

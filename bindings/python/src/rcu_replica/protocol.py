@@ -11,7 +11,7 @@ import time
 from typing import Callable, Iterable, List, Optional
 
 from .library import Replica
-from .streams import Begin, Lost, Message, Streams
+from .streams import Begin, Lost, Message, Replaced, Streams
 
 AGAIN, LONGEST = 1.0, 30.0  # seconds until all is read and sent again: each time twice as many
 # Processor 0 of a replica never departs. It belongs to no machine, and no begin names it: processor
@@ -45,6 +45,8 @@ class Protocol:
         self.let_in: frozenset[int] = frozenset()  # own processors that may open sections
         self.again = self.wait = again
         self.begun = self.due = time.monotonic()
+        self.begun_at = time.time()
+        self.names = dict.fromkeys(self.own, streams.name)  # who spoke for a processor last
         self.sent: frozenset[int] = frozenset()
         self.sent_again = self.read_again = self.ends = 0
         top = streams.top()
@@ -165,7 +167,7 @@ class Protocol:
             self.at, self.next, self.place, self.running = begin, None, begin.before, True
             self.passed.clear()  # what was before says nothing of this grace period
         self.left, self.joined, self.awaited, self.sent = set(), set(), begin.cpus, frozenset()
-        self.begun, self.wait = time.monotonic(), self.again
+        self.begun, self.begun_at, self.wait = time.monotonic(), time.time(), self.again
         self.due = self.begun + self.wait
         return "begun"
 
@@ -176,6 +178,7 @@ class Protocol:
         for it in messages:
             if (it.number, it.mark) != (self.at.number, self.at.mark):
                 continue
+            self.note_speaker(it)
             if it.kind == "report":
                 self.replica.report(it.cpu + FIRST, it.number)
             elif it.kind == "depart":
@@ -184,6 +187,22 @@ class Protocol:
             else:
                 self.joined.add(it.cpu)
         self.awaited = frozenset(cpu - FIRST for cpu in self.replica.awaited())
+
+    def note_speaker(self, it: Message) -> None:
+        """Notes who speaks for a processor. One machine does. (What was shipped for this machine
+        before it started has the number of a begin of that time.)"""
+        assert self.at
+        is_other = it.cpu in self.own and it.speaker != self.streams.speaker
+        if is_other and self.at.number > self.silent_to:
+            raise Replaced(f"machine {it.name} speaks for processor {it.cpu}, too")
+        self.names[it.cpu] = it.name
+
+    def holders(self) -> dict[str, frozenset[int]]:
+        """The awaited processors, by the names of their machines: '' if none has spoken for one."""
+        held: dict[str, set[int]] = {}
+        for cpu in self.awaited:
+            held.setdefault(self.names.get(cpu, ""), set()).add(cpu)
+        return {name: frozenset(held[name]) for name in sorted(held)}
 
     def do_again(self, at_once: bool) -> None:
         """Once it waits for long, it reads and sends again what lies in this grace period."""

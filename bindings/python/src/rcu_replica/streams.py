@@ -8,6 +8,7 @@ from __future__ import annotations
 
 import os
 import secrets
+import socket
 from dataclasses import dataclass
 from functools import partial
 from typing import Any, Callable, Iterable, List, Optional, Tuple, TypeVar
@@ -25,6 +26,11 @@ MOST = 1000  # entries that are read at once
 
 class Lost(Exception):
     """Redis lost what it had answered: this machine ends no grace period on that."""
+
+
+class Replaced(Exception):
+    """Another machine speaks for a processor of this one: a section that is open here counts no
+    more."""
 
 
 class Stopping(Exception):
@@ -94,12 +100,15 @@ class Begin:
 
 @dataclass(frozen=True)
 class Message:
-    """A processor's message: `report`, `depart` or `join`, with the grace period that it noted."""
+    """A processor's message: `report`, `depart` or `join`, with the grace period that it noted, the
+    name of the machine that speaks for it, and a mark of that machine since its start."""
 
     kind: str
     cpu: int
     number: int
     mark: str
+    name: str
+    speaker: str
 
 
 class Waiting(ExponentialBackoff):
@@ -127,11 +136,15 @@ class Waiting(ExponentialBackoff):
 
 
 class Streams:
-    """The begins and the messages of a cluster, whose names have a prefix."""
+    """The begins and the messages of a cluster, whose names have a prefix. What one machine ships
+    has its name: its host and the number of its process, if it is given none."""
 
     def __init__(self, server: Any, prefix: str = "rcu", say: Callable[[str], None] = print,
-                 is_stopping: Callable[[], bool] = lambda: False, longest_wait: float = 1.0) -> None:
+                 is_stopping: Callable[[], bool] = lambda: False, longest_wait: float = 1.0,
+                 name: str = "") -> None:
         self.server, self.begins, self.messages = server, f"{prefix}:begins", f"{prefix}:messages"
+        self.name = name or f"{socket.gethostname()}:{os.getpid()}"
+        self.speaker = secrets.token_hex(8)
         self.waiting = Waiting(say, is_stopping, longest_wait)
         self.retry = Retry(self.waiting, -1)
 
@@ -187,7 +200,8 @@ class Streams:
             return pipeline.xrange(self.begins, f"{number}-0", count=2).execute()
 
         rows, begins = self.attempt(read)
-        messages = [Message(row["kind"], cpu, int(row["number"]), row["mark"])
+        messages = [Message(row["kind"], cpu, int(row["number"]), row["mark"], row.get("name", ""),
+                            row.get("speaker", ""))
                     for _, row in rows for cpu in sorted(numbered(row["cpus"]))]
         return [Begin.of(it) for it in begins], rows[-1][0] if rows else "", messages
 
@@ -195,7 +209,8 @@ class Streams:
 
     def ship(self, kind: str, begin: Begin, cpus: Iterable[int]) -> None:
         """Ships a message of each of the processors, as one entry."""
-        row: Any = {"kind": kind, "number": begin.number, "mark": begin.mark, "cpus": named(cpus)}
+        row: Any = {"kind": kind, "number": begin.number, "mark": begin.mark, "cpus": named(cpus),
+                    "name": self.name, "speaker": self.speaker}
         self.attempt(partial(self.server.xadd, self.messages, row))
 
     def propose(self, at: Optional[Begin], cpus: Iterable[int], note: str) -> bool:
