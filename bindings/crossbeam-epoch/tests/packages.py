@@ -51,9 +51,20 @@ replace-with = "packages"
 [source.packages]
 directory = "{packages}"
 """
-CONFIG = SOURCE + """[patch.crates-io]
+PATCH = """[patch.crates-io]
 crossbeam-epoch = {{ path = "{folder}/bindings/crossbeam-epoch" }}
 """
+CONFIG = SOURCE + PATCH
+# A crate that asks for a release, and what cargo says if it takes another crate than ours.
+ASKS = """[package]
+name = "asks"
+version = "0.0.0"
+edition = "2021"
+
+[dependencies]
+crossbeam-epoch = "{}"
+"""
+NOT_USED = "Patch `crossbeam-epoch v0.9.21 (..)` was not used in the crate graph"
 
 
 def package(name):
@@ -136,8 +147,32 @@ def try_bench(folder, env):
     count(cargo("check", env, f"{folder}/bench/crossbeam").returncode == 0, "bench/crossbeam")
 
 
+def try_versions(folder, plain):
+    """A crate that asks for any release from 0.9.0 to 0.9.21 gets ours; one that asks for a newer
+    one is refused. Where another is taken, cargo says what README.md has."""
+    crate, config = f"{folder}/asks", PATCH.format(folder=folder)
+    write(f"{crate}/src/main.rs", "fn main() { drop(crossbeam_epoch::pin()); }\n")
+    os.makedirs(f"{folder}/none")
+    for asked, works in (("0.9", True), ("0.9.19", True), ("0.9.21", True), ("0.9.22", False)):
+        write(f"{crate}/Cargo.toml", ASKS.format(asked))
+        write(f"{crate}/.cargo/config.toml", SOURCE.format(packages=f"{folder}/none") + config)
+        told = cargo("check", plain, crate, tells=works)
+        count((told.returncode == 0) == works and "was not used" not in told.stdout,
+              f"a crate that asks for {asked}")
+    theirs = package("crossbeam-epoch")
+    if theirs and not theirs.endswith("-0.9.21"):
+        write(f"{crate}/Cargo.toml", ASKS.format("=" + theirs.rpartition("-")[2]))
+        write(f"{crate}/.cargo/config.toml", SOURCE.format(packages=PACKAGES) + config)
+        told = cargo("generate-lockfile", plain, crate).stdout
+        with open(f"{ROOT}/bindings/crossbeam-epoch/README.md", encoding="utf-8") as file:
+            page = file.read()
+        count("was not used in the crate graph" in told and NOT_USED in " ".join(page.split()),
+              "what cargo says of a patch that is not used")
+
+
 def try_all(folder, plain, threads, is_long):
     """Runs them plain, and where there is a thread sanitizer some of them under it."""
+    try_versions(folder, plain)
     write(f"{folder}/theirs/.cargo/config.toml", CONFIG.format(packages=PACKAGES, folder=folder))
     for name, needed in NEEDED.items():
         lacking = [it for it in [name, *needed.split()] if not package(it)]

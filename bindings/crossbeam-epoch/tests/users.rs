@@ -6,9 +6,10 @@ mod common;
 mod flush;
 
 use common::{none_alive, Counted};
-use crossbeam_epoch::{self as epoch, Atomic, Collector, Guard, LocalHandle, Owned};
+use crossbeam_epoch::{self as epoch, Atomic, Collector, Guard, LocalHandle, Owned, Shared};
 use flush::flush_until;
 use std::cell::{Cell, RefCell};
+use std::mem::MaybeUninit;
 use std::panic::{catch_unwind, AssertUnwindSafe};
 use std::sync::atomic::{AtomicUsize, Ordering::Relaxed, Ordering::SeqCst};
 use std::sync::{Arc, Barrier};
@@ -195,6 +196,22 @@ fn an_unprotected_guard_defers_nothing() {
     unsafe { guard.defer_unchecked(|| called.set(true)) };
     guard.flush();
     assert!(called.get() && guard.collector().is_none());
+}
+
+/// What changed in the releases 0.9.19 to 0.9.21.
+#[test]
+fn the_calls_are_those_of_the_version() {
+    const NOWHERE: Shared<'static, u64> = Shared::null();
+    let (guard, slot) = (&epoch::pin(), Atomic::<u64>::null());
+    assert_eq!(format!("{slot:p} {NOWHERE:p}"), "0x0 0x0");
+    let it = Owned::new(1u64).with_tag(3).into_shared(guard);
+    assert_eq!(format!("{it:p}"), format!("{:p}", it.as_raw()));
+    slot.store(it, SeqCst);
+    let before = slot.fetch_update(SeqCst, SeqCst, guard, |it| Some(it.with_tag(5)));
+    assert_eq!((before, slot.load(SeqCst, guard).tag()), (Ok(it), 5));
+    let row = Owned::<[MaybeUninit<u64>]>::init(2).into_shared(guard);
+    unsafe { guard.defer_destroy(row) };
+    drop(unsafe { slot.into_owned() });
 }
 
 #[test]
