@@ -94,6 +94,7 @@ static void run_batch(struct call_rcu_data *worker) {
     unsigned long count;
     worker->hurried = false;
     worker->running_since = worker->since;
+    atomic_store(&worker->running, last != 0); /* under the lock; how many is counted below */
     let_go();
     struct rcu_head *first = in_order(last, &count);
     atomic_store(&worker->running, count);
