@@ -1,0 +1,128 @@
+"""What the header and cpp.c add to the layer's protocols, as programs of interleavings.py: the
+sections inlined, and the barrier's look. For the marks of a step see the layer's model.py."""
+from protocols import MAKER_OF_HANDLED, PASSES, POLLER, ROUND, SECTION, WAKE_THE_MAKER, maker
+
+WAKES = f"""
+    w = wished !                          | __atomic_load_n(&place->wished, __ATOMIC_SEQ_CST)
+    unless w goto top
+    {WAKE_THE_MAKER.format(passes=PASSES)}
+    goto top
+"""
+# A region, and one in which another one nests. What an unlock of the inner one stores leaves the
+# thread in the outer one.
+READER = f"""
+top:
+    maybe over
+    d = depth            | unsigned long depth = __atomic_load_n(&place->depth, __ATOMIC_RELAXED)
+    depth = 1 !          | __atomic_store_n(&place->depth, depth + 1, __ATOMIC_RELAXED)
+    {SECTION}
+    maybe leaves
+    depth = 2
+    depth = 1            | __atomic_store_n(&place->depth, depth - 1, __ATOMIC_RELAXED)
+    {SECTION}
+leaves:
+    depth = 0 %          | __atomic_store_n(&place->depth, 0, __ATOMIC_RELEASE)
+    {WAKES}
+over:
+"""
+# Without membarrier(2) the layer's call opens the region, as it makes a fence.
+READER_BY_CALLS = f"""
+top:
+    maybe over
+    b = by_system        | if (depth || __builtin_expect(urcu_cpp_by_system && !is_busy, 1))
+    if b goto inlined
+    depth = 1
+    fence !              | urcu_cpp_read_lock();
+inlined:
+    depth = 1
+    {SECTION}
+    depth = 0            | if (__builtin_expect(place && urcu_cpp_by_system && !urcu_cpp_self.beside
+    fence                | urcu_cpp_read_unlock();
+    {WAKES}
+over:
+"""
+# A signal handler, which comes at any step of a thread that takes its place and is in a region.
+WITH_HANDLER = f"""
+    busy = 1
+    lock
+    unlock
+    busy = 0
+    depth = 1
+    {SECTION}
+    depth = 0
+    w = wished
+    unless w goto over
+    busy = 1                              | urcu_cpp_wake_maker();
+    lock
+    wished = 0
+    quiet = 1
+    signal
+    unlock
+    busy = 0
+over:
+"""
+HANDLER = f"""
+    d = depth
+    if d goto nests
+    b = busy !           | __atomic_load_n(&urcu_cpp_self.busy, __ATOMIC_RELAXED) != 0;
+    if b goto beside
+    depth = 1
+    {SECTION}
+    depth = 0
+    w = wished
+    unless w goto over
+    t = busy
+    f = other.t
+    must f: a handler waits for its own thread
+    lock
+    wished = 0
+    quiet = 1
+    signal
+    unlock
+    goto over
+nests:
+    depth = 2
+    {SECTION}
+    depth = 1
+    goto over
+beside:
+    x = add beside 1 !
+    {SECTION}
+    x = add beside -1
+over:
+"""
+# The barrier: if the list is empty and nothing is in hand, all that was retired has been evaluated.
+RETIRES_AND_LOOKS = """
+    x = swap last 1                       | CALL(call_rcu)(head, run);
+    lock !                                | hold();
+    l = last !                            | !atomic_load(&worker->last)
+    r = running !                         | !in_hand()
+    unlock
+    if l goto over
+    if r goto over
+    e = evaluated
+    must e: a barrier returns before an evaluation
+over:
+"""
+EVALUATES = """
+    lock
+    h = swap last 0   | atomic_exchange_explicit(&worker->last, 0, memory_order_acquire)
+    running = h !     | atomic_store(&worker->running, last != 0);
+    unlock
+    unless h goto over
+    running = 1       | atomic_store(&worker->running, count);
+    evaluated = 1 %
+    running = 0       | atomic_store(&worker->running, 0);
+over:
+"""
+
+BARRIER = {"last": 0, "running": 0, "evaluated": 0}
+PROTOCOLS = {
+    "an inlined region and a round": (ROUND, [READER, maker("fence all", "!")]),
+    "a region and a round without membarrier(2)":
+        ({**ROUND, "by_system": 0}, [READER_BY_CALLS, maker("fence", "")]),
+    "an inlined region, a signal handler and a round":
+        ({**ROUND, "busy": 0, "beside": 0, "ended": 0},
+         [WITH_HANDLER, MAKER_OF_HANDLED, POLLER], {0: HANDLER}),
+    "a barrier's look": (BARRIER, [RETIRES_AND_LOOKS, EVALUATES]),
+}
