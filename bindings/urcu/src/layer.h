@@ -66,7 +66,19 @@ struct reader {
     unsigned forks; /* how often liburcu's handler was called for one that is to come */
     bool was_online;
 };
-extern __thread struct reader self __attribute__((tls_model("initial-exec")));
+/* In the flavours whose sections may be inlined, the names of what these read stay (urcu/sections.h;
+ * flavour.h of the layer under C++). */
+#if !defined(URCU_BY_SEAT) && !defined(self)
+#define MAY_INLINE_SECTIONS
+#define self CALL(reader_1)
+#define by_system CALL(by_system_1)
+#define SEEN_BY_PROGRAMS __attribute__((visibility("default")))
+SEEN_BY_PROGRAMS extern bool by_system;
+SEEN_BY_PROGRAMS void CALL(got_quiet_1)(void);
+#else
+#define SEEN_BY_PROGRAMS
+#endif
+SEEN_BY_PROGRAMS extern __thread struct reader self __attribute__((tls_model("initial-exec")));
 
 /* What all threads share. All but the atomic words is read and written under the lock. */
 struct shared {

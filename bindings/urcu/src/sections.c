@@ -1,7 +1,7 @@
 /* Sections of memb, mb, signal and bp: how they nest, and those of signal handlers. It rests on
  * readers_by_word.c, or in mb on seats.h: there a thread is awake within its sections alone. It
  * adds the sections beside: those of a signal handler that finds its thread busy. Each round sees a
- * moment at which there is none. */
+ * moment at which there is none. urcu/sections.h repeats the steps of memb, signal and bp inlined. */
 #include "seats.h"
 
 static inline unsigned long depth_of(struct place *place) {
@@ -81,6 +81,19 @@ void CALL(read_unlock)(void) {
         got_quiet(place);
     }
 }
+
+#ifdef MAY_INLINE_SECTIONS
+/* An inlined section has ended, and a grace period waits for that. */
+void CALL(got_quiet_1)(void) {
+    got_quiet(self.place);
+}
+
+_Static_assert(offsetof(struct place, depth) == 8 && offsetof(struct place, wished) == 16,
+               "urcu_place_1 of urcu/sections.h");
+_Static_assert(offsetof(struct reader, place) == 0 && offsetof(struct reader, beside) == 8 &&
+                   offsetof(struct reader, busy) == 16,
+               "urcu_reader_1 of urcu/sections.h");
+#endif
 
 int CALL(read_ongoing)(void) {
     return self.beside || (self.place && depth_of(self.place));

@@ -1,6 +1,7 @@
 """Faults of the layer: each is planted in a copy of its sources, and a test has to find it. A row
 has the file, the text that is there once, what stands in its place, the flavour and the test. Where
-the last field is HANGS, the test is found to hang."""
+the last field is HANGS, the test is found to hang. A fault of a header is tried with sections
+inlined."""
 
 HANGS = True
 FAULTS = {
@@ -16,6 +17,15 @@ FAULTS = {
     "the wish is gone, in mb": (
         "sections.c", "        exits(place);\n        got_quiet(place);", "        exits(place);",
         "mb", "waits", HANGS),
+    "the wish is gone, inlined": (
+        "include/urcu/sections.h", "__ATOMIC_SEQ_CST) ? URCU_LEFT_AWAITED_ : URCU_LEFT_;",
+        "__ATOMIC_SEQ_CST) ? URCU_LEFT_ : URCU_LEFT_;", "memb", "waits", HANGS),
+    "an inlined section is none": (
+        "include/urcu/sections.h", "__atomic_store_n(&place->depth, depth + 1, __ATOMIC_RELAXED);",
+        "__atomic_store_n(&place->depth, depth, __ATOMIC_RELAXED);", "bp", "sections", False),
+    "the inner end of an inlined section ends it": (
+        "include/urcu/sections.h", "__atomic_store_n(&place->depth, depth - 1, __ATOMIC_RELAXED);",
+        "__atomic_store_n(&place->depth, 0, __ATOMIC_RELAXED);", "memb", "nests", False),
     "a round ends while one is awaited": (
         "rounds.c", "return turn.awaited != 0;", "return turn.awaited > 1;",
         "mb", "waits", False),

@@ -16,8 +16,10 @@ import sys
 sys.dont_write_bytecode = True
 from interleavings import Walk
 from protocols import PROTOCOLS
+from protocols_of_inlined import PROTOCOLS_OF_INLINED
 
-SOURCES = f"{os.path.dirname(os.path.realpath(__file__))}/../src"
+BINDING = f"{os.path.dirname(os.path.realpath(__file__))}/.."
+SOURCES = f"{BINDING}/src"
 
 
 def edits(text):
@@ -90,4 +92,6 @@ def try_all(protocols, paths):
 
 
 if __name__ == "__main__":
-    sys.exit(try_all(PROTOCOLS, [f"{SOURCES}/{it}" for it in sorted(os.listdir(SOURCES))]))
+    sys.exit(try_all({**PROTOCOLS, **PROTOCOLS_OF_INLINED},
+                     [f"{BINDING}/include/urcu/sections.h",
+                      *(f"{SOURCES}/{it}" for it in sorted(os.listdir(SOURCES)))]))

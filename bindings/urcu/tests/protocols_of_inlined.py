@@ -1,0 +1,102 @@
+"""Sections inlined by urcu/sections.h, as programs of interleavings.py. For the marks of a step see
+model.py."""
+from protocols import MAKER_OF_HANDLED, PASSES, POLLER, ROUND, SECTION, WAKE_THE_MAKER, maker
+
+WAKES = f"""
+    w = wished !                          | __atomic_load_n(&place->wished, __ATOMIC_SEQ_CST)
+    unless w goto top
+    {WAKE_THE_MAKER.format(passes=PASSES)}
+    goto top
+"""
+# A section, and one in which another one nests. What an unlock of the inner one stores leaves the
+# thread in the outer one.
+READER = f"""
+top:
+    maybe over
+    d = depth                | depth = __atomic_load_n(&place->depth, __ATOMIC_RELAXED);
+    depth = 1 !              | __atomic_store_n(&place->depth, depth + 1, __ATOMIC_RELAXED);
+    {SECTION}
+    maybe leaves
+    depth = 2
+    depth = 1                | __atomic_store_n(&place->depth, depth - 1, __ATOMIC_RELAXED);
+    {SECTION}
+leaves:
+    depth = 0 %              | __atomic_store_n(&place->depth, 0, __ATOMIC_RELEASE);
+    {WAKES}
+over:
+"""
+# Without membarrier(2) the library's calls open and close the section, as they make fences.
+READER_BY_CALLS = f"""
+top:
+    maybe over
+    b = by_system            | __builtin_expect(!by_system || __atomic_load_n(&reader->busy
+    if b goto inlined
+    depth = 1
+    fence !                  | urcu_##f##_by_system_1)) urcu_##f##_read_lock();
+inlined:
+    depth = 1
+    {SECTION}
+    depth = 0                | if (__builtin_expect(!place || !by_system || reader->beside, 0))
+    fence                    | else urcu_##f##_read_unlock();
+    {WAKES}
+over:
+"""
+# A signal handler, which comes at any step of a thread that takes its place and is in a section.
+WITH_HANDLER = f"""
+    busy = 1
+    lock
+    unlock
+    busy = 0
+    depth = 1
+    {SECTION}
+    depth = 0
+    w = wished
+    unless w goto over
+    busy = 1                 | if (exit == URCU_LEFT_AWAITED_) urcu_##f##_got_quiet_1();
+    lock
+    wished = 0
+    quiet = 1
+    signal
+    unlock
+    busy = 0
+over:
+"""
+HANDLER = f"""
+    d = depth
+    if d goto nests
+    b = busy !               | __atomic_load_n(&reader->busy, __ATOMIC_RELAXED), 0))
+    if b goto beside
+    depth = 1
+    {SECTION}
+    depth = 0
+    w = wished
+    unless w goto over
+    t = busy
+    f = other.t
+    must f: a handler waits for its own thread
+    lock
+    wished = 0
+    quiet = 1
+    signal
+    unlock
+    goto over
+nests:
+    depth = 2
+    {SECTION}
+    depth = 1
+    goto over
+beside:
+    x = add beside 1 !
+    {SECTION}
+    x = add beside -1
+over:
+"""
+
+PROTOCOLS_OF_INLINED = {
+    "an inlined section and a round": (ROUND, [READER, maker("fence all", "!")]),
+    "an inlined section and a round without membarrier(2)":
+        ({**ROUND, "by_system": 0}, [READER_BY_CALLS, maker("fence", "")]),
+    "an inlined section, a signal handler and a round":
+        ({**ROUND, "busy": 0, "beside": 0, "ended": 0},
+         [WITH_HANDLER, MAKER_OF_HANDLED, POLLER], {0: HANDLER}),
+}
