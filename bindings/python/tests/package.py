@@ -2,6 +2,8 @@
 
 The command `run` beside it runs it.
 """
+import concurrent.futures
+import glob
 import os
 import re
 import shutil
@@ -14,21 +16,65 @@ ROOT = os.path.dirname(os.path.dirname(FOLDER))
 PYTHON = "/usr/bin/python3"  # Debian's, which has Debian's modules
 MYPY = "/usr/bin/mypy"
 OPERATORS = "docs/CLUSTER.md"
+VERSIONS = ("3.10", "3.11", "3.13")
+# What another message system needs of the package, alone in a venv.
+ALONE = """
+import sys
+from importlib.metadata import version
+from rcu_replica import Replica
+replica = Replica(3)
+replica.begin([1, 2])
+replica.report(1, 1)
+replica.depart(2)
+print(version("rcu-replica"), replica.end(), "redis" in sys.modules)
+"""
 
 
 def installed(made):
     """What goes wrong where pip installs the package from its folder."""
     shutil.copytree(FOLDER, f"{made}/folder", ignore=shutil.ignore_patterns("tests"))
-    ran = subprocess.run(
-        [PYTHON, "-m", "pip", "install", "--no-build-isolation", "--no-deps", "--no-index", "-q",
-         "--target", f"{made}/installed", f"{made}/folder"], capture_output=True, text=True,
-        check=False)
+    ran = run(PYTHON, "-m", "pip", "install", "--no-index", "-q", "--target", f"{made}/installed",
+              f"{made}/folder")
     if ran.returncode:
         return ran.stdout + ran.stderr
-    ran = subprocess.run([f"{made}/installed/bin/rcu-replica", "--help"], capture_output=True,
-                         text=True, env={**os.environ, "PYTHONPATH": f"{made}/installed"},
-                         check=False)
+    ran = run(f"{made}/installed/bin/rcu-replica", "--help", PYTHONPATH=f"{made}/installed")
     return None if "--own" in ran.stdout else ran.stdout + ran.stderr
+
+
+def run(*words, **variables):
+    return subprocess.run(words, env={**os.environ, **variables}, capture_output=True, text=True,
+                          check=False)
+
+
+def python_of(version):
+    """A Python of that version which can make a venv, if there is one."""
+    found = [shutil.which(f"python{version}"),
+             *glob.glob(os.path.expanduser(f"~/.pyenv/versions/{version}.*/bin/python3"))]
+    return next((it for it in found if it and not run(it, "-c", "import ensurepip").returncode),
+                None)
+
+
+def alone(made, version):
+    """What goes wrong in a fresh venv of that version: pip finds nothing but the folder."""
+    python, venv = python_of(version), f"{made}/venv-{version}"
+    if not python:
+        print(f"a venv of Python {version} is left out: that is not here")
+        return None
+    with open(f"{ROOT}/VERSION", encoding="utf-8") as file:
+        wanted = f"{file.read().strip()} 4 False\n"
+    for words in ((python, "-m", "venv", venv),
+                  (f"{venv}/bin/pip", "install", "--no-index", "-q", f"{made}/folder"),
+                  (f"{venv}/bin/python", "-c", ALONE)):
+        ran = run(*words, RCU_LIBRARY=f"{made}/librcu.so")
+        if ran.returncode:
+            return f"Python {version}: {ran.stdout}{ran.stderr}"
+    return None if ran.stdout == wanted else f"Python {version}: {ran.stdout} and not {wanted}"
+
+
+def in_venvs(made):
+    """What goes wrong in a fresh venv of each version."""
+    with concurrent.futures.ThreadPoolExecutor() as pool:
+        return next(filter(None, pool.map(alone, [made] * len(VERSIONS), VERSIONS)), None)
 
 
 def types(made):
