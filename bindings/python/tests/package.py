@@ -1,6 +1,8 @@
-"""The package rcu-replica as it is installed: by pip, by mypy, and by the operator's page.
+"""The package rcu-replica as it is installed: by pip, by mypy, by the operator's page, and by an
+example over another message system.
 
-The command `run` beside it runs it.
+The command `run` beside it runs it. With programs as its words it runs each as three machines over
+the PostgreSQL that libpq's variables name.
 """
 import concurrent.futures
 import glob
@@ -9,7 +11,9 @@ import re
 import shutil
 import socket
 import subprocess
+import sys
 import tempfile
+import time
 
 FOLDER = os.path.dirname(os.path.dirname(os.path.realpath(__file__)))
 ROOT = os.path.dirname(os.path.dirname(FOLDER))
@@ -77,6 +81,41 @@ def in_venvs(made):
         return next(filter(None, pool.map(alone, [made] * len(VERSIONS), VERSIONS)), None)
 
 
+def has_postgres():
+    return shutil.which("pg_virtualenv") and not run(PYTHON, "-c", "import psycopg2").returncode
+
+
+def over_postgres(made):
+    """What goes wrong in the example over PostgreSQL; and a machine that deletes before it waits has
+    to be found."""
+    if not has_postgres():
+        print("PostgreSQL is left out: postgresql or python3-psycopg2 is not installed")
+        return None
+    with open(f"{FOLDER}/examples/postgres.py", encoding="utf-8") as file:
+        text = file.read()
+    waits, deletes = re.findall(r" +while not [^\n]*\n +[^\n]*\n| +if first == 0:\n[^\n]*DELETE.*\n",
+                                text)
+    with open(f"{made}/planted.py", "w", encoding="utf-8") as file:
+        file.write(text.replace(waits + deletes, deletes + waits))
+    ran = run("pg_virtualenv", PYTHON, __file__, f"{FOLDER}/examples/postgres.py",
+              f"{made}/planted.py", RCU_LIBRARY=f"{made}/librcu.so", PYTHONPATH=f"{made}/installed")
+    is_well = ran.stdout.count("ended at 200") == 3 and "which is gone" in ran.stderr
+    return None if is_well else ran.stdout + ran.stderr
+
+
+def three_machines(program, database):
+    """Runs the program as three machines of four processors, until one of them stops by a fault."""
+    run("createdb", database)
+    machines = [subprocess.Popen([PYTHON, program, "12", str(first), str(first + 3), "50"],
+                                 env={**os.environ, "PGDATABASE": database})
+                for first in (0, 4, 8)]
+    while None in (ends := [it.poll() for it in machines]) and not any(ends):
+        time.sleep(0.05)
+    for it in machines:
+        it.kill()
+        it.wait()
+
+
 def types(made):
     """What mypy says of the package, with Debian's types of redis-py."""
     if not os.path.isfile(MYPY):
@@ -101,3 +140,8 @@ def operators_page(made):
         ran = subprocess.run(["bash", "-ec", f"trap 'kill $(jobs -p)' EXIT\n{commands}"], env=env,
                              capture_output=True, text=True, timeout=300, check=False)
     return None if ran.returncode == 0 else ran.stdout + ran.stderr
+
+
+if __name__ == "__main__":
+    for number, name in enumerate(sys.argv[1:]):
+        three_machines(name, f"course{number}")
