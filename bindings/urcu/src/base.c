@@ -1,14 +1,37 @@
 /* What stops the process, and the conditions that threads sleep on. No cancellation takes effect in
  * a sleep, as the lock is held behind it. */
 #include "layer.h"
+#include "lines.h"
 #include <errno.h>
 #include <stdio.h>
 #include <stdlib.h>
-#include <unistd.h>
 
-/* Not by stderr: a signal handler may come in the midst of a call on its buffer. */
+char CALL(misuse)[URCU_MISUSE_LINE];
+static atomic_bool writing;
+static void (*_Atomic misuse_report)(const char *line, void *context);
+static void *_Atomic misuse_context;
+
+void CALL(on_misuse)(void (*report)(const char *line, void *context), void *context) {
+    atomic_store(&misuse_context, context);
+    atomic_store(&misuse_report, report);
+}
+
+/* A debugger shows the line, in a core too. Of two threads at once the first one's is kept. */
+static void keep(const char *line) {
+    if (atomic_exchange(&writing, true)) return;
+    snprintf(CALL(misuse), sizeof CALL(misuse), "%s", line);
+    atomic_store(&writing, false);
+}
+
+/* Neither by stderr nor by syslog(3): a signal handler may come in the midst of a call on their
+ * buffers, and of malloc. */
 void say(const char *call, const char *why) {
-    dprintf(STDERR_FILENO, "urcu over rcu: %s: %s\n", call, why);
+    char line[URCU_MISUSE_LINE];
+    void (*report)(const char *, void *) = atomic_load(&misuse_report);
+    snprintf(line, sizeof line, "urcu over rcu: %s: %s: %s", FLAVOUR, call, why);
+    keep(line);
+    if (report) report(line, atomic_load(&misuse_context));
+    else tell(line, LOG_CRIT);
 }
 
 void fail(const char *call, const char *why) {

@@ -2,15 +2,13 @@
  * order of threads: it reads, under the lock, what others write there. The depths of sections are
  * read beside their threads, and are what those were at some moment. */
 #include "reports.h"
+#include "lines.h"
 #include "workers.h"
 #include <dlfcn.h>
 #include <inttypes.h>
 #include <stdio.h>
 
-enum { MOST_ROWS = 16 };
-#define TEXT_OF(it) #it
-#define TEXT_OF_EXPANDED(it) TEXT_OF(it)
-static const char FLAVOUR[] = TEXT_OF_EXPANDED(URCU_FLAVOUR);
+enum { MOST_ROWS = 16, LONGEST_LINE = 400 };
 
 static unsigned stall_milliseconds = 10000;
 static void (*stall_report)(const struct urcu_stall *stall, void *context);
@@ -47,17 +45,18 @@ void CALL(on_stall)(unsigned milliseconds,
 }
 
 static void say_stall(const struct urcu_stall *it) {
-    char how[60] = "which passes no quiescent state";
+    char how[60] = "which passes no quiescent state", line[LONGEST_LINE];
     Dl_info found = {0};
     dladdr(it->registered_at, &found);
     const char *function = found.dli_sname ? found.dli_sname : "a function";
     const char *file = found.dli_fname ? found.dli_fname : "an unknown file";
     if (it->depth) snprintf(how, sizeof how, "which is in a section, %lu deep", it->depth);
-    fprintf(stderr,
-            "urcu over rcu: %s: a grace period waits since %.1f s for thread %d, %s "
-            "(registered at %p, in %s of %s)\n",
-            it->flavour, (double)it->milliseconds / 1000, it->thread, how, it->registered_at,
-            function, file);
+    snprintf(line, sizeof line,
+             "urcu over rcu: %s: a grace period waits since %.1f s for thread %d, %s "
+             "(registered at %p, in %s of %s)",
+             it->flavour, (double)it->milliseconds / 1000, it->thread, how, it->registered_at,
+             function, file);
+    tell(line, LOG_WARNING);
 }
 
 static unsigned find_stalls(struct engine *engine, struct urcu_stall *rows) {

@@ -86,6 +86,10 @@ FAULTS = {
     "who goes offline is waited for": (
         "readers_by_state.c", "    self.online = false;\n    close_seat(self.place);",
         "    self.online = false;", "qsbr", "quiet", HANGS),
+    "the line of a misuse is not kept": (
+        "base.c", "    keep(line);\n", "", "memb", "misuse", False),
+    "a daemon's misuse is not heard": (
+        "lines.c", "!is_heard(STDERR_FILENO) || ", "", "memb", "misuse", False),
     "a cancelled wait keeps the lock": (
         "base.c",
         "    pthread_setcancelstate(PTHREAD_CANCEL_DISABLE, &was);\n    answer = ",

@@ -1,6 +1,8 @@
 /* What liburcu does not have: reports, counters, and words on misuse. */
 #include "own.h"
+#include <fcntl.h>
 #include <stdatomic.h>
+#include <sys/socket.h>
 #include <sys/wait.h>
 #ifndef NO_EXTRAS
 
@@ -111,6 +113,9 @@ int reports(unsigned n) {
 
 /* ---- misuse ends the process, and says why */
 
+#define TEXT_OF(it) #it
+#define TEXT(it) TEXT_OF(it)
+
 static void unlocks(void) {
     rcu_register_thread();
     rcu_read_unlock();
@@ -147,21 +152,72 @@ static void barrier_in_a_section(void) {
     abort();
 }
 
+static void show(const char *what, const char *line, int end) {
+    if (write(end, what, strlen(what)) < 0 || write(end, line, strlen(line)) < 0) _exit(1);
+}
+
+/* What a debugger finds in a core. */
+static void show_kept(int number) {
+    (void)number;
+    show(" kept: ", EXTRA(misuse), 2);
+}
+
+/* The child: it does it, and what is said of it goes to the pipe. */
+static void to_standard_error(int end) {
+    dup2(end, 2);
+    signal(SIGABRT, show_kept);
+}
+
+static void hear_misuse(const char *line, void *context) {
+    show("heard: ", line, *(int *)context);
+}
+
+static void to_a_function(int end) {
+    static int to;
+    to = end;
+    EXTRA(on_misuse)(hear_misuse, &to);
+}
+
+/* Stands in for the C library's: what would go to /dev/log. The sanitizers have one of their own. */
+static int log_end;
+#if defined(__SANITIZE_ADDRESS__) || defined(__SANITIZE_THREAD__)
+enum { HAS_LOG = 0 };
+#else
+enum { HAS_LOG = 1 };
+ssize_t sendto(int made, const void *text, size_t length, int flags, __CONST_SOCKADDR_ARG to,
+               socklen_t size) {
+    const struct sockaddr *log = to.__sockaddr__;
+    (void)made, (void)flags, (void)size;
+    if (log->sa_family != AF_UNIX || strcmp(log->sa_data, "/dev/log")) return -1;
+    return write(log_end, text, length);
+}
+#endif
+
+static void to_the_log_by_null(int end) {
+    log_end = end;
+    dup2(open("/dev/null", O_WRONLY), 2);
+}
+
+static void to_the_log(int end) {
+    log_end = end;
+    close(2);
+}
+
 /* Whether the child that does it is told so, by words that have these in them, and aborts. */
-static int is_told(void (*misuse)(void), const char *words) {
+static int is_told(void (*misuse)(void), void (*to)(int), const char *words) {
     int ends[2], status;
-    char text[300] = "";
+    char text[500] = "";
     if (pipe(ends)) return 0;
     pid_t child = fork();
     if (child == 0) {
-        dup2(ends[1], 2);
+        to(ends[1]);
         alarm(20);
         misuse();
         _exit(0);
     }
     close(ends[1]);
-    ssize_t got = read(ends[0], text, sizeof text - 1);
     waitpid(child, &status, 0);
+    ssize_t got = read(ends[0], text, sizeof text - 1);
     close(ends[0]);
     if (got > 0 && WIFSIGNALED(status) && WTERMSIG(status) == SIGABRT && strstr(text, words))
         return 1;
@@ -169,14 +225,35 @@ static int is_told(void (*misuse)(void), const char *words) {
     return 0;
 }
 
+/* It is told to standard error, to a function, or to the log of a daemon; and kept. */
+static int misuse_of_a_callback(void) {
+    static const char words[] = ": rcu_barrier: a callback waits for itself";
+    char kept[100], heard[100];
+    snprintf(kept, sizeof kept, "%s\n kept: urcu over rcu: ", words);
+    snprintf(heard, sizeof heard, "heard: urcu over rcu: %s%s", TEXT(URCU_FLAVOUR_), words);
+    int right = is_told(waits_in_a_callback, to_standard_error, kept);
+    right &= is_told(waits_in_a_callback, to_a_function, heard);
+    if (!HAS_LOG) return right;
+    right &= is_told(waits_in_a_callback, to_the_log, words);
+    right &= is_told(waits_in_a_callback, to_the_log, "]: urcu over rcu: ");
+    return right & is_told(waits_in_a_callback, to_the_log_by_null, "<10>");
+}
+
 int misuse(unsigned n) {
-    int right = is_told(waits_in_a_callback, "rcu_barrier: a callback waits for itself");
+    int right = misuse_of_a_callback();
     (void)n;
 #ifndef USE_QSBR
-    right &= is_told(unlocks, "rcu_read_unlock: the thread is in no section");
-    right &= is_told(unregisters_in_a_section, "rcu_unregister_thread: the thread is in a section");
-    right &= is_told(waits_in_a_section, "synchronize_rcu: the thread is in a section");
-    right &= is_told(barrier_in_a_section, "rcu_barrier: the thread is in a section");
+    static const struct {
+        void (*does)(void);
+        const char *words;
+    } rows[] = {
+        {unlocks, "rcu_read_unlock: the thread is in no section"},
+        {unregisters_in_a_section, "rcu_unregister_thread: the thread is in a section"},
+        {waits_in_a_section, "synchronize_rcu: the thread is in a section"},
+        {barrier_in_a_section, "rcu_barrier: the thread is in a section"},
+    };
+    for (unsigned i = 0; i < sizeof rows / sizeof *rows; i++)
+        right &= is_told(rows[i].does, to_standard_error, rows[i].words);
 #else
     (void)unlocks, (void)unregisters_in_a_section, (void)waits_in_a_section;
     (void)barrier_in_a_section;
