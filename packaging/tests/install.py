@@ -34,11 +34,11 @@ uint32_t open_here(rcu_t *rcu) { return rcu_open(1, 4, rcu); }
 
 
 def files_in(folder):
-    """The files below it, but for those of the drop-in for liburcu, in folders of their own: these
-    are for bindings/urcu/tests/run."""
+    """The files below it, but for those of the drop-in for liburcu and of the header <rcu>: these
+    are for the tests of bindings/urcu and bindings/cpp."""
     return sorted(os.path.relpath(os.path.join(at, name), folder)
                   for at, _, names in os.walk(folder) for name in names
-                  if "rcu-urcu" not in os.path.join(at, name))
+                  if not re.search("rcu-(?:urcu|cpp)", os.path.join(at, name)))
 
 
 def install(folder):
