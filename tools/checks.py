@@ -6,6 +6,10 @@ import subprocess
 
 ROOT = os.path.dirname(os.path.dirname(os.path.realpath(__file__)))
 
+# Whether ./test runs this: over builds that no proof stands behind, and what takes over 20 seconds
+# in a smaller form.
+IS_QUICK = bool(os.environ.get("RCU_UNPROVED"))
+
 counts = {True: 0, False: 0}
 
 
@@ -65,6 +69,12 @@ def run(words, seconds=600, **how):
     how = {"stdin": subprocess.DEVNULL, "stderr": subprocess.STDOUT, **how}
     return subprocess.run(words, stdout=subprocess.PIPE, check=False, encoding="utf-8",
                           timeout=seconds, **how)
+
+
+def unproved(what):
+    """The path of an unproved build: what is 'program' or 'archive'."""
+    return subprocess.run([f"{ROOT}/tools/unproved", what], stdin=subprocess.DEVNULL, check=True,
+                          stdout=subprocess.PIPE, encoding="utf-8").stdout.strip()
 
 
 def count_run(what, words, seconds=600, **how):
