@@ -4,6 +4,7 @@ import re
 import textwrap
 
 import doc_comments as source
+import laws
 from checks import read
 
 WIDTH = 100
@@ -255,7 +256,8 @@ def fenced_in_c(library, call):
 
 def call_in_c(library, call):
     """A call with its note; behind one that the header fences stands its function."""
-    rows, fence = [note(call.paragraphs), prototype(library, call, call.name)], Fence(call)
+    words = [*call.paragraphs, *laws.note_of(call.name)]
+    rows, fence = [note(words), prototype(library, call, call.name)], Fence(call)
     if fence.before or fence.behind:
         rows.append(fenced_in_c(library, call))
     return "\n".join(rows)

@@ -55,7 +55,7 @@ def lost_links():
                 yield f"{page}: [{words}] leads nowhere"
             elif "://" not in path and not os.path.exists(os.path.join(ROOT, file)):
                 yield f"{page}: there is no {file}"
-            elif heading and heading not in map(anchor, re.findall(r"(?m)^#+ (.+)$", read(file))):
+            elif heading and file.endswith(".md") and heading not in map(anchor, re.findall(r"(?m)^#+ (.+)$", read(file))):
                 yield f"{page}: {file} has no heading {heading}"
 
 

@@ -4,6 +4,7 @@ import re
 
 import c_calls
 import doc_comments as source
+import laws
 
 # A function that the header alone has: its note, and its head.
 OWN = re.compile(r"/\*((?:(?!\*/).)*?)\*/\n(?:#[^\n]*\n)*"
@@ -56,7 +57,8 @@ def pages(library, header, overview):
             if c_calls.returns_fault(call):
                 faults = [numbers["RCU_CLOSED"], numbers["RCU_OTHER_KIND"], *faults]
             rows = [c_calls.prototype(library, call, it).replace("\n", "\n.B ") for it in names]
-            yield f"{name}.3", page(title, names, rows, [*call.paragraphs, *head],
+            words = [*call.paragraphs, *head, *laws.note_of(name)]
+            yield f"{name}.3", page(title, names, rows, words,
                                     [kinds[it] for it in faults])
             if call.name != name:
                 yield f"{call.name}.3", f".so man3/{name}.3\n"
