@@ -32,11 +32,12 @@ def zipped(path, text):
 
 
 def changelog(version, time):
-    """The newest part of CHANGELOG.md, as Debian writes it."""
-    newest = re.split(r"(?m)^## .*\n", read("CHANGELOG.md"))[1]
+    """The version's part of CHANGELOG.md, as Debian writes it."""
+    own = re.search(rf"(?ms)^## {re.escape(version)} .*?\n(.*?)(?=^## |\Z)", read("CHANGELOG.md"))[1]
+    items = re.split(r"(?m)^- ", re.sub(r"(?m)^### .*\n", "", own))[1:]
     rows = "\n".join(textwrap.fill(" ".join(it.split()), 78, initial_indent="  * ",
                                    subsequent_indent="    ", break_on_hyphens=False)
-                     for it in re.split(r"(?m)^- ", newest)[1:])
+                     for it in items)
     return (f"rcu ({version}) unstable; urgency=medium\n\n{rows}\n\n"
             f" -- {MAINTAINER}  {formatdate(time)}\n")
 

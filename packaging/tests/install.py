@@ -64,7 +64,7 @@ def install(folder):
 def look_at_texts(prefix):
     """The version, and the manual."""
     count(f"\nVersion: {VERSION}\n" in read(f"{prefix}/lib/pkgconfig/rcu.pc"), "that of rcu.pc")
-    newest = re.search(r"(?m)^## (\S+)", read("CHANGELOG.md"))
+    newest = re.search(r"(?m)^## ([\d.]+) \(\d{4}-\d\d-\d\d\)$", read("CHANGELOG.md"))
     count(newest and newest[1] == VERSION, "the newest version of CHANGELOG.md")
     if not lacks("install", ["groff"], "no page of the manual was set"):
         for name in files_in(f"{prefix}/share/man/man3"):
