@@ -1,29 +1,33 @@
 //! What the words of a run of the engine say, on small runs, and those of an accepted call.
-ghost use Rattle.std.specs.Prelude.{◌≡◌, ◌+◌, ◌<◌, ◌≤◌, ◌^◌, [], ◌∷◌, ℕ, All, List, None, Some};
-ghost use Rattle.std.specs.Prelude.{false, length, true};
+ghost use Rattle.std.specs.Prelude.{◌≡◌, ◌⊎◌, ◌+◌, ◌<◌, ◌≤◌, ◌^◌, [], ◌∷◌, ℕ, All, List, None};
+ghost use Rattle.std.specs.Prelude.{Some, ◌++◌, false, length, true};
 ghost use Rattle.atomic_table.specs.Seated.{TableId};
 ghost use Rattle.rcu_seq.specs.Numbers.{Number, snapshot};
 ghost use Rattle.rcu_seq.specs.Seq.{has_full_period};
-ghost use Rattle.rcu_seq.specs.Tags.{first_tag};
+ghost use Rattle.rcu_seq.specs.Tags.{cookie_at, first_tag, is_done_first, of_first_epoch};
 ghost use Rattle.rcu_seq.specs.declared.tag.Tag.{Tag};
 ghost use Rattle.rcu_cblist.specs.SegList.{take_answer};
 ghost use Rattle.rcu_cblist.specs.declared.items.Queued.{Queued};
 ghost use Rattle.rcu_barrier.specs.Lists.{barrier_test_answer, list_of};
 ghost use Rattle.rcu_barrier.specs.Runs.{copies, times_listed};
 ghost use Rattle.rcu_barrier.specs.declared.lists.BarrierState.{BarrierState};
-ghost use Rattle.rcu_live.specs.CpuSeat.{AcceptedAt, NotedAt, Seated, after_look, after_quiesce};
+ghost use Rattle.rcu_live.specs.CpuSeat.{AcceptedAt, NotedAt, RenewedAt, Seated, after_look};
+ghost use Rattle.rcu_live.specs.CpuSeat.{after_quiesce, after_renew};
 ghost use Rattle.rcu_live.specs.Engine.{HasWaited, Locked};
-ghost use Rattle.rcu_live.specs.EngineLists.{AreDue};
-ghost use Rattle.rcu_live.specs.Numbers.{idle_word, is_number_word};
+ghost use Rattle.rcu_live.specs.EngineLists.{AreDue, is_leave_fault, is_queue_fault};
+ghost use Rattle.rcu_live.specs.Numbers.{idle_word, is_number_word, may_open};
 ghost use Rattle.rcu_live.specs.Opening.{engine_at_first};
 ghost use Rattle.rcu_live.specs.Progress.{leaves};
 ghost use Rattle.rcu_live.specs.Runs.{Call, IsNew, IsRun, Makes, MayCall, after_call};
 ghost use Rattle.rcu_live.specs.Runs.{engine_after, queued_as, queued_before_barrier};
 ghost use Rattle.rcu_live.specs.Runs.{times_handed_out, turns_since};
 ghost use Rattle.rcu_live.specs.Several.{HoldsBoth, IsLens, IsPart, IsWordOf, of_both, whole};
+ghost use Rattle.rcu_live.specs.Waits.{AreRounds, HasPassed, HasStayedInside};
+ghost use Rattle.rcu_live.specs.Watcher.{Watching};
 ghost use Rattle.rcu_live.specs.declared.both_known.BothKnown.{BothKnown};
 
 use crate::client::Client;
+use rcu_seq::Fault;
 
 /// A callback is handed out once: it was queued and tended, a grace period began that found its
 /// processor idle, and ended, and it was tended and run. It came as it was queued, and no list has
@@ -149,6 +153,15 @@ pub fn a_run_is_made_call_by_call<T: Drop, P: Client>()
         IsRun first (call ∷ calls) → IsRun first calls }
 {}
 
+/// A run from the engine that another one left goes on with it: both are one run, which leaves what
+/// the second one leaves.
+pub fn a_run_goes_on_from_the_end_of_another<T: Drop, P: Client>()
+    ensures run { (first : Locked P.Known T) (calls more : List (Call T)) → IsRun first calls →
+        IsRun (engine_after first calls) more → IsRun first (more ++ calls) }
+    ensures left { (first : Locked P.Known T) (calls more : List (Call T)) →
+        engine_after first (more ++ calls) ≡ engine_after (engine_after first calls) more }
+{}
+
 /// A step is a call that may be made, and leaves what it says.
 pub fn a_step_may_be_made<T: Drop, P: Client>()
     ensures may { (call : Call T) (old new : Locked P.Known T) → Makes call old new →
@@ -179,6 +192,56 @@ pub fn a_noted_number_was_seen<P: Client>()
         n < s.view.seen → ⊥ }
     ensures saw { (s t : Seated P.Known) (n : Number) → AcceptedAt after_look s n t →
         t.view.seen ≡ n }
+{}
+
+/// A renewal passes a quiescent state at a number that is no less than what the seat saw before, and
+/// at most 2^62: the own word is one more than it. Then a section begins, at a number that is no
+/// less.
+pub fn a_renewal_is_a_quiescent_state<P: Client>()
+    ensures earlier { (closed : P.Known → P.Known) (s t : Seated P.Known) (n : Number) →
+        RenewedAt closed s n t → s.view.seen ≤ n }
+    ensures later { (closed : P.Known → P.Known) (s t : Seated P.Known) (n : Number) →
+        RenewedAt closed s n t → n ≤ t.view.seen }
+    ensures bounded { (closed : P.Known → P.Known) (s t : Seated P.Known) (n : Number) →
+        RenewedAt closed s n t → n ≤ 2 ^ 62 }
+    ensures word { (closed : P.Known → P.Known) (s t : Seated P.Known) (n : Number) →
+        RenewedAt closed s n t → t.view.own_word ≡ n + 1 }
+    ensures section { (closed : P.Known → P.Known) (s t : Seated P.Known) (n : Number) →
+        RenewedAt closed s n t → t.view.section ≡ Some t.view.seen }
+    ensures renewed { (closed : P.Known → P.Known) (s : Seated P.Known) (n m : Number) →
+        s.view.seen ≤ n → n ≤ m → n ≤ 2 ^ 62 →
+        RenewedAt closed s n (after_renew closed s n m) }
+{}
+
+/// A wait has passed a full grace period: the number has reached the snapshot of that before it, as
+/// it has where the cookie of a number that is no less is done.
+pub fn a_wait_has_passed_a_full_grace_period()
+    ensures reached { (before now : Number) → HasPassed before now → snapshot before ≤ now }
+    ensures done { (before taken now : Number) → before ≤ taken →
+        is_done_first (cookie_at (of_first_epoch taken)) now ≡ true → HasPassed before now }
+{}
+
+/// Over the rounds of a wait the watcher made this many looks more than the processor passed
+/// quiescent states, where it is awake and outside of sections. In a section of the caller nothing
+/// happened to its seat and its watcher.
+pub fn a_wait_looks_and_rests_by_rounds<P: Client>()
+    ensures rounds { (more : ℕ) (s t : Seated P.Known) (w v : Watching P.Known) →
+        AreRounds more s t w v → s.depth ≡ 0 → may_open t.view.own_word ≡ true →
+        v.view.loads + s.view.loads ≡ w.view.loads + t.view.loads + more }
+    ensures seat { (s t : Seated P.Known) (w v : Watching P.Known) →
+        HasStayedInside s t w v → 0 < s.depth → t ≡ s }
+    ensures watcher { (s t : Seated P.Known) (w v : Watching P.Known) →
+        HasStayedInside s t w v → 0 < s.depth → v ≡ w }
+{}
+
+/// Under the lock a departure is refused with three faults, and a queueing with three: the former
+/// where a processor is online or offline, the latter where it is offline or as many callbacks were
+/// queued as may be, and either where memory was refused.
+pub fn a_departure_and_a_queueing_have_three_faults_each()
+    ensures leave { (fault : Fault) → is_leave_fault fault ≡ true →
+        (fault ≡ Fault.AlreadyOnline) ⊎ ((fault ≡ Fault.Offline) ⊎ (fault ≡ Fault.NoMemory)) }
+    ensures queue { (fault : Fault) → is_queue_fault fault ≡ true →
+        (fault ≡ Fault.Offline) ⊎ ((fault ≡ Fault.CallbacksFull) ⊎ (fault ≡ Fault.NoMemory)) }
 {}
 
 /// What is due has waited: the number has reached the snapshot of that at its queueing. It is no
