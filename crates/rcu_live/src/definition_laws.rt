@@ -194,9 +194,9 @@ pub fn a_noted_number_was_seen<P: Client>()
         t.view.seen ≡ n }
 {}
 
-/// A renewal passes a quiescent state at a number that is no less than what the seat saw before, and
-/// at most 2^62: the own word is one more than it. Then a section begins, at a number that is no
-/// less.
+/// A renewal passes a quiescent state at a number that is no less than what the seat saw before,
+/// and at most 2^62: the own word is one more than it. Then a section begins, at a number that is
+/// no less.
 pub fn a_renewal_is_a_quiescent_state<P: Client>()
     ensures earlier { (closed : P.Known → P.Known) (s t : Seated P.Known) (n : Number) →
         RenewedAt closed s n t → s.view.seen ≤ n }
