@@ -1,13 +1,16 @@
 //! A thread's deferred values with the watcher by which it tends them: nothing here waits or takes
 //! a lock.
-ghost use Rattle.std.specs.Prelude.{◌≡◌, ◌<◌, ◌≤◌, All, IfErr, IfOk, IsOk, None, OnErr, OnOk};
-ghost use Rattle.std.specs.Prelude.{length, slice_get};
+ghost use Rattle.std.specs.Prelude.{◌≡◌, ◌<◌, ◌≤◌, ℕ, All, IfErr, IfOk, IsOk, None, OnErr, OnOk};
+ghost use Rattle.std.specs.Prelude.{length, slice_get, slice_index};
 ghost use Rattle.std.specs.Option.{option_map};
-ghost use Rattle.rcu_live.specs.Watcher.{WatchedAt};
+ghost use Rattle.rcu_live.specs.Rule.{IsKept};
+ghost use Rattle.rcu_live.specs.Watcher.{WatchedAt, after_watch};
 ghost use Rattle.rcu_defer.specs.DeferList.{defer_fault, list_after_defer, list_after_take};
 ghost use Rattle.rcu_defer.specs.DeferList.{list_after_tend, list_at_first, taken_values};
 ghost use Rattle.rcu_defer.specs.DeferList.{with_room};
+ghost use Rattle.rcu_defer.specs.Histories.{Call};
 ghost use Rattle.rcu_defer.specs.Marks.{defer_refusal, last_number};
+ghost use Rattle.rcu_defer.specs.Moments.{IsMoment, Moment};
 
 use crate::defer_list::DeferList;
 use rcu_cblist::Refused;
@@ -71,11 +74,16 @@ impl<T: Drop, P: Client> Deferrer<T, P> {
     }
 
     /// Tends the values by one load of the number, which it returns, as [`DeferList::tend`]. No
-    /// later load is below it.
+    /// later load is below it. At whichever moment the watcher made that load, the tend is at the
+    /// number of then.
     pub fn tend<L: Shared<P>>(&mut self, live: &L) -> u64
         requires { self.old.watcher.table ≡ (L.object live.now).table }
         ensures look { WatchedAt self.old.watcher result self.new.watcher }
         ensures state { self.new.list ≡ list_after_tend self.old.list result }
+        ensures moment { (plan : P.Plan) (cpus : ℕ) (m : Moment P.Known T) →
+            IsKept (P.holds plan) cpus m.state → m.call ≡ Call.Tend result →
+            self.new.watcher ≡ after_watch self.old.watcher (slice_index m.state.words 0) →
+            IsMoment (P.holds plan) cpus m }
         ensures none_left { All (λ until. result < until) self.new.list.marks.waiting }
         ensures later { self.old.list.marks.seen ≤ result }
     {

@@ -3,6 +3,7 @@
 
 pub mod defer_list;
 pub mod deferrer;
+pub mod definition_laws;
 pub mod laws;
 pub mod marks;
 
