@@ -165,6 +165,8 @@ static void links(void) {
 static void values(void) {
     uint64_t out[2] = {0}, count, room, moved;
     for (uint64_t value = 7; value <= 9; value++) must("defer", rcu_defer(&seats[1], value), 0);
+    must("shrink", rcu_defer_shrink(&seats[1], &room), 0);
+    printf("room of three values: %" PRIu64 "\n", room);
     must("run", rcu_defer_run(&seats[1], out, 2, &count), 0);
     printf("run %" PRIu64 " of %" PRIu64 "\n", count, rcu_defer_count(&seats[1]));
     must("depart", rcu_depart(&rcu, &seats[1], &moved), 0);

@@ -1,5 +1,6 @@
 //! Deferred values on one thread, and beside a thread that renews its section, or pins and unpins.
 mod pins;
+mod rooms;
 mod slow;
 
 ghost use Rattle.std.specs.Prelude.{◌≡◌};
