@@ -2,6 +2,8 @@
 #![tactic(auto)]
 
 #[cfg(test)]
+mod alternation;
+#[cfg(test)]
 mod command;
 #[cfg(test)]
 mod draws;

@@ -108,7 +108,12 @@ impl<'a, R: Clock + Sync> Overlap<'a, R> {
 }
 
 /// Whether the count comes to so many within so many looks, with a microsecond's sleep between two.
-fn reaches_in_time(clock: &impl Clock, count: &AtomicU64, wanted: u64, most_looks: u32) -> bool {
+pub(crate) fn reaches_in_time(
+    clock: &impl Clock,
+    count: &AtomicU64,
+    wanted: u64,
+    most_looks: u32,
+) -> bool {
     for _ in 0..most_looks {
         if count.load(Ordering::SeqCst) >= wanted {
             return true;
@@ -192,7 +197,7 @@ fn torture_ledger(rt: HostRuntime) {
 
 /// How often a worker in lock step looks for the others: fewer times, since it waits in vain
 /// wherever a growth was refused to one of them.
-const MOST_LOOKS_IN_STEP: u32 = 20_000;
+pub(crate) const MOST_LOOKS_IN_STEP: u32 = 20_000;
 
 /// Lets no worker into a round before each of them has entered it, so that none runs ahead of the
 /// others. Once one of them waited in vain, it lets none pass.
