@@ -1,10 +1,16 @@
 -- What waiting for a grace period leaves of the caller's seat and watcher.
-use Rattle.std.specs.Prelude.{◌≡◌, ℕ, zero, suc, ◌+◌, ◌<◌, ◌≤◌, true, nat_lt, if◌then◌else◌}
+use Rattle.std.specs.Prelude.{◌≡◌, ℕ, zero, suc, ◌+◌, ◌<◌, ◌≤◌, false, true, nat_lt}
+use Rattle.std.specs.Prelude.{if◌then◌else◌}
+use Rattle.rcu_node.specs.CpuSet.{is_in}
 use Rattle.rcu_seq.specs.Numbers.{Number}
+use Rattle.rcu_seq.specs.Seq.{number_of}
 use Rattle.rcu_seq.specs.Tags.{cookie_at, is_done_first, of_first_epoch}
+use Rattle.rcu_seq.specs.declared.cookie.Cookie.{Cookie}
 use Rattle.rcu_seq.specs.declared.fault.Fault.{Fault}
 use Rattle.rcu_seq.specs.declared.fault.Fault.TheVariants.{Exhausted, InSection}
 use Rattle.rcu_live.specs.CpuSeat.{Seated}
+use Rattle.rcu_live.specs.Engine.{Locked}
+use Rattle.rcu_live.specs.NextCpu.{IsNextFrom}
 use Rattle.rcu_live.specs.Numbers.{may_open}
 use Rattle.rcu_live.specs.Watcher.{Watching}
 
@@ -49,6 +55,14 @@ module _ {C : Type 0} where
   pub record HasStayedInside (s t : Seated C) (w v : Watching C) : Type 0 where
     pub seat : 0 < s.depth → t ≡ s
     pub watcher : 0 < s.depth → v ≡ w
+
+-- a wait for a cookie, of the thread of processor `own`, asks this processor to wake it: the first
+-- one that the engine awaits, where the cookie is not done and `own` is not awaited
+pub record IsAskedFor {C X : Type 0} (e : Locked C X) (own : ℕ) (cookie : Cookie) (cpu : ℕ) : Type 0
+  where
+    pub undone : is_done_first cookie (number_of e.grace.seq) ≡ false
+    pub other : is_in e.grace.processors.awaited own ≡ false
+    pub first : IsNextFrom e.grace.processors.awaited 0 cpu
 
 -- the rounds of a wait outside of sections, where the processor is awake: the watcher made this
 -- many looks more than the processor passed quiescent states

@@ -1,6 +1,7 @@
 //! The shared words, and each kind of step on them in plain words.
-ghost use Rattle.std.specs.Prelude.{◌≡◌, ◌<◌, ◌^◌, [], IfOk};
+ghost use Rattle.std.specs.Prelude.{◌≡◌, ◌<◌, ◌^◌, [], IfOk, false};
 ghost use Rattle.rcu_live.specs.Board.{IsCpuCount, IsSized};
+ghost use Rattle.rcu_live.specs.Numbers.{may_open};
 ghost use Rattle.rcu_live.specs.TableSeat.{IsSeatAt, IsSplit, MayBegin, MayEnd, MayOpen};
 ghost use Rattle.rcu_live.specs.TableSeat.{MayStore, Stepped};
 ghost use Rattle.rcu_live.specs.View.{Closed, IsOfEngine, Loaded, Opened, OwnWordLoaded};
@@ -10,6 +11,7 @@ ghost use Rattle.rcu_live.specs.Words.{own_word_index};
 
 use crate::client::{Client, NoClient};
 use crate::rule::{Begin, Close, DealCpu, DealWatcher, End, Load, LoadOwn, Open, Store, Words};
+use crate::sleepers::Sleepers;
 use crate::view::View;
 use crate::words::{NUMBER, first_words, own_word_index};
 use atomic_table::{Seat, Table};
@@ -48,6 +50,35 @@ impl<P: Client> Model for Board<P> {
       some : 0 < b.cpus;
       few : b.cpus ≤ 4096;
     } };
+}
+
+/// A store of an own word by which a grace period may hear of its processor. Only [`Board::store`]
+/// makes one, and it cannot be let go: behind the store, [`Shared::stored`](crate::Shared::stored)
+/// takes it and wakes who sleeps until then.
+pub struct Stored {
+    cpu: u32,
+}
+
+impl Model for Stored {
+    ghost use Rattle.std.specs.Prelude.{ℕ};
+
+    ghost Value = { ℕ };
+
+    ghost view = { λ stored. stored.cpu };
+}
+
+impl Stored {
+    /// Wakes who sleeps until this processor reports.
+    #[inline]
+    pub(crate) fn wakes(self, sleepers: &Sleepers) {
+        let Stored { cpu } = self;
+        sleepers.wake_for(cpu);
+    }
+
+    /// Nobody sleeps by the words alone.
+    pub(crate) fn wakes_nobody(self) {
+        let Stored { cpu: _ } = self;
+    }
 }
 
 /// A seat at the shared words.
@@ -170,8 +201,33 @@ impl<P: Client> Board<P> {
         self.table.shared.load::<Close<P>>(seat, NUMBER)
     }
 
+    /// Own-word store by which a grace period may hear of the processor. Returns what wakes who
+    /// sleeps until then.
+    pub fn store(&self, seat: &mut TableSeat<P>, cpu: u32, word: u64) -> Stored
+        requires table { seat.old.table_id ≡ self.now.table }
+        requires inside { own_word_index cpu < seat.old.table_id.words }
+        requires allowed { MayStore cpu word seat.old.me.0 }
+        ensures store { Stepped (λ old new. new ≡ after_store old word) seat.old seat.new }
+        ensures cpu { result ≡ cpu }
+    {
+        self.put_own(seat, cpu, word);
+        Stored { cpu }
+    }
+
+    /// Own-word store by which the processor arrives or wakes. Its own word was 0 or the idle word,
+    /// so that no grace period awaits it, and nobody has to be woken.
+    pub fn store_awake(&self, seat: &mut TableSeat<P>, cpu: u32, word: u64)
+        requires table { seat.old.table_id ≡ self.now.table }
+        requires inside { own_word_index cpu < seat.old.table_id.words }
+        requires allowed { MayStore cpu word seat.old.me.0 }
+        requires unawaited { may_open seat.old.me.0.own_word ≡ false }
+        ensures { Stepped (λ old new. new ≡ after_store old word) seat.old seat.new }
+    {
+        self.put_own(seat, cpu, word);
+    }
+
     /// Own-word store.
-    pub fn store(&self, seat: &mut TableSeat<P>, cpu: u32, word: u64)
+    fn put_own(&self, seat: &mut TableSeat<P>, cpu: u32, word: u64)
         requires table { seat.old.table_id ≡ self.now.table }
         requires inside { own_word_index cpu < seat.old.table_id.words }
         requires allowed { MayStore cpu word seat.old.me.0 }

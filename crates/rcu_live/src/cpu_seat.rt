@@ -26,6 +26,9 @@ use std::marker::Model;
 const IDLE_WORD: u64 = 1 << 63;
 
 /// A processor's seat, for one thread.
+///
+/// Behind each store of its own word, but that of a wake, of a pin or of an arrival, a call looks
+/// once whether it has to wake who sleeps until then: [`Shared::stored`] says what that costs.
 #[derive(Drop)]
 pub struct CpuSeat<P: Client = NoClient> {
     /// Whether the processor is online and whether it is idle, how deep its sections nest, and the
@@ -174,8 +177,7 @@ impl<P: Client> CpuSeat<P> {
         let board = live.board();
         let number = board.load(&mut self.seat);
         self.data.set_noted(Tag::of_first_epoch(number));
-        board.store(&mut self.seat, self.data.cpu(), number + 1);
-        live.stored(self.data.cpu());
+        live.stored(board.store(&mut self.seat, self.data.cpu(), number + 1));
         Ok(number)
     }
 
@@ -198,8 +200,7 @@ impl<P: Client> CpuSeat<P> {
         let now = board.load(&mut self.seat);
         if noted.number != now {
             self.data.set_noted(Tag::of_first_epoch(now));
-            board.store(&mut self.seat, self.data.cpu(), now + 1);
-            live.stored(self.data.cpu());
+            live.stored(board.store(&mut self.seat, self.data.cpu(), now + 1));
         }
         Ok(now)
     }
@@ -245,8 +246,7 @@ impl<P: Client> CpuSeat<P> {
         let number = board.close_section(seat);
         if last.number != number {
             data.set_noted(Tag::of_first_epoch(number));
-            board.store(seat, data.cpu(), number + 1);
-            live.stored(data.cpu());
+            live.stored(board.store(seat, data.cpu(), number + 1));
         }
         let began = board.open_section(seat);
         *opened = Some(began);
@@ -293,7 +293,7 @@ impl<P: Client> CpuSeat<P> {
         let depth = data.enter()?;
         let board = live.board();
         if wakes {
-            board.store(seat, data.cpu(), 1);
+            board.store_awake(seat, data.cpu(), 1);
         }
         let is_outermost = depth == 1;
         if is_outermost {
@@ -327,8 +327,7 @@ impl<P: Client> CpuSeat<P> {
             let board = live.board();
             board.close_section(seat);
             *opened = None;
-            board.store(seat, data.cpu(), IDLE_WORD);
-            live.stored(data.cpu());
+            live.stored(board.store(seat, data.cpu(), IDLE_WORD));
         }
         Ok(depth)
     }
@@ -366,8 +365,7 @@ impl<P: Client> CpuSeat<P> {
     {
         self.data.idle()?;
         let board = live.board();
-        board.store(&mut self.seat, self.data.cpu(), IDLE_WORD);
-        live.stored(self.data.cpu());
+        live.stored(board.store(&mut self.seat, self.data.cpu(), IDLE_WORD));
         Ok(())
     }
 
@@ -387,7 +385,7 @@ impl<P: Client> CpuSeat<P> {
         let board = live.board();
         let seen = board.load(&mut self.seat);
         self.data.set_noted(Tag::of_first_epoch(seen));
-        board.store(&mut self.seat, self.data.cpu(), seen + 1);
+        board.store_awake(&mut self.seat, self.data.cpu(), seen + 1);
         Ok(seen)
     }
 
@@ -408,7 +406,7 @@ impl<P: Client> CpuSeat<P> {
         let board = live.board();
         let number = board.load(&mut self.seat);
         self.data.arrive(Tag::of_first_epoch(number))?;
-        board.store(&mut self.seat, self.data.cpu(), number + 1);
+        board.store_awake(&mut self.seat, self.data.cpu(), number + 1);
         Ok(())
     }
 
@@ -432,8 +430,7 @@ impl<P: Client> CpuSeat<P> {
             self.data.depart()?;
         }
         let board = live.board();
-        board.store(&mut self.seat, self.data.cpu(), 0);
-        live.stored(self.data.cpu());
+        live.stored(board.store(&mut self.seat, self.data.cpu(), 0));
         Ok(again)
     }
 

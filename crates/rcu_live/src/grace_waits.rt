@@ -9,16 +9,12 @@ ghost use Rattle.rcu_live.specs.Waits.{HasStayedInside, after_rests, wait_fault}
 
 use crate::client::Client;
 use crate::cpu_seat::CpuSeat;
-use crate::grace_periods::Collected;
 use crate::live::Live;
 use crate::watcher::Watcher;
 use rcu_seq::{Cookie, Fault};
 use rcu_state::Turned;
 use std::sync::Wait;
 use std::thread;
-
-/// How many rounds a wait makes before it sleeps: most grace periods end sooner.
-const ROUNDS: u32 = 100;
 
 impl<const LEAF: u32, const FAN: u32, T: Drop, P: Client> Live<LEAF, FAN, T, P> {
     /// Drives the grace periods one step on for the callbacks, as
@@ -73,43 +69,6 @@ impl<const LEAF: u32, const FAN: u32, T: Drop, P: Client> Live<LEAF, FAN, T, P> 
             thread::yield_now();
         }
         Ok(())
-    }
-
-    /// Asks the first processor that is awaited to wake who sleeps, and collects from it once more:
-    /// it may have stored before it could see that. Returns the count of wakes to sleep on, or none
-    /// where the cookie is done, nobody is awaited, or the caller's own processor is. No clause
-    /// refuses a look before the asking: the model and the tests do.
-    fn ask(&self, rt: &impl Wait, own: u32, cookie: Cookie) -> Option<u64> {
-        let mut engine = self.engine.lock(rt);
-        let is_done = cookie.is_done_first(engine.grace().value());
-        if is_done || engine.next_awaited(own) == Some(own) {
-            return None;
-        }
-        let cpu = engine.next_awaited(0)?;
-        let wakes = self.sleepers.ask(cpu);
-        match engine.collect(cpu) {
-            Ok(Collected::NotYet) => Some(wakes),
-            _ => None,
-        }
-    }
-
-    /// Sleeps behind such a round until a processor that is awaited reports, if one is, and not the
-    /// seat's. Behind the first 100 rounds it does not; `rounds` came before this one. Returns how
-    /// many there are with this one, 100 at most.
-    pub fn sleep_between(
-        &self,
-        rt: &impl Wait,
-        seat: &CpuSeat<P>,
-        cookie: Cookie,
-        rounds: u32,
-    ) -> u32 {
-        if rounds < ROUNDS {
-            return rounds + 1;
-        }
-        if let Some(wakes) = self.ask(rt, seat.cpu(), cookie) {
-            self.sleepers.sleep(rt, wakes);
-        }
-        rounds
     }
 
     /// Waits until the cookie is done (Linux's `cond_synchronize_rcu`): polls it, and drives until

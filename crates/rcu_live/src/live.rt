@@ -7,7 +7,7 @@ ghost use Rattle.rcu_live.specs.Numbers.{idle_word};
 ghost use Rattle.rcu_live.specs.Opening.{engine_at_first};
 ghost use Rattle.rcu_live.specs.Watcher.{WatchedAt};
 
-use crate::board::Board;
+use crate::board::{Board, Stored};
 use crate::client::{Client, NoClient};
 use crate::cpu_seat::CpuSeat;
 use crate::engine::Engine;
@@ -97,7 +97,7 @@ impl<const LEAF: u32, const FAN: u32, T: Drop, P: Client> Shared<P> for Live<LEA
     }
 
     #[inline]
-    fn stored(&self, cpu: u32) {
-        self.sleepers.stored(cpu);
+    fn stored(&self, stored: Stored) {
+        stored.wakes(&self.sleepers);
     }
 }

@@ -1,5 +1,5 @@
 //! What the shared words are reached through.
-use crate::board::Board;
+use crate::board::{Board, Stored};
 use crate::client::Client;
 
 /// What has an engine's shared words: the words alone, or the engine that threads share.
@@ -17,10 +17,11 @@ pub trait Shared<P: Client> {
     fn board(&self) -> &Board<P>
         ensures { result.now ≡ object self.now };
 
-    /// What a seat calls behind each store by which an awaited processor is heard of: it wakes who
-    /// sleeps until then, if somebody does. A wake, a pin and an arrival make no such store: the
-    /// word before told as much.
-    fn stored(&self, cpu: u32);
+    /// What a seat calls once behind each store by which an awaited processor is heard of: it wakes
+    /// who sleeps until then, if somebody does. With a [`Live`](crate::Live) that costs one load,
+    /// and if the processor is asked to wake who sleeps, an exchange, an addition and a wake. By
+    /// the words alone it costs nothing.
+    fn stored(&self, stored: Stored);
 }
 
 impl<P: Client> Shared<P> for Board<P> {
@@ -31,5 +32,7 @@ impl<P: Client> Shared<P> for Board<P> {
     }
 
     /// Nobody sleeps by the words alone.
-    fn stored(&self, _cpu: u32) {}
+    fn stored(&self, stored: Stored) {
+        stored.wakes_nobody();
+    }
 }

@@ -1,5 +1,6 @@
 //! The running engine: each public call once, and threads.
 
+mod asks;
 mod epochs;
 mod idle;
 mod locked;

@@ -14,7 +14,7 @@ use std::thread::Threads;
 
 /// How a reader's thread reports: by its one store behind the begin.
 #[derive(Clone, Copy, Debug, PartialEq, Eq)]
-enum Report {
+pub(crate) enum Report {
     Quiesce,
     QuiesceSince,
     Renew,

@@ -1,6 +1,6 @@
 use Rattle.std.proofs.Common.{rules}
 use Rattle.rcu_live.proofs.Stores.{stores}
-use Rattle.rcu_live.proofs.board.Board.store.Goals as goal
+use Rattle.rcu_live.proofs.board.Board.put_own.Goals as goal
 
 pub store-requires : goal.store-requires
 store-requires g c =

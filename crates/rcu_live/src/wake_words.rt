@@ -1,0 +1,148 @@
+//! The two words by which who sleeps is woken, and what a step on one of them gives to the next
+//! step: nothing else makes it, so no body takes the steps in another order. Each step is
+//! sequentially consistent, and so is each store of an own word: either the look behind that finds
+//! who is asked, or the collection behind the asking finds what was stored.
+ghost use Rattle.std.specs.Prelude.{◌≡◌, ◌≢◌, ◌<◌, IfSome, None};
+ghost use Rattle.rcu_live.specs.Engine.{after_collect, collect_answer, latest_word};
+ghost use Rattle.rcu_live.specs.declared.grace_periods.Collected.TheVariants.{NotYet};
+
+use crate::client::Client;
+use crate::engine::Engine;
+use crate::grace_periods::Collected;
+use rcu_node::Awaited;
+use std::marker::Model;
+use std::sync::Wait;
+use std::sync::atomic::{AtomicU64, Ordering};
+
+/// How often all had been woken before an asking. A later count would miss a wake behind a store of
+/// an older number.
+#[derive(Drop)]
+pub(crate) struct Counted {
+    wakes: u64,
+}
+
+/// Whoever relies on an asking that was taken back has to be woken: [`WakeCount::wake_all`] alone
+/// takes this.
+pub(crate) struct TakenBack {
+    asked: u64,
+}
+
+/// A processor that is asked to wake who sleeps. [`hear`](Asked::hear) alone takes it.
+pub struct Asked {
+    cpu: u32,
+    counted: Counted,
+}
+
+/// The processor that was asked had not reported by then: the caller may sleep until it does.
+/// [`Live::sleep`](crate::Live::sleep) alone takes it.
+pub struct NotHeard {
+    counted: Counted,
+}
+
+impl Model for Asked {
+    ghost use Rattle.std.specs.Prelude.{ℕ};
+
+    ghost Value = { ℕ };
+
+    ghost view = { λ asked. asked.cpu };
+}
+
+impl Asked {
+    /// Collects from the processor that was asked, behind the asking: it may have stored before it
+    /// could see that. Returns leave to sleep, if it has not reported.
+    pub fn hear<A: Awaited, T: Drop, P: Client>(
+        self,
+        engine: &mut Engine<A, T, P>,
+    ) -> Option<NotHeard>
+        requires { self < engine.old.cpus }
+        ensures engine { engine.new ≡ after_collect engine.old self (latest_word engine.new) }
+        ensures unheard { IfSome result (λ _.
+            collect_answer engine.old self (latest_word engine.new) ≡ NotYet) }
+        ensures heard { result ≡ None →
+            collect_answer engine.old self (latest_word engine.new) ≢ NotYet }
+    {
+        let Asked { cpu, counted } = self;
+        match engine.collect(cpu) {
+            Ok(Collected::NotYet) => Some(NotHeard { counted }),
+            _ => None,
+        }
+    }
+}
+
+/// How often all were woken.
+#[derive(Drop)]
+pub(crate) struct WakeCount {
+    word: AtomicU64,
+}
+
+impl WakeCount {
+    pub(crate) fn new() -> WakeCount {
+        WakeCount {
+            word: AtomicU64::new(0),
+        }
+    }
+
+    /// How often all were woken until now.
+    pub(crate) fn count(&self) -> Counted {
+        Counted {
+            wakes: self.word.load(Ordering::SeqCst),
+        }
+    }
+
+    /// Wakes all, once the asking was taken back: who counted the wake already may ask anew.
+    pub(crate) fn wake_all(&self, taken_back: TakenBack) {
+        let TakenBack { asked: _ } = taken_back;
+        self.word.fetch_add(1, Ordering::SeqCst);
+        self.word.wake_all();
+    }
+
+    /// Sleeps until all are woken once more, or for no time where they were meanwhile. It may also
+    /// return for no reason.
+    pub(crate) fn sleep(&self, rt: &impl Wait, unheard: NotHeard) {
+        let NotHeard { counted } = unheard;
+        self.word.park(rt, (counted.wakes & 0xffff_ffff) as u32);
+    }
+}
+
+/// The processor that is asked to wake who sleeps, and one more; 0 where none is.
+#[derive(Drop)]
+pub(crate) struct AskedCpu {
+    word: AtomicU64,
+}
+
+impl AskedCpu {
+    /// Nobody is asked.
+    pub(crate) fn new() -> AskedCpu {
+        AskedCpu {
+            word: AtomicU64::new(0),
+        }
+    }
+
+    /// Asks this processor, once the wakes are counted. Where another one was asked, that is taken
+    /// back: it may have stored, and find somebody else asked.
+    pub(crate) fn ask(&self, cpu: u32, counted: Counted) -> (Asked, Option<TakenBack>)
+        ensures { result.0 ≡ cpu }
+    {
+        let asks = u64::from(cpu) + 1;
+        let asked = self.word.swap(asks, Ordering::SeqCst);
+        let other = if asked != 0 && asked != asks {
+            Some(TakenBack { asked })
+        } else {
+            None
+        };
+        (Asked { cpu, counted }, other)
+    }
+
+    /// Whether this processor is asked: one load.
+    #[inline]
+    pub(crate) fn is_asked(&self, cpu: u32) -> bool {
+        self.word.load(Ordering::SeqCst) == u64::from(cpu) + 1
+    }
+
+    /// Asks nobody any more.
+    pub(crate) fn take_back(&self) -> TakenBack {
+        TakenBack {
+            asked: self.word.swap(0, Ordering::SeqCst),
+        }
+    }
+}
