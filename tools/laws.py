@@ -1,8 +1,8 @@
 """Where each law stands, and the calls that keep it, for tools/write_calls and tools/names.
 
-A law is a function of a module whose name ends in 'laws'. In the sections of docs/PROMISES.md that
-name a crate, the contracts of an item that are laws are links to their lines. The calls of C keep
-the laws of rcu_c that name them behind 'Kept by'.
+A law is a function of a module whose name ends in 'laws' or is 'progress'. In the sections of
+docs/PROMISES.md that name a crate, the contracts of an item that are laws are links to their lines.
+The calls of C keep the laws of rcu_c that name them behind 'Kept by'.
 """
 import functools
 import os
@@ -28,7 +28,7 @@ def laws_of(crate):
     """The file and the line of each law of a crate, by its path in the crate."""
     found = {}
     for path in files():
-        module = re.fullmatch(rf"crates/{crate}/src/((?:\w+/)*\w*laws)\.rt", path)
+        module = re.fullmatch(rf"crates/{crate}/src/((?:\w+/)*(?:\w*laws|progress))\.rt", path)
         for number, line in enumerate(read(path).splitlines(), 1) if module else ():
             if law := FUNCTION.match(line):
                 found[f"{module[1].replace('/', '::')}::{law[1]}"] = path, number
