@@ -5,7 +5,8 @@ use Rattle.std.proofs.Common.{ap, ◌∙◌, arith, inl, inr}
 use Rattle.std.proofs.lemmas.Bool.{cases_lt}
 use Rattle.std.proofs.lemmas.Bool.Decides.{nat_tests}
 use Rattle.std.proofs.lemmas.Nat.{shr-shr}
-use Rattle.std.proofs.lemmas.Nat.Bits.{bit_at-lt, bit_at_and, bit_at_ones, bit_at_ones_above}
+use Rattle.std.proofs.lemmas.Nat.Bits.{bit_at-lt, bit_at_above, bit_at_and, bit_at_ones}
+use Rattle.std.proofs.lemmas.Nat.Bits.{bit_at_ones_above}
 use Rattle.std.proofs.lemmas.Nat.Bits.{bit_at_cat_low, bit_at_cat_high}
 use Rattle.rcu_node.specs.CpuSet.{is_in}
 use Rattle.rcu_node.specs.Words.{has_bit, flags_in, HasNoneFrom}
@@ -57,6 +58,18 @@ cut-is word next first width bit w =
     has_bit_low ((next * 2 ^ 64 + word) / 2 ^ first) width bit
     ∙ ap (λ b. nat_lt bit width && b) (has_bit_shift (next * 2 ^ 64 + word) first bit
     ∙ has_bit_both word next (first + bit) w)
+
+-- a whole word is its own first 64 bits
+pub whole-is : (word next bit : ℕ)
+    → word < 2 ^ 64
+    → has_bit word bit
+    ≡ (nat_lt bit 64
+    && (if nat_lt (0 + bit) 64 then has_bit word (0 + bit) else has_bit next (0 + bit - 64)))
+unfolding has_bit
+whole-is word next bit w = elim (cases_lt bit 64) [
+  | inl l ↦ grind (arith, nat_tests, l)
+  | inr l ↦ (let none = bit_at_above word 64 bit w l in grind (arith, nat_tests, l, none))
+]
 
 -- from a bit of a word on, into the next one, lie the flags of the processors from there on
 flag_in-next : (words : List ℕ) (from bit word next : ℕ)

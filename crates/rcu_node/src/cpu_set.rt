@@ -175,6 +175,9 @@ fn cut(word: u64, next: u64, first: u32, width: u32) -> u64
         ≡ (nat_lt bit width && (if nat_lt (first + bit) 64 then has_bit word (first + bit)
         else has_bit next (first + bit - 64))) }
 {
+    if first == 0 && width == WORD_BITS {
+        return word;
+    }
     let both = (u128::from(next) << WORD_BITS) + u128::from(word);
     ((both >> first) & ((1 << width) - 1)) as u64
 }
