@@ -50,7 +50,7 @@ nothing_at (suc n) zero = refl
 nothing_at (suc n) (suc c) = nothing_at n c
 
 -- the number never falls
-rises : (old new : Periods) → Moved old new → number_of old ≤ number_of new
+pub rises : (old new : Periods) → Moved old new → number_of old ≤ number_of new
 rises old new (Stays is) = let e = ap number_of is in omega (arith, e)
 rises old new (Begins idle is) =
     let e = ap number_of is in

@@ -7,6 +7,7 @@ pub mod Deals
 pub mod Dealt
 pub mod Departures
 pub mod DoneCookies
+pub mod Driving
 pub mod Early
 pub mod Elapsed
 pub mod Frames

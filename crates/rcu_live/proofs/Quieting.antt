@@ -1,7 +1,10 @@
 -- How a grace period of the engine comes to its end.
 use Rattle.std.proofs.Common.{◌≡◌, ℕ, ◌&&◌, Bool, true, false, not, if◌then◌else◌, List, slice_set}
 use Rattle.std.proofs.Common.{refl, sym, ap, ◌∙◌, arith, ◌≤◌, ◌+◌, [], ◌∷◌}
+use Rattle.std.specs.Prelude.{None, nat_lt}
+use Rattle.rcu_seq.specs.Fault.{first_fault}
 use Rattle.rcu_seq.specs.Numbers.{number_at, snapshot}
+use Rattle.rcu_seq.specs.declared.fault.Fault.TheVariants as fault
 use Rattle.rcu_seq.specs.Seq.{Periods, number_of}
 use Rattle.rcu_live.proofs.Elapsed.{Moved, Stays, Begins, Ends, Passes, moved as call_moves}
 use Rattle.rcu_live.specs.Runs.{IsRun, engine_after, Call, MayCall, after_call, Begin, End, Turn}
@@ -77,6 +80,26 @@ module _ {C X : Type 0} where
       unheard_empty e.grace.processors.awaited
       (λ c. reports_quiescence (number_of e.grace.seq) (word c)) h
 
+  pub left_awaited : (e : Locked C X) (word : ℕ → ℕ) (c : ℕ)
+      → is_in (after_collections e word).grace.processors.awaited c
+      ≡ (is_in e.grace.processors.awaited c
+      && not (reports_quiescence (number_of e.grace.seq) (word c)))
+  left_awaited e word c =
+      is_in-unheard e.grace.processors.awaited
+      (λ c. reports_quiescence (number_of e.grace.seq) (word c)) c
+
+  pub end_accepted : (e : Locked C X) (word : ℕ → ℕ) → e.grace.seq.running ≡ true
+      → ((c : ℕ) → is_in e.grace.processors.awaited c ≡ true
+      → reports_quiescence (number_of e.grace.seq) (word c) ≡ true)
+      → grace.end_refusal (after_collections e word).grace ≡ None
+  end_accepted e word r h =
+      accepted e.grace.seq.running (awaited_in (after_collections e word).grace) r
+      (nobody_left e word h)
+    where
+      accepted : (b : Bool) (n : ℕ) → b ≡ true → n ≡ 0
+          → first_fault ((not b, fault.Idle) ∷ (nat_lt 0 n, fault.Waiting) ∷ []) ≡ None
+      accepted b n i j = rw (i, j) refl
+
   -- a step of driving ends it
   moved : (e : Locked C X) (w : Bool) (word : ℕ → ℕ) → e.grace.seq.running ≡ true
       → moved_on e w word ≡ after_collections e word
@@ -85,7 +108,7 @@ module _ {C X : Type 0} where
       (λ (b : Bool).
       if b then after_collections e word else (if w then after_begin e word else e)) r
 
-  ended_then : (now : Locked C X) → now.grace.seq.running ≡ true → awaited_in now.grace ≡ 0
+  pub ended_then : (now : Locked C X) → now.grace.seq.running ≡ true → awaited_in now.grace ≡ 0
       → (if now.grace.seq.running && (awaited_in now.grace == 0) then after_end now else now)
       ≡ after_end now
   ended_then now r z =
@@ -108,6 +131,13 @@ module _ {C X : Type 0} where
       → (after_drive e w word).grace.seq.running ≡ false
   drive_ends e w word r h =
       ap (λ (y : Locked C X). y.grace.seq.running) (driven e w word r (nobody_left e word h))
+
+  pub drive_counts : (e : Locked C X) (w : Bool) (word : ℕ → ℕ) → e.grace.seq.running ≡ true
+      → ((c : ℕ) → is_in e.grace.processors.awaited c ≡ true
+      → reports_quiescence (number_of e.grace.seq) (word c) ≡ true)
+      → (after_drive e w word).grace.seq.ends ≡ e.grace.seq.ends + 1
+  drive_counts e w word r h =
+      ap (λ (y : Locked C X). y.grace.seq.ends) (driven e w word r (nobody_left e word h))
 
   said : (now : Locked C X) (b : Bool) (m : ℕ) → now.grace.seq.running ≡ true
       → awaited_in now.grace ≡ 0

@@ -1,7 +1,7 @@
 //! How a grace period of the engine comes to its end, by the calls of any threads. Nothing is
 //! claimed of who makes them, or when.
-ghost use Rattle.std.specs.Prelude.{◌≡◌, ◌⊎◌, ◌<◌, ◌≤◌, ◌+◌, ◌^◌, ◌∷◌, ◌++◌, ℕ, Bool, List, None};
-ghost use Rattle.std.specs.Prelude.{true, false, length};
+ghost use Rattle.std.specs.Prelude.{◌≡◌, ◌≢◌, ◌⊎◌, ◌<◌, ◌≤◌, ◌+◌, ◌^◌, ◌&&◌, ◌∷◌, ◌++◌, ℕ, Bool};
+ghost use Rattle.std.specs.Prelude.{List, None, true, false, not, length};
 ghost use Rattle.std.specs.List.{list_any};
 ghost use Rattle.rcu_seq.specs.Numbers.{Number, snapshot};
 ghost use Rattle.rcu_seq.specs.Seq.{number_of};
@@ -10,11 +10,11 @@ ghost use Rattle.rcu_node.specs.CpuSet.{is_in};
 ghost use Rattle.rcu_cblist.specs.SegList.{behind, callbacks, front};
 ghost use Rattle.rcu_barrier.specs.Lists.{list_of};
 ghost use Rattle.rcu_barrier.specs.Runs.{copies};
-ghost use Rattle.rcu_state.specs.GpState.{awaited_in};
+ghost use Rattle.rcu_state.specs.GpState.{awaited_in, end_refusal};
 ghost use Rattle.rcu_live.specs.CpuSeat.{Seated, after_depart, after_exit, after_idle};
 ghost use Rattle.rcu_live.specs.CpuSeat.{after_quiesce, exit_refusal, quiesce_refusal};
 ghost use Rattle.rcu_live.specs.Drive.{after_collections, after_drive, drive_answer, drive_refusal};
-ghost use Rattle.rcu_live.specs.Engine.{Locked};
+ghost use Rattle.rcu_live.specs.Engine.{Locked, next_number};
 ghost use Rattle.rcu_live.specs.Numbers.{reports_quiescence};
 ghost use Rattle.rcu_live.specs.Progress.{leaves};
 ghost use Rattle.rcu_live.specs.Runs.{Call, IsNew, IsRun, MayCall, after_call, engine_after};
@@ -37,27 +37,62 @@ pub fn awaited_processors_only_shrink<T: Drop, P: Client>()
         is_in e.grace.processors.awaited cpu ≡ true }
 {}
 
+/// A collection from each awaited processor leaves awaited exactly those whose own word does not
+/// say that they are quiescent. If each word says so, nobody is awaited and the end is accepted.
+pub fn a_collection_leaves_nobody_quiet_awaited<T: Drop, P: Client>()
+    ensures left { (e : Locked P.Known T) (word : ℕ → ℕ) (cpu : ℕ) →
+        is_in (after_collections e word).grace.processors.awaited cpu
+        ≡ (is_in e.grace.processors.awaited cpu
+        && not (reports_quiescence (number_of e.grace.seq) (word cpu))) }
+    ensures nobody { (e : Locked P.Known T) (word : ℕ → ℕ) →
+        ((cpu : ℕ) → is_in e.grace.processors.awaited cpu ≡ true →
+        reports_quiescence (number_of e.grace.seq) (word cpu) ≡ true) →
+        awaited_in (after_collections e word).grace ≡ 0 }
+    ensures accepted { (e : Locked P.Known T) (word : ℕ → ℕ) → e.grace.seq.running ≡ true →
+        ((cpu : ℕ) → is_in e.grace.processors.awaited cpu ≡ true →
+        reports_quiescence (number_of e.grace.seq) (word cpu) ≡ true) →
+        end_refusal (after_collections e word).grace ≡ None }
+{}
+
 /// One step of driving ends a running grace period if the own word of each awaited processor, as
 /// the step finds it, says that it is quiescent: the step is accepted, loads each of these words
 /// once, and then no processor is awaited.
 pub fn a_step_of_driving_ends_a_quiet_grace_period<T: Drop, P: Client>()
     ensures accepted { (e : Locked P.Known T) (is_wanted : Bool) → e.grace.seq.running ≡ true →
         drive_refusal e.grace is_wanted ≡ None }
-    ensures awaited { (e : Locked P.Known T) (word : ℕ → ℕ) →
-        ((cpu : ℕ) → is_in e.grace.processors.awaited cpu ≡ true →
-        reports_quiescence (number_of e.grace.seq) (word cpu) ≡ true) →
-        awaited_in (after_collections e word).grace ≡ 0 }
     ensures ended { (e : Locked P.Known T) (is_wanted : Bool) (word : ℕ → ℕ) →
         e.grace.seq.running ≡ true →
         ((cpu : ℕ) → is_in e.grace.processors.awaited cpu ≡ true →
         reports_quiescence (number_of e.grace.seq) (word cpu) ≡ true) →
         (after_drive e is_wanted word).grace.seq.running ≡ false }
+    ensures once { (e : Locked P.Known T) (is_wanted : Bool) (word : ℕ → ℕ) →
+        e.grace.seq.running ≡ true →
+        ((cpu : ℕ) → is_in e.grace.processors.awaited cpu ≡ true →
+        reports_quiescence (number_of e.grace.seq) (word cpu) ≡ true) →
+        (after_drive e is_wanted word).grace.seq.ends ≡ e.grace.seq.ends + 1 }
     ensures answer { (e : Locked P.Known T) (is_wanted : Bool) (word : ℕ → ℕ) →
         e.grace.seq.running ≡ true →
         ((cpu : ℕ) → is_in e.grace.processors.awaited cpu ≡ true →
         reports_quiescence (number_of e.grace.seq) (word cpu) ≡ true) →
         drive_answer e is_wanted word
         ≡ Turned.Ended (number_of (after_drive e is_wanted word).grace.seq) }
+{}
+
+/// If every own word says that its processor is quiescent, a step of driving that wants a grace
+/// period ends one: the running one, or one that it begins. Two such steps finish each cookie taken
+/// before them. A step is accepted below the last number, and while a grace period runs.
+pub fn two_steps_of_driving_finish_a_cookie<T: Drop, P: Client>()
+    ensures accepted { (e : Locked P.Known T) (is_wanted : Bool) →
+        number_of e.grace.seq ≢ e.grace.seq.last → drive_refusal e.grace is_wanted ≡ None }
+    ensures one { (e : Locked P.Known T) (word : ℕ → ℕ) →
+        ((cpu : ℕ) → reports_quiescence (next_number e.grace) (word cpu) ≡ true) →
+        (after_drive e true word).grace.seq
+        ≡ record e.grace.seq { ends = e.grace.seq.ends + 1; running = false } }
+    ensures two { (e : Locked P.Known T) (first second : ℕ → ℕ) →
+        ((cpu : ℕ) → reports_quiescence (snapshot (number_of e.grace.seq)) (first cpu) ≡ true) →
+        ((cpu : ℕ) → reports_quiescence (snapshot (number_of e.grace.seq)) (second cpu) ≡ true) →
+        snapshot (number_of e.grace.seq)
+        ≤ number_of (after_drive (after_drive e true first) true second).grace.seq }
 {}
 
 /// A seat can always make its word say that it is quiescent. While a section is open, an exit is
