@@ -284,13 +284,13 @@ by_idle s h c a o l d i = record {
   epoch = refl;
 }
 
-heard_by : (r o b heard : Bool) → b ≡ true → (r && (o && not (b || heard))) ≡ false
+pub heard_by : (r o b heard : Bool) → b ≡ true → (r && (o && not (b || heard))) ≡ false
 heard_by true true true heard i = refl
 heard_by true false true heard i = refl
 heard_by false o true heard i = refl
 heard_by r o false heard i = absurd (cc)
 
-unheard_by : (r o b heard : Bool) → b ≡ false
+pub unheard_by : (r o b heard : Bool) → b ≡ false
     → (r && (o && not (b || heard))) ≡ (r && (o && not heard))
 unheard_by r o b heard i = rw i refl
 
@@ -307,12 +307,12 @@ scanned s h c o l i = record {
   no_fault = λ f i. cc;
 }
 
-scan_hears : (h : History) (c : ℕ) → awaits c (Scan c ∷ h) ≡ false
+pub scan_hears : (h : History) (c : ℕ) → awaits c (Scan c ∷ h) ≡ false
 scan_hears h c =
     heard_by (running h) (online c (latest begins h)) (eqb c c) (is_heard c (tag_now h) h)
     (eqb_self c)
 
-scan_hears_no_other : (h : History) (c d : ℕ) → d ≢ c → awaits d (Scan c ∷ h) ≡ awaits d h
+pub scan_hears_no_other : (h : History) (c d : ℕ) → d ≢ c → awaits d (Scan c ∷ h) ≡ awaits d h
 scan_hears_no_other h c d n =
     unheard_by (running h) (online d (latest begins h)) (eqb c d) (is_heard d (tag_now h) h)
     (ne_eqb c d (λ i. n (sym i)))
@@ -378,7 +378,7 @@ run_can_end s run l r =
 abbrev left_of : History → ℕ → ℕ
 left_of h c = cond (awaits c h) 1 0
 
-none_left : (b : Bool) → cond {A = ℕ} b 1 0 ≡ 0 → b ≡ false
+pub none_left : (b : Bool) → cond {A = ℕ} b 1 0 ≡ 0 → b ≡ false
 none_left true e = absurd (omega (arith, e))
 none_left false e = refl
 
@@ -406,7 +406,7 @@ is_some : (c : ℕ) (t : Tag) (o : Option Report) → is_of c t o ≡ true → i
 is_some c t None i = absurd (cc)
 is_some c t (Some r) i = refl
 
-of_one : (c d : ℕ) (t : Tag) (o : Option Report) → is_of c t o ≡ true → d ≢ c
+pub of_one : (c d : ℕ) (t : Tag) (o : Option Report) → is_of c t o ≡ true → d ≢ c
     → is_of d t o ≡ false
 of_one c d t None i n = absurd (cc)
 of_one c d t (Some r) i n =

@@ -13,6 +13,7 @@ pub mod Heard
 pub mod Held
 pub mod Idling
 pub mod Kept
+pub mod LastAnswer
 pub mod Longer
 pub mod Lost
 pub mod Marked

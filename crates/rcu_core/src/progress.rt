@@ -23,6 +23,7 @@ ghost use Rattle.rcu_core.specs.Situation.{situation};
 
 use crate::event::Event;
 use crate::reply::Reply;
+use rcu_node::Answer;
 use rcu_seq::Fault;
 
 /// The set of awaited processors only shrinks: until the next grace period begins, no event makes a
@@ -46,6 +47,14 @@ pub fn heard_processors_let_a_grace_period_end()
         → ((cpu : ℕ) → cpu < size.cpus → starts cpu (history run) ≡ true
         → ToldSince cpu (tag (history run)) (history run))
         → SurelyLeads size (history run) (Event.End ∷ []) (Event.End ∷ history run) }
+{}
+
+/// After an answer that a report was the last one, of a delivery or a scan, the end is accepted.
+pub fn the_last_report_lets_a_grace_period_end()
+    ensures { (size : Size) (run : Run) (event : Event)
+        → IsLegalRun size ((event, Reply.Answer Answer.Last) ∷ run)
+        → SurelyLeads size (history ((event, Reply.Answer Answer.Last) ∷ run)) (Event.End ∷ [])
+        (Event.End ∷ history ((event, Reply.Answer Answer.Last) ∷ run)) }
 {}
 
 /// If each awaited processor is idle or has reported the running grace period's tag, then a scan or
