@@ -199,7 +199,7 @@ def a_slow_machine(source):
 
 
 def a_machine_gone(source):
-    """The machine with processor 0 is killed by -9 for good, and another one leaves in its place."""
+    """The machine with processor 0 is killed by -9 for good, and another leaves in its place."""
     with Cluster(source) as cluster:
         machines = cluster.machines()
         machines[0].process.kill()
@@ -265,7 +265,7 @@ def busy_readers(source):
 
 
 def one_range_twice(source):
-    """A machine is started with the processors of one that is there. Who hears the other one stops."""
+    """A machine is started with the processors of one that is there. Who hears the other stops."""
     with Cluster(source) as cluster:
         first, both = cluster.processes, [cluster.machines()[1], cluster.start(OWN[1])]
         both[1].wait(("ended", "stops: machine"))
@@ -305,9 +305,12 @@ def a_service(_):
                     raise Failure("a wait ended while a section was open")
                 except TimeoutError:
                     pass
+                until = time.monotonic() + LIMIT
+                while not any("for processors 5 of two (since" in it for it in said):
+                    if time.monotonic() > until:
+                        raise Failure(f"no stall was told: {said}")
+                    time.sleep(0.02)
             one.synchronize(LIMIT)
-            if not any("for processors 5 of two (since" in it for it in said):
-                raise Failure(f"no stall was told: {said}")
             if done != ["deferred"] or one.status()["deferred"]:
                 raise Failure(f"deferred calls: {done}, {one.status()}")
             two.close()
