@@ -1,5 +1,5 @@
-"""The package rcu-replica as it is installed: by pip, by mypy, by the operator's page, and by an
-example over another message system.
+"""The package rcu-replica as it is installed: by pip, by mypy, by the programs of its page, and by
+an example over another message system.
 
 The command `run` beside it runs it. With programs as its words it runs each as three machines over
 the PostgreSQL that libpq's variables name.
@@ -19,7 +19,7 @@ FOLDER = os.path.dirname(os.path.dirname(os.path.realpath(__file__)))
 ROOT = os.path.dirname(os.path.dirname(FOLDER))
 PYTHON = "/usr/bin/python3"  # Debian's, which has Debian's modules
 MYPY = "/usr/bin/mypy"
-OPERATORS = "docs/CLUSTER.md"
+PAGE = "bindings/python/README.md"
 VERSIONS = ("3.10", "3.11", "3.13")
 # What another message system needs of the package, alone in a venv.
 ALONE = """
@@ -86,15 +86,15 @@ def has_postgres():
 
 
 def over_postgres(made):
-    """What goes wrong in the example over PostgreSQL; and a machine that deletes before it waits has
-    to be found."""
+    """What goes wrong in the example over PostgreSQL. A machine that deletes before it waits has to
+    be found, too."""
     if not has_postgres():
         print("PostgreSQL is left out: postgresql or python3-psycopg2 is not installed")
         return None
     with open(f"{FOLDER}/examples/postgres.py", encoding="utf-8") as file:
         text = file.read()
-    waits, deletes = re.findall(r" +while not [^\n]*\n +[^\n]*\n| +if first == 0:\n[^\n]*DELETE.*\n",
-                                text)
+    lines = r" +while not [^\n]*\n[^\n]*\n| +if first == 0:\n[^\n]*DELETE[^\n]*\n"
+    waits, deletes = re.findall(lines, text)
     with open(f"{made}/planted.py", "w", encoding="utf-8") as file:
         file.write(text.replace(waits + deletes, deletes + waits))
     ran = run("pg_virtualenv", PYTHON, __file__, f"{FOLDER}/examples/postgres.py",
@@ -126,20 +126,25 @@ def types(made):
     return None if ran.returncode == 0 else ran.stdout + ran.stderr
 
 
-def operators_page(made):
-    """What goes wrong where the commands of the operator's page are run, at a free port."""
-    with open(f"{ROOT}/{OPERATORS}", encoding="utf-8") as file:
-        page = file.read()
+def page(made):
+    """What goes wrong where the program and the commands of the page are run, at a free port."""
+    with open(f"{ROOT}/{PAGE}", encoding="utf-8") as file:
+        blocks = re.findall(r"(?ms)^```(python|sh)\n(.*?)^```", file.read())
     with socket.socket() as free, tempfile.TemporaryDirectory() as room:
         free.bind(("localhost", 0))
         port = str(free.getsockname()[1])
-        commands = re.search(r"(?ms)^```sh\n(.*?)^```", page)[1].replace("7700", port)
+        with open(f"{room}/config.py", "w", encoding="utf-8") as file:
+            file.write("".join(text for kind, text in blocks if kind == "python"))
+        commands = "".join(text for kind, text in blocks if kind == "sh").replace("7700", port)
+        commands = re.sub(r"(?m)^python3\b", PYTHON, commands)
         env = {**os.environ, "RCU_LIBRARY": f"{made}/librcu.so", "ROOM": room,
-               "PYTHONPATH": f"{made}/installed", "PATH": f"{made}/installed/bin:{os.environ['PATH']}"}
+               "PYTHONPATH": f"{made}/installed",
+               "PATH": f"{made}/installed/bin:{os.environ['PATH']}"}
         free.close()
         ran = subprocess.run(["bash", "-ec", f"trap 'kill $(jobs -p)' EXIT\n{commands}"], env=env,
-                             capture_output=True, text=True, timeout=300, check=False)
-    return None if ran.returncode == 0 else ran.stdout + ran.stderr
+                             capture_output=True, text=True, timeout=300, check=False, cwd=room)
+    is_well = ran.returncode == 0 and not ran.stderr
+    return None if is_well else ran.stdout + ran.stderr
 
 
 if __name__ == "__main__":
