@@ -8,14 +8,14 @@ use Rattle.std.proofs.lemmas.List.{append_cancel_right}
 use mathlib.Core.Option.{some}
 use lib.ListN.{get_elem?}
 use Rattle.atomic_table.proofs.Lists.{at_map}
-use Rattle.rcu_graph.specs.Absence.{AreMadeBy, AreSameFor, IsChained, IsHistory, IsKeeperStep}
-use Rattle.rcu_graph.specs.Absence.{IsLinkedKey, IsTrueOf, aside, linked}
+use Rattle.rcu_graph.specs.Absence.{AreLinkedWords, AreMadeBy, AreSameFor, IsChained, IsHistory}
+use Rattle.rcu_graph.specs.Absence.{IsKeeperStep, IsLinkedKey, IsTrueOf, aside, linked}
 use Rattle.rcu_graph.specs.Absence as absence
 use Rattle.rcu_graph.specs.Beside.{AreOnChain, IsChainOf, IsKeeperMove, IsKeptAt, IsKeptOver}
 use Rattle.rcu_graph.specs.Beside.{IsOnChain, IsOpenAt, IsOpenOver, IsSectionMove, Moment, cell_of}
 use Rattle.rcu_graph.specs.Beside.{followed, led, left, looked, nodes_at, published, rested}
 use Rattle.rcu_graph.specs.Beside.{stayed, wrote, wrote_link}
-use Rattle.rcu_graph.specs.Nodes.{IsKeeping, IsOn, hops_in, in_state, latest_in, linked_to}
+use Rattle.rcu_graph.specs.Nodes.{IsHeld, IsKeeping, IsOn, hops_in, in_state, latest_in, linked_to}
 use Rattle.rcu_graph.specs.Nodes.{nodes_in, stored_in, worded}
 use Rattle.rcu_graph.specs.Planned.{of_plan, unplanned}
 use Rattle.rcu_graph.specs.Search.{IsSearched}
@@ -27,8 +27,8 @@ use Rattle.rcu_graph.specs.declared.known.Node.{Node}
 use Rattle.rcu_graph.specs.declared.node_state.NodeState.TheVariants.{Left}
 use Rattle.rcu_graph.specs.declared.plan.Plan.{Plan}
 use Rattle.rcu_graph.proofs.Chains.{same_aged, same_where, unseen_where_free}
-use Rattle.rcu_graph.proofs.HeldNodes.{chains, hop_true_then}
-use Rattle.rcu_graph.proofs.Hindsight.{not_absent, was_linked}
+use Rattle.rcu_graph.proofs.HeldNodes.{chains, held_words, hop_true_then}
+use Rattle.rcu_graph.proofs.Hindsight.{not_absent, was_linked, words_were_linked}
 
 -- who keeps the nodes knows a number, the nodes, and its stores
 is_keeper : (known : Known) → IsKeeping known
@@ -216,3 +216,24 @@ module _ (fits : Plan → List ℕ → Type 0) (joins : Plan → ℕ → List �
         (history_over ours root keeper seat opened last moments chain kept walks on) key
         (moments 0).section (moments last).section node search
         (search_made root key keeper seat opened last moments (Some node) kept walks search)
+
+    -- the words with which the section holds in the end what it found were linked
+    pub words_over : (node : ℕ) (words : List ℕ)
+        → IsSearched root key (moments 0).section (Some node) (moments last).section
+        → IsHeld (moments last).section node words
+        → (t : ℕ) × (t ≤ last) × AreLinkedWords root words (nodes_at moments t)
+    words_over node words search held =
+        let m : Moment = moments last in
+        let k = kept.at last (omega arith) in
+        let o = walks.at last (omega arith) in
+        words_were_linked ours opened root last (nodes_at moments)
+        (history_over ours root keeper seat opened last moments chain kept walks on) key
+        (moments 0).section m.section node search words
+        (search_made root key keeper seat opened last moments (Some node) kept walks search)
+        (held_words (fits plan) (joins plan) (first plan) plan.roots plan.links plan.words
+        plan.nodes m.words (map unplanned m.seats) keeper seat node (latest_in m.keeper) None None
+        (Some o.cpu) (Some opened) (nodes_in m.keeper) (stored_in m.keeper) m.section words
+        k.rule.kept
+        (keeper_shown keeper m k)
+        (at_map unplanned m.seats seat (Some o.cpu, Some opened, of_plan plan m.section) o.shown)
+        o.reads held)

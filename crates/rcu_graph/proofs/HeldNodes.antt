@@ -117,6 +117,24 @@ module _ (fits : List ℕ → Type 0) (joins : ℕ → List ℕ → List ℕ →
       some-injective _ _ (sym is ∙ (ap (λ (s : List Node). get_elem? s i) k.1 ∙ r.here)) in
       ap (λ (x : Node). x.words) same ∙ r.same
 
+  -- the words with which a section holds a node are those that the keeper knows of it
+  pub held_words : (table : List ℕ) (xs : Views Known)
+      (keeper id i latest : ℕ) (who own cpu section : Option ℕ) (nodes : List Node)
+      (stored : List (List Node)) (known : Known) (words : List ℕ)
+      → IsKept fits joins first roots links width count table xs
+      → get_elem? xs keeper ≡ some (who, own, Keeper latest nodes stored)
+      → get_elem? xs id ≡ some (cpu, section, known)
+      → IsReader known
+      → IsHeld known i words
+      → (node_at nodes i).words ≡ words
+  held_words table xs keeper id i latest who own cpu section nodes stored known words h kept at
+      reads held =
+      let r = holds_it table xs h id i cpu section known words at reads held in
+      let k = h.seats keeper who own (Keeper latest nodes stored) kept in
+      let same : node_at nodes i ≡ r.on =
+      ap (λ (s : List Node). node_at s i) k.1 ∙ at_here h.nodes i r.on r.here in
+      ap (λ (x : Node). x.words) same ∙ r.same
+
   pub live_leads : (table : List ℕ) (xs : Views Known)
       (keeper i l j latest : ℕ) (who own : Option ℕ) (nodes : List Node)
       (stored : List (List Node)) (v : Node)

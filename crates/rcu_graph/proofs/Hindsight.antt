@@ -3,8 +3,8 @@ use Rattle.std.proofs.Common.{◌≡◌, ◌⊎◌, ℕ, zero, suc, ◌+◌, ◌
 use Rattle.std.proofs.Common.{Option, Some, None, refl, sym, ap, ◌∙◌, subst, arith, ⊎_elim}
 use Rattle.std.proofs.Math.Nat.{suc_inj}
 use Rattle.std.specs.Prelude.{IsSome, IsTrue, slice_index}
-use Rattle.rcu_graph.specs.Absence.{AreMadeBy, IsHistory, IsLinkedKey, IsTrueOf, Reaches, arrived}
-use Rattle.rcu_graph.specs.Absence.{key_at, next_of, onwards}
+use Rattle.rcu_graph.specs.Absence.{AreLinkedWords, AreMadeBy, IsHistory, IsLinkedKey, IsTrueOf}
+use Rattle.rcu_graph.specs.Absence.{Reaches, arrived, key_at, next_of, onwards}
 use Rattle.rcu_graph.specs.Nodes.{MayRead, node_at, state_at}
 use Rattle.rcu_graph.specs.Search.{Decides, IsPath, IsSearched, key_after}
 use Rattle.rcu_graph.specs.declared.known.Hop.{Hop}
@@ -160,17 +160,45 @@ module _ (ours : List ℕ → Bool) (opened root last : ℕ) (nodes : ℕ → Li
         reached = onwards root w.begin w.begins w.reached;
       }
 
+  -- a node that a search found was behind the root by then, and these are its words since
+  found_behind : (key : ℕ) (was now : Known) (node : ℕ)
+      (search : IsSearched root key was (Some node) now)
+      (made : AreMadeBy nodes last (search.last ∷ search.path)) → WasBehind made.0 node
+  found_behind key was now node search made =
+      hop_behind made.0 made.0 search.last node (omega arith) made.1
+      (was_on key search.path search.last.from made.0 made.1 search.is_path made.3)
+      search.along search.decided.0 made.2
+
+  -- so were the words that the node has in the end
+  pub words_were_linked : (key : ℕ) (was now : Known) (node : ℕ)
+      (search : IsSearched root key was (Some node) now) (words : List ℕ)
+      → AreMadeBy nodes last (search.last ∷ search.path)
+      → (node_at (nodes last) node).words ≡ words
+      → (t : ℕ) × (t ≤ last) × AreLinkedWords root words (nodes t)
+  words_were_linked key was now node search words made is =
+      let w : WasBehind made.0 node = found_behind key was now node search made in
+      let b = w.by in
+      let low = made.1 in
+      let kept = stays node w.seen (last - w.seen) last (omega (arith, b, low)) (omega arith)
+      (onwards root w.begin w.begins w.reached) in (
+        w.seen,
+        omega (arith, b, low),
+        record {
+          begin = w.begin;
+          holder = node;
+          begins = w.begins;
+          reached = w.reached;
+          are = sym kept.1 ∙ is;
+        },
+      )
+
   pub was_linked : (key : ℕ) (was now : Known) (node : ℕ)
       (search : IsSearched root key was (Some node) now)
       → AreMadeBy nodes last (search.last ∷ search.path)
       → (t : ℕ) × (t ≤ last) × IsLinkedKey root key (nodes t)
   was_linked key was now node search made =
-      let hop : Hop = search.last in
       let when : ℕ = made.0 in
-      let p : WasOn when hop.from =
-      was_on key search.path hop.from when made.1 search.is_path made.3 in
-      let w : WasBehind when node = hop_behind when when hop node (omega arith) made.1 p
-      search.along search.decided.0 made.2 in
+      let w : WasBehind when node = found_behind key was now node search made in
       let b = w.by in
       let kept = stays node w.seen (when - w.seen) when (omega (arith, b)) made.1
       (onwards root w.begin w.begins w.reached) in (

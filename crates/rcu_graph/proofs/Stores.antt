@@ -6,8 +6,8 @@ use Rattle.std.proofs.lemmas.Bool.{cases_lt}
 use Rattle.std.proofs.lemmas.List.{length-map}
 use mathlib.Core.Logic.{dite}
 use native.Mathlib.Decide.{ℕ_discrete}
-use Rattle.rcu_graph.specs.Absence.{IsChained, IsLinkedKey, IsOnIfOurs, Reaches, arrived, key_at}
-use Rattle.rcu_graph.specs.Absence.{next_of, onwards}
+use Rattle.rcu_graph.specs.Absence.{AreLinkedWords, IsChained, IsLinkedKey, IsOnIfOurs, Reaches}
+use Rattle.rcu_graph.specs.Absence.{arrived, key_at, next_of, onwards}
 use Rattle.rcu_graph.specs.Beside.{IsChainOf, IsKeeperMove, IsKeptOver, IsOnChain, Moment, led}
 use Rattle.rcu_graph.specs.Beside.{left, looked, nodes_at, published, rested, wrote, wrote_link}
 use Rattle.rcu_graph.specs.Nodes.{aged, aged_node, in_state, linked_to, node_at, nodes_in}
@@ -42,6 +42,19 @@ module _ (ours : List ℕ → Bool) (root : ℕ) (A B : List Node) (c : IsChaine
         begins = (same root c.rooted).0 ∙ k.begins;
         reached = reached_on k.holder k.begin first k.reached;
         has = (same k.holder (live_at_end k.holder k.begin first k.reached)).1 ∙ k.has;
+      }
+
+  -- and so are words, where each live node has its own
+  pub words_on : (words : List ℕ)
+      → ((y : ℕ) → state_at A y ≡ Live → (node_at B y).words ≡ (node_at A y).words)
+      → AreLinkedWords root words A → AreLinkedWords root words B
+  words_on words alike k =
+      let first = c.live root k.begin c.rooted k.begins in record {
+        begin = k.begin;
+        holder = k.holder;
+        begins = (same root c.rooted).0 ∙ k.begins;
+        reached = reached_on k.holder k.begin first k.reached;
+        are = alike k.holder (live_at_end k.holder k.begin first k.reached) ∙ k.are;
       }
 
 -- no node became live, and each live one has its links and words
@@ -194,6 +207,13 @@ module _ (ours : List ℕ → Bool) (root : ℕ) (A B : List Node) (a : IsChaine
   linked_before : (key : ℕ) → IsLinkedKey root key B → IsLinkedKey root key A
   linked_before = linked_on ours root B A b back
 
+  words_then : (words : List ℕ) → AreLinkedWords root words A → AreLinkedWords root words B
+  words_then words = words_on ours root A B a ahead words q.words
+
+  words_before : (words : List ℕ) → AreLinkedWords root words B → AreLinkedWords root words A
+  words_before words =
+      words_on ours root B A b back words (λ y on. sym (q.words y (q.live y on)))
+
   all_on_then : AreAllOn ours root A → AreAllOn ours root B
   all_on_then all i on mine = reached_on ours root A B a ahead i root a.rooted
       (all i (q.live i on)
@@ -263,6 +283,28 @@ module _ (fits : Plan → List ℕ → Type 0) (joins : Plan → ℕ → List �
       (quiet n under none) key is))
       s (t - s) t (omega (arith, up)) low few (λ is. is)
 
+  words_on_to : (words : List ℕ) (s t : ℕ) → s ≤ t → t ≤ last → stores_at t ≤ stores_at s
+      → AreLinkedWords root words (nodes_at moments s)
+      → AreLinkedWords root words (nodes_at moments t)
+  words_on_to words s t up low few =
+      carried (λ n. AreLinkedWords root words (nodes_at moments n))
+      (λ n under none. words_then ours root (nodes_at moments n) (nodes_at moments (suc n))
+      (chained n (omega (arith, under))) (chained (suc n) (omega (arith, under)))
+      (quiet n under none) words)
+      s (t - s) t (omega (arith, up)) low few
+
+  words_back_to : (words : List ℕ) (s t : ℕ) → s ≤ t → t ≤ last → stores_at t ≤ stores_at s
+      → AreLinkedWords root words (nodes_at moments t)
+      → AreLinkedWords root words (nodes_at moments s)
+  words_back_to words s t up low few =
+      carried (λ n. AreLinkedWords root words (nodes_at moments n)
+      → AreLinkedWords root words (nodes_at moments s))
+      (λ n under none was is. was
+      (words_before ours root (nodes_at moments n) (nodes_at moments (suc n))
+      (chained n (omega (arith, under))) (chained (suc n) (omega (arith, under)))
+      (quiet n under none) words is))
+      s (t - s) t (omega (arith, up)) low few (λ is. is)
+
   all_on_to : (s t : ℕ) → s ≤ t → t ≤ last → stores_at t ≤ stores_at s
       → AreAllOn ours root (nodes_at moments s) → AreAllOn ours root (nodes_at moments t)
   all_on_to s t up low few =
@@ -295,6 +337,18 @@ module _ (fits : Plan → List ℕ → Type 0) (joins : Plan → ℕ → List �
         inr (linked_on_to key t u to end (omega (arith, past, one)) is))
         (λ (not_yet : stores_at t ≤ stores_at s).
         inl (linked_back_to key s t from (omega (arith, to, end)) not_yet is))
+        (cases_lt (stores_at s) (stores_at t))
+
+    -- so it is of words
+    pub words_at_one : (words : List ℕ) (t : ℕ) → s ≤ t → t ≤ u
+        → AreLinkedWords root words (nodes_at moments t)
+        → AreLinkedWords root words (nodes_at moments s)
+        ⊎ AreLinkedWords root words (nodes_at moments u)
+    words_at_one words t from to is = ⊎_elim
+        (λ (past : stores_at s < stores_at t).
+        inr (words_on_to words t u to end (omega (arith, past, one)) is))
+        (λ (not_yet : stores_at t ≤ stores_at s).
+        inl (words_back_to words s t from (omega (arith, to, end)) not_yet is))
         (cases_lt (stores_at s) (stores_at t))
 
     -- where each live node was on its chain, the one that it led elsewhere was

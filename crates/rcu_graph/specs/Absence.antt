@@ -29,6 +29,14 @@ pub record IsLinkedKey (root key : ℕ) (nodes : List Node) : Type 0 where
   pub reached : Reaches nodes holder begin
   pub has : key_at nodes holder ≡ key
 
+-- the words are linked: the chain behind the root leads to a node with these
+pub record AreLinkedWords (root : ℕ) (words : List ℕ) (nodes : List Node) : Type 0 where
+  pub begin : ℕ
+  pub holder : ℕ
+  pub begins : next_of nodes root ≡ suc begin
+  pub reached : Reaches nodes holder begin
+  pub are : (node_at nodes holder).words ≡ words
+
 -- some words are those of nodes of the root's chain. The root is live and of its chain, and the
 -- link 0 of a live node leads to a live one with a greater key, of the same chain
 pub record IsChained (ours : List ℕ → Bool) (root : ℕ) (nodes : List Node) : Type 0 where

@@ -8,8 +8,8 @@ ghost use lib.ListN.{get_elem?};
 ghost use Rattle.rcu_live.specs.Client.{Views};
 ghost use Rattle.rcu_live.specs.Numbers.{is_open_at};
 ghost use Rattle.rcu_live.specs.Watcher.{Watching};
-ghost use Rattle.rcu_graph.specs.Absence.{AreMadeBy, IsChained, IsHistory, IsKeeperStep};
-ghost use Rattle.rcu_graph.specs.Absence.{IsLinkedKey, IsOnIfOurs, IsTrueOf};
+ghost use Rattle.rcu_graph.specs.Absence.{AreLinkedWords, AreMadeBy, IsChained, IsHistory};
+ghost use Rattle.rcu_graph.specs.Absence.{IsKeeperStep, IsLinkedKey, IsOnIfOurs, IsTrueOf};
 ghost use Rattle.rcu_graph.specs.Beside.{AreOnChain, IsChainOf, IsKeptOver, IsOpenOver, Moment};
 ghost use Rattle.rcu_graph.specs.Beside.{nodes_at};
 ghost use Rattle.rcu_graph.specs.Keeper.{after_leave, after_link, after_look, after_publish};
@@ -241,4 +241,16 @@ pub fn keys_found_over_a_run_were_linked<F: Shape>()
         AreOnChain F.fits F.joins F.first plan ours root keeper last moments kept →
         IsSearched root key (moments 0).section (Some node) (moments last).section →
         (t : ℕ) × (t ≤ last) × IsLinkedKey root key (nodes_at moments t) }
+{}
+
+/// So were its words: those with which the section holds it then.
+pub fn words_found_over_a_run_were_linked<F: Shape>()
+    ensures { (plan : Plan) (ours : List ℕ → Bool) (root key keeper seat opened last node : ℕ)
+        (moments : ℕ → Moment) (words : List ℕ) → IsChainOf F.joins F.first plan ours root →
+        (kept : IsKeptOver F.fits F.joins F.first plan keeper last moments) →
+        IsOpenOver F.fits F.joins F.first plan seat opened last moments →
+        AreOnChain F.fits F.joins F.first plan ours root keeper last moments kept →
+        IsSearched root key (moments 0).section (Some node) (moments last).section →
+        IsHeld (moments last).section node words →
+        (t : ℕ) × (t ≤ last) × AreLinkedWords root words (nodes_at moments t) }
 {}
