@@ -4,23 +4,24 @@ use Rattle.std.proofs.Common.{◌≡◌, ◌⊎◌, ℕ, suc, ◌+◌, ◌<◌, 
 use Rattle.std.proofs.Common.{subst, inl, inr, arith, ⊎_elim, eq-eqb}
 use Rattle.std.proofs.lemmas.Bool.{cases_lt, eqb-true}
 use Rattle.rcu_live.specs.Watcher.{Watching}
-use Rattle.rcu_graph.specs.Absence.{IsLinkedKey}
+use Rattle.rcu_graph.specs.Absence.{AreLinkedWords, IsLinkedKey}
 use Rattle.rcu_graph.specs.Beside.{AreOnChain, IsChainOf, IsKeeperMove, IsOnChain, Moment}
 use Rattle.rcu_graph.specs.Beside.{nodes_at}
 use Rattle.rcu_graph.specs.Keeper.{after_look}
 use Rattle.rcu_graph.specs.Nodes.{nodes_in, stored_in}
 use Rattle.rcu_graph.specs.declared.known.Known.{Known}
+use Rattle.rcu_graph.specs.declared.known.Node.{Node}
 use Rattle.rcu_graph.specs.declared.known.Planned.{Planned}
 use Rattle.rcu_graph.specs.declared.plan.Plan.{Plan}
 use Rattle.rcu_graph.proofs.Stores.{AreAllOn, linked_at_one, linked_between, on_chain_between}
-use Rattle.rcu_graph.proofs.Stores.{stores_of}
-use Rattle.rcu_map.specs.Beside.{AreMadeOver, HadKey, IsMapOver, since}
-use Rattle.rcu_map.specs.Entries.{HasKey}
-use Rattle.rcu_map.specs.Keys.{GoesUp, IsWhole, bucket_in, bucket_of, root_words}
+use Rattle.rcu_graph.proofs.Stores.{stores_of, words_at_one}
+use Rattle.rcu_map.specs.Beside.{AreMadeOver, Had, HadEntry, HadKey, IsMapOver, since}
+use Rattle.rcu_map.specs.Entries.{HasEntry, HasKey}
+use Rattle.rcu_map.specs.Keys.{GoesUp, IsWhole, bucket_in, bucket_of, key_in, root_words}
 use Rattle.rcu_map.specs.Puts.{IsByOneStore}
 use Rattle.rcu_map.specs.Runs.{HasKeyThroughout, IsMapOf, IsRun, begun, changed, is_of, looked}
 use Rattle.rcu_map.proofs.Buckets.{bucket_inside, root_bucket}
-use Rattle.rcu_map.proofs.Linked.{has_linked, is_linked}
+use Rattle.rcu_map.proofs.Linked.{entry_linked, has_linked, is_linked}
 use Rattle.rcu_map.proofs.Runs.{has_at_end, on_chain}
 
 module _ (holds : List ℕ → Type 0) (plan : Plan) (opened key keeper last : ℕ) (moments : ℕ → Moment)
@@ -86,14 +87,6 @@ module _ (holds : List ℕ → Type 0) (plan : Plan) (opened key keeper last : �
       (is_linked holds plan.roots plan.seed plan.words plan.nodes
       (nodes_in now.view.client.known) (is_map now run).map key some wide up has)
 
-  has_it : (t : ℕ) (now : Watching Planned) (run : Run now) → Made t now run
-      → IsLinkedKey start key (nodes_at moments t)
-      → HasKey plan.roots (nodes_in now.view.client.known) key
-  has_it t now run made links =
-      has_linked holds plan.roots plan.seed plan.words plan.nodes
-      (nodes_in now.view.client.known) (is_map now run).map key some wide up
-      (subst (λ (k : Known). IsLinkedKey start key (nodes_in k)) (knew t now run made) links)
-
   one_store_more : (s t : ℕ) (before now : Watching Planned)
       → (moments s).keeper ≡ before.view.client.known
       → (moments t).keeper ≡ now.view.client.known
@@ -119,6 +112,11 @@ module _ (holds : List ℕ → Type 0) (plan : Plan) (opened key keeper last : �
   looked_once before now number is =
       let e = ap (λ (k : Watching Planned). length (stored_in k.view.client.known)) is in
       omega (arith, e)
+
+  -- what the keeper knew at a moment before the first call it knew at the moment 0
+  few_at_first : (t : ℕ) (now : Watching Planned) (m : IsMapOf holds plan now)
+      → Made t now (begun now m) → stores_of (moments t) ≤ suc (stores_of (moments 0))
+  few_at_first t now m made = one_store_more 0 t now now made.0 made.1 (omega arith)
 
   abbrev Moved : (t : ℕ) → t < last → Type 0
   Moved t low = IsOnChain plan (moments t) (moments (suc t)) mine start (kept.moves t low)
@@ -150,26 +148,13 @@ module _ (holds : List ℕ → Type 0) (plan : Plan) (opened key keeper last : �
         (links_it t now later then has))
         (cases_lt n s)
 
-    call_had : ((n : ℕ) → n ≤ s → IsLinkedKey start key (nodes_at moments n)
-        → HadKey holds plan opened key before run)
-        → (n : ℕ) → n ≤ t → IsLinkedKey start key (nodes_at moments n)
-        → HadKey holds plan opened key before run
-        ⊎ HasKey plan.roots (nodes_in now.view.client.known) key
-    call_had was n to links = ⊎_elim
-        (λ (early : n < s). inl (was n (omega (arith, early)) links))
-        (λ (late : s ≤ n). ⊎_elim
-        (λ (first : IsLinkedKey start key (nodes_at moments s)). inl (was s (omega arith) first))
-        (λ (later_on : IsLinkedKey start key (nodes_at moments t)).
-        inr (has_it t now later then later_on))
-        (linked_at_one Fits Joins First plan mine start keeper last moments is_chain kept s t end
-        few_stores key n late to links))
-        (cases_lt n s)
-
   -- of each live node that was led elsewhere the chain led to it
   pub run_on : (t : ℕ) (now : Watching Planned) (run : Run now) → Made t now run → t ≤ last
       → (n : ℕ) (low : n < last) → n < t → Moved n low
   run_on t now (begun _ m) made end = λ n low to.
-      let none = made.0 in absurd (omega (arith, none, to))
+      on_chain_between Fits Joins First plan mine start keeper last moments is_chain kept 0 t end
+      (few_at_first t now m made) (all_on 0 now (begun now m) (made.0, made.0)) n low (omega arith)
+      to
   run_on t now (changed before _ run by m) made end =
       let s : ℕ = made.1 in
       let from : s ≤ t = made.2 in
@@ -188,10 +173,9 @@ module _ (holds : List ℕ → Type 0) (plan : Plan) (opened key keeper last : �
       → t ≤ last → HasKeyThroughout holds plan opened key now run
       → (n : ℕ) → n ≤ t → IsLinkedKey start key (nodes_at moments n)
   run_linked_over t now (begun _ m) made end has = λ n to.
-      let none = made.0 in
-      let same : t ≡ n = omega (arith, none, to) in
-      subst (λ (k : ℕ). IsLinkedKey start key (nodes_at moments k)) same
-      (links_it t now (begun now m) made has)
+      linked_between Fits Joins First plan mine start keeper last moments is_chain kept 0 t end
+      (few_at_first t now m made) key n (omega arith) to
+      (links_it 0 now (begun now m) (made.0, made.0) has) (links_it t now (begun now m) made has)
   run_linked_over t now (changed before _ run by m) made end has =
       let s : ℕ = made.1 in
       let from : s ≤ t = made.2 in
@@ -205,25 +189,75 @@ module _ (holds : List ℕ → Type 0) (plan : Plan) (opened key keeper last : �
       (looked_once before now number is) (has_at_end holds plan opened key before run has.0) has.1
       (run_linked_over s before run made.3 (omega (arith, from, end)) has.0)
 
-  -- and one that is linked at a moment was there before a call or after it
-  pub run_had : (t : ℕ) (now : Watching Planned) (run : Run now) → Made t now run → t ≤ last
+  -- what is linked at a moment was in the map before a call or after it, where between two moments
+  -- with at most one store what is linked is so at one of them, and between calls it is in the map
+  module _ (Links Has : List Node → Type 0)
+      (at_one : (s t : ℕ) → t ≤ last → stores_of (moments t) ≤ suc (stores_of (moments s))
+      → (n : ℕ) → s ≤ n → n ≤ t → Links (nodes_at moments n)
+      → Links (nodes_at moments s) ⊎ Links (nodes_at moments t))
+      (map_has : (now : Watching Planned) → Run now → Links (nodes_in now.view.client.known)
+      → Has (nodes_in now.view.client.known)) where
+    has_at : (t : ℕ) (now : Watching Planned) (run : Run now) → Made t now run
+        → Links (nodes_at moments t) → Has (nodes_in now.view.client.known)
+    has_at t now run made links =
+        map_has now run (subst (λ (k : Known). Links (nodes_in k)) (knew t now run made) links)
+
+    call_had : (s t : ℕ) (before now : Watching Planned) (run : Run before) (later : Run now)
+        → Made s before run → Made t now later → s ≤ t → t ≤ last
+        → length (stored_in now.view.client.known)
+        ≤ suc (length (stored_in before.view.client.known))
+        → ((n : ℕ) → n ≤ s → Links (nodes_at moments n) → Had holds plan Has opened before run)
+        → (n : ℕ) → n ≤ t → Links (nodes_at moments n)
+        → Had holds plan Has opened before run ⊎ Has (nodes_in now.view.client.known)
+    call_had s t before now run later made then from end few was n to links = ⊎_elim
+        (λ (early : n < s). inl (was n (omega (arith, early)) links))
+        (λ (late : s ≤ n). ⊎_elim
+        (λ (first : Links (nodes_at moments s)). inl (was s (omega arith) first))
+        (λ (later_on : Links (nodes_at moments t)). inr (has_at t now later then later_on))
+        (at_one s t end
+        (one_store_more s t before now (knew s before run made) (knew t now later then) few) n late
+        to links))
+        (cases_lt n s)
+
+    run_had : (t : ℕ) (now : Watching Planned) (run : Run now) → Made t now run → t ≤ last
+        → (n : ℕ) → n ≤ t → Links (nodes_at moments n) → Had holds plan Has opened now run
+    run_had t now (begun _ m) made end = λ n to links. ⊎_elim
+        (λ (first : Links (nodes_at moments 0)).
+        has_at 0 now (begun now m) (made.0, made.0) first)
+        (λ (later_on : Links (nodes_at moments t)). has_at t now (begun now m) made later_on)
+        (at_one 0 t end (few_at_first t now m made) n (omega arith) to links)
+    run_had t now (changed before _ run by m) made end =
+        let s : ℕ = made.1 in
+        let from : s ≤ t = made.2 in
+        call_had s t before now run (changed before now run by m) made.3 made from end
+        (changed_once before now by) (run_had s before run made.3 (omega (arith, from, end)))
+    run_had t now (looked before _ number run opens is m) made end =
+        let s : ℕ = made.1 in
+        let from : s ≤ t = made.2 in
+        call_had s t before now run (looked before now number run opens is m) made.3 made from end
+        (looked_once before now number is) (run_had s before run made.3 (omega (arith, from, end)))
+
+  -- so it is of a key, and of the words of an entry with the key
+  key_had : (t : ℕ) (now : Watching Planned) (run : Run now) → Made t now run → t ≤ last
       → (n : ℕ) → n ≤ t → IsLinkedKey start key (nodes_at moments n)
       → HadKey holds plan opened key now run
-  run_had t now (begun _ m) made end = λ n to links.
-      let none = made.0 in
-      let same : n ≡ t = omega (arith, none, to) in
-      has_it t now (begun now m) made
-      (subst (λ (k : ℕ). IsLinkedKey start key (nodes_at moments k)) same links)
-  run_had t now (changed before _ run by m) made end =
-      let s : ℕ = made.1 in
-      let from : s ≤ t = made.2 in
-      call_had s t before now run (changed before now run by m) made.3 made from end
-      (changed_once before now by) (run_had s before run made.3 (omega (arith, from, end)))
-  run_had t now (looked before _ number run opens is m) made end =
-      let s : ℕ = made.1 in
-      let from : s ≤ t = made.2 in
-      call_had s t before now run (looked before now number run opens is m) made.3 made from end
-      (looked_once before now number is) (run_had s before run made.3 (omega (arith, from, end)))
+  key_had =
+      run_had (IsLinkedKey start key) (λ nodes. HasKey plan.roots nodes key)
+      (λ s t end few n from to links. linked_at_one Fits Joins First plan mine start keeper last
+      moments is_chain kept s t end few key n from to links)
+      (λ now run links. has_linked holds plan.roots plan.seed plan.words plan.nodes
+      (nodes_in now.view.client.known) (is_map now run).map key some wide up links)
+
+  entry_had : (words : List ℕ) → key_in words ≡ key
+      → (t : ℕ) (now : Watching Planned) (run : Run now) → Made t now run → t ≤ last
+      → (n : ℕ) → n ≤ t → AreLinkedWords start words (nodes_at moments n)
+      → HadEntry holds plan opened words now run
+  entry_had words keyed =
+      run_had (AreLinkedWords start words) (λ nodes. HasEntry plan.roots nodes words)
+      (λ s t end few n from to links. words_at_one Fits Joins First plan mine start keeper last
+      moments is_chain kept s t end few words n from to links)
+      (λ now run links. entry_linked holds plan.roots plan.seed plan.words plan.nodes
+      (nodes_in now.view.client.known) (is_map now run).map key some wide up words keyed links)
 
   -- a search may begin after the first call did, and end before the last one does
   module _ (from done : ℕ) (early : from + done ≤ last) (now : Watching Planned) (run : Run now)
@@ -261,7 +295,14 @@ module _ (holds : List ℕ → Type 0) (plan : Plan) (opened key keeper last : �
     pub part_had : (t : ℕ) → t ≤ done → IsLinkedKey start key (nodes_at (since from moments) t)
         → HadKey holds plan opened key now run
     part_had t low links =
-        run_had last now run made (omega arith) (from + t) (omega (arith, low, early)) links
+        key_had last now run made (omega arith) (from + t) (omega (arith, low, early)) links
+
+    pub part_had_entry : (words : List ℕ) → key_in words ≡ key → (t : ℕ) → t ≤ done
+        → AreLinkedWords start words (nodes_at (since from moments) t)
+        → HadEntry holds plan opened words now run
+    part_had_entry words keyed t low links =
+        entry_had words keyed last now run made (omega arith) (from + t) (omega (arith, low, early))
+        links
 
 -- what is so from this moment on
 pub at_first : (P : Moment → Type 0) (moments : ℕ → Moment) (from : ℕ)

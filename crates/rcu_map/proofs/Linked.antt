@@ -1,14 +1,15 @@
--- A key that is in a map is linked, and no other one is.
+-- A key that is in a map is linked, and no other one is; and words that are linked are an entry's.
 use Rattle.std.proofs.Common.{◌≡◌, ◌+◌, ◌<◌, ◌≤◌, ◌∙◌, ℕ, zero, suc, ⊎_elim, List, arith, subst}
-use Rattle.std.proofs.Common.{sym}
+use Rattle.std.proofs.Common.{ap, sym}
 use Rattle.std.proofs.lemmas.Bool.{cases_lt}
-use Rattle.rcu_graph.specs.Absence.{IsLinkedKey, Reaches, arrived, key_at, next_of, onwards}
+use Rattle.rcu_graph.specs.Absence.{AreLinkedWords, IsLinkedKey, Reaches, arrived, key_at, next_of}
+use Rattle.rcu_graph.specs.Absence.{onwards}
 use Rattle.rcu_graph.specs.Nodes.{state_at}
 use Rattle.rcu_graph.specs.declared.known.Node.{Node}
 use Rattle.rcu_graph.specs.declared.node_state.NodeState.TheVariants.{Live}
 use Rattle.rcu_map.specs.Chains.{AreOfOneBucket, IsMap}
-use Rattle.rcu_map.specs.Entries.{HasKey}
-use Rattle.rcu_map.specs.Keys.{bucket_of}
+use Rattle.rcu_map.specs.Entries.{HasEntry, HasKey, IsEntry}
+use Rattle.rcu_map.specs.Keys.{bucket_of, key_in}
 use Rattle.rcu_map.proofs.Chains.{begins, behind_roots, led, of_its_bucket}
 
 -- the link of a node leads on to this one
@@ -78,19 +79,32 @@ module _ (holds : List ℕ → Type 0) (buckets seed width count : ℕ) (A : Lis
           has = is;
         }
 
-    pub has_linked : IsLinkedKey (bucket_of buckets seed key) key A → HasKey buckets A key
-    has_linked linked =
+    -- a node with the key to which the chain leads has an entry
+    is_entry : (holder begin : ℕ) → next_of A (bucket_of buckets seed key) ≡ suc begin
+        → Reaches A holder begin → key_at A holder ≡ key → IsEntry buckets A holder
+    is_entry holder begin leads reached is =
         let b = begins holds buckets seed width count A m key some room up in
-        let first = led holds buckets seed width count A m (bucket_of buckets seed key)
-        linked.begin b.0 linked.begins in
-        let is = linked.has in (
-          linked.holder,
-          record {
-            entry = record {
-              behind = behind_roots holds buckets seed width count A m linked.holder
-                  (omega (arith, is, up));
-              live = live_all linked.holder linked.begin first.0 linked.reached;
-            };
-            is = is;
-          },
-        )
+        let first = led holds buckets seed width count A m (bucket_of buckets seed key) begin b.0
+        leads in
+        record {
+          behind = behind_roots holds buckets seed width count A m holder (omega (arith, is, up));
+          live = live_all holder begin first.0 reached;
+        }
+
+    pub has_linked : IsLinkedKey (bucket_of buckets seed key) key A → HasKey buckets A key
+    has_linked linked = (
+      linked.holder,
+      record {
+        entry = is_entry linked.holder linked.begin linked.begins linked.reached linked.has;
+        is = linked.has;
+      },
+    )
+
+    pub entry_linked : (words : List ℕ) → key_in words ≡ key
+        → AreLinkedWords (bucket_of buckets seed key) words A → HasEntry buckets A words
+    entry_linked words keyed linked = record {
+      node = linked.holder;
+      entry = is_entry linked.holder linked.begin linked.begins linked.reached
+          (ap key_in linked.are ∙ keyed);
+      is = linked.are;
+    }

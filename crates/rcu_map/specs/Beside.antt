@@ -4,9 +4,10 @@ use Rattle.rcu_seq.specs.Numbers.{Number}
 use Rattle.rcu_live.specs.Watcher.{Watching}
 use Rattle.rcu_graph.specs.Beside.{IsKeptOver, IsOpenOver, Moment}
 use Rattle.rcu_graph.specs.Nodes.{nodes_in}
+use Rattle.rcu_graph.specs.declared.known.Node.{Node}
 use Rattle.rcu_graph.specs.declared.known.Planned.{Planned}
 use Rattle.rcu_graph.specs.declared.plan.Plan.{Plan}
-use Rattle.rcu_map.specs.Entries.{HasKey}
+use Rattle.rcu_map.specs.Entries.{HasEntry, HasKey}
 use Rattle.rcu_map.specs.Keys.{GoesUp, IsWhole, root_words}
 use Rattle.rcu_map.specs.Runs.{IsRun, begun, changed, looked}
 
@@ -27,9 +28,12 @@ module _ (holds : List ℕ → Type 0) (plan : Plan) where
 
   module _ (opened : Number) (moments : ℕ → Moment) where
     -- the calls of a run were made from the moment 0 to this one: between any two of them there is
-    -- a moment at which the keeper knew what it does there
+    -- a moment at which the keeper knew what it does there. Before the first one, or where there is
+    -- none, it knew the same from the moment 0 on
     abbrev pub AreMadeOver : ℕ → (now : Watching Planned) → IsRun holds plan opened now → Type 0
-    AreMadeOver t now (begun _ map) = (t ≡ 0) × ((moments t).keeper ≡ now.view.client.known)
+    AreMadeOver t now (begun _ map) =
+        ((moments 0).keeper ≡ now.view.client.known)
+        × ((moments t).keeper ≡ now.view.client.known)
     AreMadeOver t now (changed before _ run by map) =
         ((moments t).keeper ≡ now.view.client.known)
         × (s : ℕ)
@@ -41,11 +45,21 @@ module _ (holds : List ℕ → Type 0) (plan : Plan) where
         × (s ≤ t)
         × AreMadeOver s before run
 
-  -- the key was in the map at the beginning of a run, or after one of its calls
+  -- it was so of the nodes at the beginning of a run, or after one of its calls
+  abbrev pub Had : (List Node → Type 0) → (opened : Number) (now : Watching Planned)
+      → IsRun holds plan opened now → Type 0
+  Had has opened now (begun _ map) = has (nodes_in now.view.client.known)
+  Had has opened now (changed before _ run by map) =
+      Had has opened before run ⊎ has (nodes_in now.view.client.known)
+  Had has opened now (looked before _ number run opens is map) =
+      Had has opened before run ⊎ has (nodes_in now.view.client.known)
+
+  -- the key was in the map then
   abbrev pub HadKey : (opened : Number) (key : ℕ) (now : Watching Planned)
       → IsRun holds plan opened now → Type 0
-  HadKey opened key now (begun _ map) = HasKey plan.roots (nodes_in now.view.client.known) key
-  HadKey opened key now (changed before _ run by map) =
-      HadKey opened key before run ⊎ HasKey plan.roots (nodes_in now.view.client.known) key
-  HadKey opened key now (looked before _ number run opens is map) =
-      HadKey opened key before run ⊎ HasKey plan.roots (nodes_in now.view.client.known) key
+  HadKey opened key = Had (λ nodes. HasKey plan.roots nodes key) opened
+
+  -- so was the entry of these words
+  abbrev pub HadEntry : (opened : Number) (words : List ℕ) (now : Watching Planned)
+      → IsRun holds plan opened now → Type 0
+  HadEntry opened words = Had (λ nodes. HasEntry plan.roots nodes words) opened

@@ -7,6 +7,7 @@ pub mod Found
 pub mod Keys
 pub mod Listed
 pub mod Listing
+pub mod Nexts
 pub mod Puts
 pub mod Runs
 pub mod Splices

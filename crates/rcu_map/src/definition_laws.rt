@@ -9,9 +9,9 @@ ghost use Rattle.rcu_graph.specs.Nodes.{nodes_in, stored_in};
 ghost use Rattle.rcu_graph.specs.declared.keeper.Full.{Full};
 ghost use Rattle.rcu_graph.specs.declared.known.Planned.{Planned};
 ghost use Rattle.rcu_graph.specs.declared.plan.Plan.{Plan};
-ghost use Rattle.rcu_map.specs.Beside.{AreMadeOver, HadKey};
-ghost use Rattle.rcu_map.specs.Chains.{HasSizes};
-ghost use Rattle.rcu_map.specs.Entries.{HasKey};
+ghost use Rattle.rcu_map.specs.Beside.{AreMadeOver, HadEntry, HadKey};
+ghost use Rattle.rcu_map.specs.Chains.{HasSizes, IsMap};
+ghost use Rattle.rcu_map.specs.Entries.{HasEntry, HasKey};
 ghost use Rattle.rcu_map.specs.Keys.{key_in};
 ghost use Rattle.rcu_map.specs.Puts.{HasChanged, IsByOneStore, IsPutIn};
 ghost use Rattle.rcu_map.specs.Words.{answered, as_words, words_if};
@@ -19,10 +19,14 @@ ghost use Rattle.rcu_map.specs.Runs.{HasKeyThroughout, IsMapOf, IsRun, begun, ch
 
 use crate::entry::Entry;
 
-/// A run goes on by each call that puts an entry in, and by each look at a number at which the
-/// section may be open. A key that was put in is there, in the place of another entry or not. One
-/// that is there throughout is there at the end.
+/// A keeper has the map of a plan where it knows of that plan, and its nodes are a map's of the
+/// plan's sizes. Such a map begins a run. It goes on by each call that puts an entry in, and by
+/// each look at a number at which the section may be open. A key that was put in is there, in the
+/// place of another entry or not. One that is there throughout is there at the end.
 pub fn runs_go_on_by_calls<E: Entry<W>, const W: usize>()
+    ensures map { (plan : Plan) (now : Watching Planned) → now.view.client.plan ≡ plan →
+        IsMap E.holds plan.roots plan.seed plan.words plan.nodes
+        (nodes_in now.view.client.known) → IsMapOf E.holds plan now }
     ensures begun { (plan : Plan) (opened : ℕ) (now : Watching Planned) →
         IsMapOf E.holds plan now → IsRun E.holds plan opened now }
     ensures changed { (plan : Plan) (opened : ℕ) (words : List ℕ) (there : Bool)
@@ -46,14 +50,16 @@ pub fn a_change_is_one_store()
         stored_in after.view.client.known ≡ by.stored ∷ stored_in before.view.client.known }
 {}
 
-/// Calls are made over moments where the keeper knows what it does between them: the first at the
-/// moment 0, and each at or after the one before. A key that is there throughout was there, and
-/// where there was no call it was there at the beginning.
+/// Calls are made over moments where the keeper knows what it does between them: from the moment 0
+/// to that before the first call it knows the same, and each call is at or after the one before. So
+/// a run with no call may have any moments. A key that is there throughout was there, and where
+/// there was no call it was there at the beginning.
 pub fn calls_are_made_over_moments<E: Entry<W>, const W: usize>()
     ensures begun { (plan : Plan) (opened t : ℕ) (moments : ℕ → Moment) (now : Watching Planned)
         (map : IsMapOf E.holds plan now) →
         AreMadeOver E.holds plan opened moments t now (begun now map) ↔
-        ((t ≡ 0) × ((moments t).keeper ≡ now.view.client.known)) }
+        (((moments 0).keeper ≡ now.view.client.known)
+        × ((moments t).keeper ≡ now.view.client.known)) }
     ensures changed { (plan : Plan) (opened s t : ℕ) (moments : ℕ → Moment)
         (before now : Watching Planned) (run : IsRun E.holds plan opened before)
         (by : IsByOneStore before now) (map : IsMapOf E.holds plan now) →
@@ -71,6 +77,9 @@ pub fn calls_are_made_over_moments<E: Entry<W>, const W: usize>()
     ensures had_at_first { (plan : Plan) (opened key : ℕ) (now : Watching Planned)
         (map : IsMapOf E.holds plan now) → HadKey E.holds plan opened key now (begun now map) →
         HasKey plan.roots (nodes_in now.view.client.known) key }
+    ensures had_entry { (plan : Plan) (opened : ℕ) (words : List ℕ) (now : Watching Planned)
+        (map : IsMapOf E.holds plan now) → HadEntry E.holds plan opened words now (begun now map) →
+        HasEntry plan.roots (nodes_in now.view.client.known) words }
 {}
 
 /// Words tell themselves: those of an entry where a call has one, and none else.

@@ -1,10 +1,10 @@
 //! What is said of the keys of a map, and of going over its entries, over the definitions alone.
-ghost use Rattle.std.specs.Prelude.{◌≡◌, ◌↔◌, ◌<◌, ◌≤◌, ◌+◌, ◌++◌, ◌∷◌, ℕ, Bool, IsSome, IsSomeAnd};
-ghost use Rattle.std.specs.Prelude.{List, Option, Some};
+ghost use Rattle.std.specs.Prelude.{◌≡◌, ◌↔◌, ◌<◌, ◌≤◌, ◌+◌, ◌++◌, ◌∷◌, ℕ, Bool, Contains, IsSome};
+ghost use Rattle.std.specs.Prelude.{IsSomeAnd, List, Option, Some};
 ghost use Rattle.rcu_live.specs.Watcher.{Watching};
 ghost use Rattle.rcu_graph.specs.Absence.{AreMadeBy, IsHistory, IsLinkedKey};
 ghost use Rattle.rcu_graph.specs.Beside.{Moment};
-ghost use Rattle.rcu_graph.specs.Nodes.{hops_in};
+ghost use Rattle.rcu_graph.specs.Nodes.{IsHeld, hops_in};
 ghost use Rattle.rcu_graph.specs.Search.{IsSearched};
 ghost use Rattle.rcu_graph.specs.declared.known.Hop.{Hop};
 ghost use Rattle.rcu_graph.specs.declared.known.Known.{Known};
@@ -12,11 +12,14 @@ ghost use Rattle.rcu_graph.specs.declared.known.Node.{Node};
 ghost use Rattle.rcu_graph.specs.declared.known.Planned.{Planned};
 ghost use Rattle.rcu_graph.specs.declared.plan.Plan.{Plan};
 ghost use Rattle.rcu_map.specs.After.{IsBehind, IsNextAfter, IsUpTo};
-ghost use Rattle.rcu_map.specs.Beside.{AreMadeOver, HadKey, IsMapOver, IsReadOver, since};
+ghost use Rattle.rcu_map.specs.Beside.{AreMadeOver, HadEntry, HadKey, IsMapOver, IsReadOver};
+ghost use Rattle.rcu_map.specs.Beside.{since};
 ghost use Rattle.rcu_map.specs.Chains.{IsMap};
 ghost use Rattle.rcu_map.specs.Entries.{HasKey};
+ghost use Rattle.rcu_map.specs.Found.{IsGot};
 ghost use Rattle.rcu_map.specs.Keys.{bucket_of, key_in};
-ghost use Rattle.rcu_map.specs.Listing.{GoOn, IsListed, at_root};
+ghost use Rattle.rcu_map.specs.Listing.{GoOn, IsAtEnd, IsListed, at_root};
+ghost use Rattle.rcu_map.specs.Nexts.{AreNexts, Nexted, after_nexts, keys_of};
 ghost use Rattle.rcu_map.specs.Runs.{HasKeyThroughout, IsRun, last_of, seen_in};
 ghost use Rattle.rcu_map.specs.Words.{as_words};
 ghost use Rattle.rcu_map.specs.declared.cursor.Cursor.{Cursor};
@@ -27,6 +30,7 @@ use rcu_graph::Invariant;
 use rcu_graph::laws::{
     found_keys_were_linked, hops_are_made_by_their_run, keys_found_over_a_run_were_linked,
     keys_linked_over_a_run_are_found, linked_keys_are_found, runs_are_histories,
+    words_found_over_a_run_were_linked,
 };
 
 /// A key is in a map exactly where the chain of its bucket leads to it. So what is said of keys
@@ -121,6 +125,42 @@ pub fn keys_found_over_a_run_were_there<E: Invariant, const W: usize>()
     keys_found_over_a_run_were_linked::<MapShape<E, W>>();
 }
 
+/// So were the words with which the section holds it then: they are those of one entry, which was
+/// in the map when the run began, or after one of its calls.
+pub fn words_found_over_a_run_were_there<E: Invariant, const W: usize>()
+    ensures { (plan : Plan) (opened key keeper seat from done last node : ℕ)
+        (moments : ℕ → Moment) (now : Watching Planned) (run : IsRun E.holds plan opened now)
+        (words : List ℕ) →
+        0 < plan.roots → plan.links ≡ 1 → 2 ≤ plan.words → 0 < key → from + done ≤ last →
+        IsMapOver E.holds plan keeper last moments →
+        AreMadeOver E.holds plan opened moments last now run →
+        IsReadOver E.holds plan seat opened done (since from moments) →
+        IsSearched (bucket_of plan.roots plan.seed key) key (moments from).section (Some node)
+        (moments (from + done)).section →
+        IsHeld (moments (from + done)).section node words → key_in words ≡ key →
+        HadEntry E.holds plan opened words now run }
+{
+    words_found_over_a_run_were_linked::<MapShape<E, W>>();
+}
+
+/// What a `get` in such a run returns is an entry that was in the map when the run began, or after
+/// one of its calls: that of the key, with the words of one moment.
+pub fn found_entries_were_there<E: Entry<W>, const W: usize>()
+    ensures { (plan : Plan) (opened key keeper seat from done last : ℕ)
+        (moments : ℕ → Moment) (now : Watching Planned) (run : IsRun E.holds plan opened now)
+        (entry : E) →
+        0 < plan.roots → plan.links ≡ 1 → 2 ≤ plan.words → 0 < key → from + done ≤ last →
+        IsMapOver E.holds plan keeper last moments →
+        AreMadeOver E.holds plan opened moments last now run →
+        IsReadOver E.holds plan seat opened done (since from moments) →
+        IsGot E.holds E.decode plan.roots plan.seed key (moments from).section (Some entry)
+        (moments (from + done)).section →
+        (words : List ℕ) × HadEntry E.holds plan opened words now run × (key_in words ≡ key)
+        × (entry ≡ E.decode words) }
+{
+    words_found_over_a_run_were_there::<E, W>();
+}
+
 /// A key that stays in the map over such a run is among the entries that a listing's hops came to,
 /// which begins and ends in the run.
 pub fn keys_that_stay_are_listed_over_a_run<E: Invariant, const W: usize>()
@@ -139,6 +179,26 @@ pub fn keys_that_stay_are_listed_over_a_run<E: Invariant, const W: usize>()
     hops_are_made_by_their_run::<MapShape<E, W>>();
     runs_are_histories::<MapShape<E, W>>();
     linked_keys_are_listed();
+}
+
+/// A key that stays in the map over such a run is the key of an entry that a call of `next`
+/// returned, where these began at an iterator's beginning in the run, and went on until one came to
+/// its end.
+pub fn keys_that_stay_are_returned_by_next<E: Entry<W>, const W: usize>()
+    ensures { (plan : Plan) (opened key keeper seat from done last : ℕ) (moments : ℕ → Moment)
+        (now : Watching Planned) (run : IsRun E.holds plan opened now) (first : Nexted)
+        (calls : List Nexted) (at : Cursor) →
+        0 < plan.roots → plan.links ≡ 1 → 2 ≤ plan.words → 0 < key → from + done ≤ last →
+        IsMapOver E.holds plan keeper last moments →
+        AreMadeOver E.holds plan opened moments last now run →
+        HasKeyThroughout E.holds plan opened key now run →
+        IsReadOver E.holds plan seat opened done (since from moments) →
+        first.known ≡ (moments from).section → first.at ≡ at_root 0 →
+        AreNexts E.holds E.decode plan.roots plan.seed first calls →
+        IsAtEnd plan.roots plan.seed (after_nexts first calls).known (after_nexts first calls).at
+        (moments (from + done)).section at → Contains (keys_of calls) key }
+{
+    keys_that_stay_are_listed_over_a_run::<E, W>();
 }
 
 /// Each key lies behind 0, so that the next entry behind 0 is the first one.

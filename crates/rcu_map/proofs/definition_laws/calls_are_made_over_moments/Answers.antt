@@ -18,3 +18,6 @@ returns-clause-had g c = λ plan opened key now run has.
 
 pub returns-clause-had_at_first : goal.returns-clause-had_at_first
 returns-clause-had_at_first g c = λ plan opened key now map had. had
+
+pub returns-clause-had_entry : goal.returns-clause-had_entry
+returns-clause-had_entry g c = λ plan opened words now map had. had
