@@ -267,8 +267,8 @@ void __tsan_acquire(void *place);
  * one (26), and compares identities for that. rcu_open makes it, of a counter and the place of
  * that. A program in another language makes its own.
  * Faults: 17 for no processor or more than 4,096; 19 if `last` is no such number; 16.
- * Laws in crates/rcu_c/src/: dealt_seats_are_of_their_engine (laws.rt#L47),
- * seats_stay_of_their_engine (laws.rt#L72), returned_seats_are_dealt_again (laws.rt#L60). */
+ * Laws in crates/rcu_c/src/: dealt_seats_are_of_their_engine (laws.rt#L48),
+ * seats_stay_of_their_engine (laws.rt#L73), returned_seats_are_dealt_again (laws.rt#L61). */
 uint32_t rcu_open_as(uint32_t cpus, uint64_t last, rcu_identity_t identity, rcu_t *rcu);
 
 /* Opens an engine as rcu_open_as, with a map of these sizes, which is empty. Each of its seats
@@ -289,14 +289,14 @@ void rcu_close(rcu_t *rcu);
  * no thread reads on it, make its seat idle once. Needs: `rcu` is under the caller's lock, and
  * `seat` is closed.
  * Faults: 1 if there is no such processor; 25 if its seat is dealt; 16.
- * Laws in crates/rcu_c/src/: dealt_seats_are_of_their_engine (laws.rt#L47),
- * seats_stay_of_their_engine (laws.rt#L72), returned_seats_are_dealt_again (laws.rt#L60). */
+ * Laws in crates/rcu_c/src/: dealt_seats_are_of_their_engine (laws.rt#L48),
+ * seats_stay_of_their_engine (laws.rt#L73), returned_seats_are_dealt_again (laws.rt#L61). */
 uint32_t rcu_seat_open(rcu_t *rcu, uint32_t cpu, rcu_seat_t *seat);
 
 /* Returns whether rcu_seat_open can deal the seat of the processor: there is such a processor, and
  * its seat is not dealt. False if `rcu` is not an open engine. Needs: `rcu` is under the caller's
  * lock.
- * Law in crates/rcu_c/src/: what_is_not_open_says_no (laws.rt#L104). */
+ * Law in crates/rcu_c/src/: what_is_not_open_says_no (laws.rt#L105). */
 bool rcu_has_seat(rcu_t *rcu, uint32_t cpu);
 
 /* Returns a seat to its engine, which can deal it again, and closes it: for a thread that ends. Its
@@ -304,8 +304,8 @@ bool rcu_has_seat(rcu_t *rcu, uint32_t cpu);
  * until another thread has the seat. Needs: `rcu` is under the caller's lock, and `seat` is in no
  * other call.
  * Fault 26: the seat is of another engine.
- * Laws in crates/rcu_c/src/: dealt_seats_are_of_their_engine (laws.rt#L47),
- * seats_stay_of_their_engine (laws.rt#L72), returned_seats_are_dealt_again (laws.rt#L60). */
+ * Laws in crates/rcu_c/src/: dealt_seats_are_of_their_engine (laws.rt#L48),
+ * seats_stay_of_their_engine (laws.rt#L73), returned_seats_are_dealt_again (laws.rt#L61). */
 uint32_t rcu_seat_return(rcu_t *rcu, rcu_seat_t *seat);
 
 /* Closes a seat, which its engine does not deal again: for when the engine goes. Its processor
@@ -321,11 +321,11 @@ void rcu_seat_close(rcu_seat_t *seat);
  * Of each section one of two holds: all of it comes before what follows the end of this grace
  * period, or it sees what came before this call.
  * Faults: 8 if one runs; 11 if the number is the last one.
- * Laws in crates/rcu_c/src/: dealt_seats_are_of_their_engine (laws.rt#L47),
- * seats_stay_of_their_engine (laws.rt#L72), returned_seats_are_dealt_again (laws.rt#L60),
- * calls_are_steps_of_a_run (laws.rt#L138), waiting_for_a_barrier_is_a_run (laws.rt#L201),
- * no_callback_runs_twice (laws.rt#L209), no_callback_is_lost (laws.rt#L218),
- * barrier_covers_earlier_callbacks (laws.rt#L230), no_callback_runs_early (laws.rt#L242). */
+ * Laws in crates/rcu_c/src/: dealt_seats_are_of_their_engine (laws.rt#L48),
+ * seats_stay_of_their_engine (laws.rt#L73), returned_seats_are_dealt_again (laws.rt#L61),
+ * calls_are_steps_of_a_run (laws.rt#L140), waiting_for_a_barrier_is_a_run (laws.rt#L220),
+ * no_callback_runs_twice (laws.rt#L228), no_callback_is_lost (laws.rt#L237),
+ * barrier_covers_earlier_callbacks (laws.rt#L249), no_callback_runs_early (laws.rt#L284). */
 uint32_t rcu_begin(rcu_t *rcu, uint64_t *number, uint32_t *awaited);
 
 /* Ends the grace period. Writes the new number.
@@ -335,8 +335,8 @@ uint32_t rcu_begin(rcu_t *rcu, uint64_t *number, uint32_t *awaited);
  * sequentially consistent loads alone.
  * Faults: 9 if none runs; 10 if a processor is awaited.
  * Fence: behind.
- * Laws in crates/rcu_c/src/: dealt_seats_are_of_their_engine (laws.rt#L47),
- * seats_stay_of_their_engine (laws.rt#L72), returned_seats_are_dealt_again (laws.rt#L60). */
+ * Laws in crates/rcu_c/src/: dealt_seats_are_of_their_engine (laws.rt#L48),
+ * seats_stay_of_their_engine (laws.rt#L73), returned_seats_are_dealt_again (laws.rt#L61). */
 uint32_t rcu_end_unfenced(rcu_t *rcu, uint64_t *number);
 static inline uint32_t rcu_end(rcu_t *rcu, uint64_t *number) {
     uint32_t result = rcu_end_unfenced(rcu, number);
@@ -349,8 +349,8 @@ static inline uint32_t rcu_end(rcu_t *rcu, uint64_t *number) {
  * It orders what rcu_begin or rcu_end orders.
  * Fault 11: one would begin, and the number is the last one.
  * Fence: behind.
- * Laws in crates/rcu_c/src/: dealt_seats_are_of_their_engine (laws.rt#L47),
- * seats_stay_of_their_engine (laws.rt#L72), returned_seats_are_dealt_again (laws.rt#L60). */
+ * Laws in crates/rcu_c/src/: dealt_seats_are_of_their_engine (laws.rt#L48),
+ * seats_stay_of_their_engine (laws.rt#L73), returned_seats_are_dealt_again (laws.rt#L61). */
 uint32_t rcu_turn_unfenced(rcu_t *rcu, rcu_turn_t *turn);
 static inline uint32_t rcu_turn(rcu_t *rcu, rcu_turn_t *turn) {
     uint32_t result = rcu_turn_unfenced(rcu, turn);
@@ -365,11 +365,11 @@ static inline uint32_t rcu_turn(rcu_t *rcu, rcu_turn_t *turn) {
  * A processor that was idle at the begin and woke since is found "not yet", and is not awaited:
  * rcu_awaits says whether one is awaited.
  * Fault 1: there is no such processor.
- * Laws in crates/rcu_c/src/: dealt_seats_are_of_their_engine (laws.rt#L47),
- * seats_stay_of_their_engine (laws.rt#L72), returned_seats_are_dealt_again (laws.rt#L60),
- * calls_are_steps_of_a_run (laws.rt#L138), waiting_for_a_barrier_is_a_run (laws.rt#L201),
- * no_callback_runs_twice (laws.rt#L209), no_callback_is_lost (laws.rt#L218),
- * barrier_covers_earlier_callbacks (laws.rt#L230), no_callback_runs_early (laws.rt#L242). */
+ * Laws in crates/rcu_c/src/: dealt_seats_are_of_their_engine (laws.rt#L48),
+ * seats_stay_of_their_engine (laws.rt#L73), returned_seats_are_dealt_again (laws.rt#L61),
+ * calls_are_steps_of_a_run (laws.rt#L140), waiting_for_a_barrier_is_a_run (laws.rt#L220),
+ * no_callback_runs_twice (laws.rt#L228), no_callback_is_lost (laws.rt#L237),
+ * barrier_covers_earlier_callbacks (laws.rt#L249), no_callback_runs_early (laws.rt#L284). */
 uint32_t rcu_collect(rcu_t *rcu, uint32_t cpu, uint32_t *found);
 
 /* ---- processors that come and go: `rcu` is under the caller's lock, and `seat` is in no other
@@ -382,8 +382,8 @@ uint32_t rcu_collect(rcu_t *rcu, uint32_t cpu, uint32_t *found);
  * seen by sequentially consistent loads alone.
  * Faults: 26 if the seat is of another engine; 3 if the processor is online.
  * Fence: behind.
- * Laws in crates/rcu_c/src/: dealt_seats_are_of_their_engine (laws.rt#L47),
- * seats_stay_of_their_engine (laws.rt#L72), returned_seats_are_dealt_again (laws.rt#L60). */
+ * Laws in crates/rcu_c/src/: dealt_seats_are_of_their_engine (laws.rt#L48),
+ * seats_stay_of_their_engine (laws.rt#L73), returned_seats_are_dealt_again (laws.rt#L61). */
 uint32_t rcu_arrive_unfenced(rcu_t *rcu, rcu_seat_t *seat);
 static inline uint32_t rcu_arrive(rcu_t *rcu, rcu_seat_t *seat) {
     uint32_t result = rcu_arrive_unfenced(rcu, seat);
@@ -398,22 +398,22 @@ static inline uint32_t rcu_arrive(rcu_t *rcu, rcu_seat_t *seat) {
  * Faults: 26 if the seat is of another engine; 12 for processor 0; 4 if a section is open; 2 if it
  * was offline and has no callback; 16. At 2 no call sees a change. At 16 the processor is offline,
  * and its callbacks stay: the same call again moves them.
- * Laws in crates/rcu_c/src/: dealt_seats_are_of_their_engine (laws.rt#L47),
- * seats_stay_of_their_engine (laws.rt#L72), returned_seats_are_dealt_again (laws.rt#L60),
- * calls_are_steps_of_a_run (laws.rt#L138), waiting_for_a_barrier_is_a_run (laws.rt#L201),
- * no_callback_runs_twice (laws.rt#L209), no_callback_is_lost (laws.rt#L218),
- * barrier_covers_earlier_callbacks (laws.rt#L230), no_callback_runs_early (laws.rt#L242). */
+ * Laws in crates/rcu_c/src/: dealt_seats_are_of_their_engine (laws.rt#L48),
+ * seats_stay_of_their_engine (laws.rt#L73), returned_seats_are_dealt_again (laws.rt#L61),
+ * calls_are_steps_of_a_run (laws.rt#L140), waiting_for_a_barrier_is_a_run (laws.rt#L220),
+ * no_callback_runs_twice (laws.rt#L228), no_callback_is_lost (laws.rt#L237),
+ * barrier_covers_earlier_callbacks (laws.rt#L249), no_callback_runs_early (laws.rt#L284). */
 uint32_t rcu_depart(rcu_t *rcu, rcu_seat_t *seat, uint64_t *moved);
 
 /* ---- queries of an engine: `rcu` is under the caller's lock. On a handle that is not an open
  * engine they return 0 or false, unless the note says otherwise. */
 
 /* Returns how many processors the engine has.
- * Law in crates/rcu_c/src/: what_is_not_open_says_no (laws.rt#L104). */
+ * Law in crates/rcu_c/src/: what_is_not_open_says_no (laws.rt#L105). */
 uint32_t rcu_cpus(rcu_t *rcu);
 
 /* Returns the grace-period number: 4 for each grace period that ended, and 1 more while one runs.
- * Law in crates/rcu_c/src/: what_is_not_open_says_no (laws.rt#L104). */
+ * Law in crates/rcu_c/src/: what_is_not_open_says_no (laws.rt#L105). */
 uint64_t rcu_number(rcu_t *rcu);
 
 /* Returns whether a grace period runs. */
@@ -432,8 +432,8 @@ uint32_t rcu_awaited(rcu_t *rcu);
 /* Takes a cookie: the number at which a grace period that begins from now on has ended. It requests
  * no grace period: begin one (rcu_begin, or rcu_turn if a tended callback waits). Returns 2^64 - 1,
  * which is never done, if `rcu` is not an open engine.
- * Laws in crates/rcu_c/src/: what_is_not_open_says_no (laws.rt#L104),
- * sections_end_before_what_waits_for_them (laws.rt#L119). */
+ * Laws in crates/rcu_c/src/: what_is_not_open_says_no (laws.rt#L105),
+ * sections_end_before_what_waits_for_them (laws.rt#L120). */
 uint64_t rcu_take(rcu_t *rcu);
 
 /* Returns whether a cookie is done: the number has reached it, so each section that was open at its
@@ -441,7 +441,7 @@ uint64_t rcu_take(rcu_t *rcu);
  * number has reached it. False if `rcu` is not an open engine.
  * If it returns true, of each section one of two holds: all of it comes before what follows this
  * call, or it sees what the thread that took the cookie did before it took it.
- * Law in crates/rcu_c/src/: sections_end_before_what_waits_for_them (laws.rt#L119). */
+ * Law in crates/rcu_c/src/: sections_end_before_what_waits_for_them (laws.rt#L120). */
 bool rcu_poll(rcu_t *rcu, uint64_t cookie);
 
 /* ---- callbacks, which are values of 64 bits: `rcu` is under the caller's lock */
@@ -451,30 +451,30 @@ bool rcu_poll(rcu_t *rcu, uint64_t cookie);
  * Of each section one of two holds: all of it comes before what follows the rcu_run that hands the
  * value out, or it sees what the thread did before this call.
  * Faults: 1 if there is no such processor; 2 if it is not online; 15 if 2^62 were queued; 16.
- * Laws in crates/rcu_c/src/: sections_end_before_what_waits_for_them (laws.rt#L119),
- * calls_are_steps_of_a_run (laws.rt#L138), waiting_for_a_barrier_is_a_run (laws.rt#L201),
- * no_callback_runs_twice (laws.rt#L209), no_callback_is_lost (laws.rt#L218),
- * barrier_covers_earlier_callbacks (laws.rt#L230), no_callback_runs_early (laws.rt#L242). */
+ * Laws in crates/rcu_c/src/: sections_end_before_what_waits_for_them (laws.rt#L120),
+ * calls_are_steps_of_a_run (laws.rt#L140), waiting_for_a_barrier_is_a_run (laws.rt#L220),
+ * no_callback_runs_twice (laws.rt#L228), no_callback_is_lost (laws.rt#L237),
+ * barrier_covers_earlier_callbacks (laws.rt#L249), no_callback_runs_early (laws.rt#L284). */
 uint32_t rcu_queue(rcu_t *rcu, uint32_t cpu, uint64_t value, uint64_t *place);
 
 /* Sets what the processor's callbacks wait for, and which are done. Call it after queueing, so that
  * a turn begins a grace period for them, and after its end. Writes how many are done and how many
  * wait.
  * Fault 1: there is no such processor.
- * Laws in crates/rcu_c/src/: calls_are_steps_of_a_run (laws.rt#L138),
- * waiting_for_a_barrier_is_a_run (laws.rt#L201), no_callback_runs_twice (laws.rt#L209),
- * no_callback_is_lost (laws.rt#L218), barrier_covers_earlier_callbacks (laws.rt#L230),
- * no_callback_runs_early (laws.rt#L242). */
+ * Laws in crates/rcu_c/src/: calls_are_steps_of_a_run (laws.rt#L140),
+ * waiting_for_a_barrier_is_a_run (laws.rt#L220), no_callback_runs_twice (laws.rt#L228),
+ * no_callback_is_lost (laws.rt#L237), barrier_covers_earlier_callbacks (laws.rt#L249),
+ * no_callback_runs_early (laws.rt#L284). */
 uint32_t rcu_tend(rcu_t *rcu, uint32_t cpu, uint64_t *done, uint64_t *waiting);
 
 /* Hands out done callbacks of the processor, in order, `room` at most: writes their values from
  * `values` on, and how many they are; the rest of the room stays. A full grace period has passed
  * since each was queued, and none is handed out again. Takes no memory.
  * Fault 1: there is no such processor.
- * Laws in crates/rcu_c/src/: sections_end_before_what_waits_for_them (laws.rt#L119),
- * calls_are_steps_of_a_run (laws.rt#L138), waiting_for_a_barrier_is_a_run (laws.rt#L201),
- * no_callback_runs_twice (laws.rt#L209), no_callback_is_lost (laws.rt#L218),
- * barrier_covers_earlier_callbacks (laws.rt#L230), no_callback_runs_early (laws.rt#L242). */
+ * Laws in crates/rcu_c/src/: sections_end_before_what_waits_for_them (laws.rt#L120),
+ * calls_are_steps_of_a_run (laws.rt#L140), waiting_for_a_barrier_is_a_run (laws.rt#L220),
+ * no_callback_runs_twice (laws.rt#L228), no_callback_is_lost (laws.rt#L237),
+ * barrier_covers_earlier_callbacks (laws.rt#L249), no_callback_runs_early (laws.rt#L284). */
 uint32_t rcu_run(rcu_t *rcu, uint32_t cpu, uint64_t *values, size_t room, uint64_t *count);
 
 /* Gives back the memory that the processor's list does not need, at a step for each item that
@@ -487,19 +487,19 @@ uint32_t rcu_shrink(rcu_t *rcu, uint32_t cpu, uint64_t *room);
 
 /* Begins a barrier.
  * Fault 13: one runs.
- * Laws in crates/rcu_c/src/: calls_are_steps_of_a_run (laws.rt#L138),
- * waiting_for_a_barrier_is_a_run (laws.rt#L201), no_callback_runs_twice (laws.rt#L209),
- * no_callback_is_lost (laws.rt#L218), barrier_covers_earlier_callbacks (laws.rt#L230),
- * no_callback_runs_early (laws.rt#L242). */
+ * Laws in crates/rcu_c/src/: calls_are_steps_of_a_run (laws.rt#L140),
+ * waiting_for_a_barrier_is_a_run (laws.rt#L220), no_callback_runs_twice (laws.rt#L228),
+ * no_callback_is_lost (laws.rt#L237), barrier_covers_earlier_callbacks (laws.rt#L249),
+ * no_callback_runs_early (laws.rt#L284). */
 uint32_t rcu_barrier_begin(rcu_t *rcu);
 
 /* Has the barrier visit a processor; it has to visit each, also those offline. Writes an
  * rcu_visited.
  * Faults: 1 if there is no such processor; 14 if none runs; 16, only if it would mark.
- * Laws in crates/rcu_c/src/: calls_are_steps_of_a_run (laws.rt#L138),
- * waiting_for_a_barrier_is_a_run (laws.rt#L201), no_callback_runs_twice (laws.rt#L209),
- * no_callback_is_lost (laws.rt#L218), barrier_covers_earlier_callbacks (laws.rt#L230),
- * no_callback_runs_early (laws.rt#L242). */
+ * Laws in crates/rcu_c/src/: calls_are_steps_of_a_run (laws.rt#L140),
+ * waiting_for_a_barrier_is_a_run (laws.rt#L220), no_callback_runs_twice (laws.rt#L228),
+ * no_callback_is_lost (laws.rt#L237), barrier_covers_earlier_callbacks (laws.rt#L249),
+ * no_callback_runs_early (laws.rt#L284). */
 uint32_t rcu_barrier_visit(rcu_t *rcu, uint32_t cpu, uint32_t *did);
 
 /* Tests the barrier. Writes how many markers and unvisited processors are left; at 0 it is over,
@@ -508,22 +508,22 @@ uint32_t rcu_barrier_visit(rcu_t *rcu, uint32_t cpu, uint32_t *did);
  * is done under the lock under which rcu_run handed the value out. Else the caller counts what was
  * processed, and waits for that too.
  * Fault 14: none runs.
- * Laws in crates/rcu_c/src/: calls_are_steps_of_a_run (laws.rt#L138),
- * waiting_for_a_barrier_is_a_run (laws.rt#L201), no_callback_runs_twice (laws.rt#L209),
- * no_callback_is_lost (laws.rt#L218), barrier_covers_earlier_callbacks (laws.rt#L230),
- * no_callback_runs_early (laws.rt#L242). */
+ * Laws in crates/rcu_c/src/: calls_are_steps_of_a_run (laws.rt#L140),
+ * waiting_for_a_barrier_is_a_run (laws.rt#L220), no_callback_runs_twice (laws.rt#L228),
+ * no_callback_is_lost (laws.rt#L237), barrier_covers_earlier_callbacks (laws.rt#L249),
+ * no_callback_runs_early (laws.rt#L284). */
 uint32_t rcu_barrier_test(rcu_t *rcu, uint64_t *left);
 
 /* ---- a thread by its seat, with no lock, beside all calls on other handles. No call here waits or
  * takes memory. */
 
 /* Returns the seat's processor, or 2^32 - 1, which is none, if `seat` is not an open seat.
- * Law in crates/rcu_c/src/: what_is_not_open_says_no (laws.rt#L104). */
+ * Law in crates/rcu_c/src/: what_is_not_open_says_no (laws.rt#L105). */
 uint32_t rcu_seat_cpu(rcu_seat_t *seat);
 
 /* Returns how deep the read sections of the seat nest: 0 if none is open, or if `seat` is not an
  * open seat.
- * Law in crates/rcu_c/src/: what_is_not_open_says_no (laws.rt#L104). */
+ * Law in crates/rcu_c/src/: what_is_not_open_says_no (laws.rt#L105). */
 uint32_t rcu_seat_depth(rcu_seat_t *seat);
 
 /* Returns whether the seat's processor is online, awake or idle. False if `seat` is not an open
@@ -535,8 +535,8 @@ bool rcu_seat_is_idle(rcu_seat_t *seat);
 
 /* Opens a read section by one load, or nests one deeper in the open one by none. Writes the depth.
  * Faults: 2 if the processor is offline; 23 if it is idle; 6 if the depth is 65,535.
- * Laws in crates/rcu_c/src/: dealt_seats_are_of_their_engine (laws.rt#L47),
- * seats_stay_of_their_engine (laws.rt#L72), returned_seats_are_dealt_again (laws.rt#L60). */
+ * Laws in crates/rcu_c/src/: dealt_seats_are_of_their_engine (laws.rt#L48),
+ * seats_stay_of_their_engine (laws.rt#L73), returned_seats_are_dealt_again (laws.rt#L61). */
 uint32_t rcu_seat_enter(rcu_seat_t *seat, uint32_t *depth);
 
 /* Leaves the innermost section. Writes the depth, which is 0 if one load closed the section.
@@ -629,8 +629,8 @@ static inline uint32_t rcu_seat_wake(rcu_seat_t *seat, uint64_t *number) {
  * A full fence lies between what the thread did before, as an unlink, and that load. Unfenced, a
  * section may still come to what was unlinked once the cookie is done.
  * Fence: before.
- * Laws in crates/rcu_c/src/: dealt_seats_are_of_their_engine (laws.rt#L47),
- * seats_stay_of_their_engine (laws.rt#L72), returned_seats_are_dealt_again (laws.rt#L60). */
+ * Laws in crates/rcu_c/src/: dealt_seats_are_of_their_engine (laws.rt#L48),
+ * seats_stay_of_their_engine (laws.rt#L73), returned_seats_are_dealt_again (laws.rt#L61). */
 uint64_t rcu_seat_take_unfenced(rcu_seat_t *seat);
 static inline uint64_t rcu_seat_take(rcu_seat_t *seat) {
     rcu_fence();
@@ -890,10 +890,10 @@ uint32_t rcu_wanted(rcu_t *rcu, bool sleeps, uint64_t *cookie);
  * is the last one. After either the barrier goes on from where it came to, and so does the same
  * call again.
  * Fence: behind.
- * Laws in crates/rcu_c/src/: calls_are_steps_of_a_run (laws.rt#L138),
- * waiting_for_a_barrier_is_a_run (laws.rt#L201), no_callback_runs_twice (laws.rt#L209),
- * no_callback_is_lost (laws.rt#L218), barrier_covers_earlier_callbacks (laws.rt#L230),
- * no_callback_runs_early (laws.rt#L242). */
+ * Laws in crates/rcu_c/src/: calls_are_steps_of_a_run (laws.rt#L140),
+ * waiting_for_a_barrier_is_a_run (laws.rt#L220), no_callback_runs_twice (laws.rt#L228),
+ * no_callback_is_lost (laws.rt#L237), barrier_covers_earlier_callbacks (laws.rt#L249),
+ * no_callback_runs_early (laws.rt#L284). */
 uint32_t rcu_barrier_wait_unfenced(rcu_t *rcu, uint64_t *left);
 static inline uint32_t rcu_barrier_wait(rcu_t *rcu, uint64_t *left) {
     uint32_t result = rcu_barrier_wait_unfenced(rcu, left);
@@ -930,8 +930,8 @@ uint32_t rcu_seat_wakes(rcu_seat_t *seat, uint32_t *wakes);
  * If it finds an entry, all that the thread that put it in did before comes before what follows
  * this call.
  * Faults: 5 if no section is open; 32 if an entry has another number of words.
- * Laws in crates/rcu_c/src/: keys_that_stay_are_found (map_laws.rt#L20), found_keys_were_there
- * (map_laws.rt#L38), no_key_that_stays_is_passed_over (map_laws.rt#L55). */
+ * Laws in crates/rcu_c/src/: keys_that_stay_are_found (map_laws.rt#L24), found_keys_were_there
+ * (map_laws.rt#L42), no_key_that_stays_is_passed_over (map_laws.rt#L92). */
 uint32_t rcu_map_get(rcu_seat_t *seat, uint64_t key, uint64_t *entry, size_t room);
 
 /* Goes on from a key to the entry behind it, in the open section, and writes the words of that, or
@@ -942,8 +942,8 @@ uint32_t rcu_map_get(rcu_seat_t *seat, uint64_t key, uint64_t *entry, size_t roo
  * one for each bucket with no further entry, and one for each further word.
  * It orders what rcu_map_get orders.
  * Faults: 5 if no section is open; 32 if an entry has another number of words.
- * Laws in crates/rcu_c/src/: keys_that_stay_are_found (map_laws.rt#L20), found_keys_were_there
- * (map_laws.rt#L38), no_key_that_stays_is_passed_over (map_laws.rt#L55). */
+ * Laws in crates/rcu_c/src/: keys_that_stay_are_found (map_laws.rt#L24), found_keys_were_there
+ * (map_laws.rt#L42), no_key_that_stays_is_passed_over (map_laws.rt#L92). */
 uint32_t rcu_map_next(rcu_seat_t *seat, uint64_t key, uint64_t *entry, size_t room);
 
 /* ---- updates of the map of an engine: `rcu` is under the caller's lock. Sections read the map
@@ -956,8 +956,8 @@ uint32_t rcu_map_next(rcu_seat_t *seat, uint64_t key, uint64_t *entry, size_t ro
  * entry.
  * Faults: 32 if an entry has another number of words than `entry` or `old`; 30 if the key is 0; 31
  * if no entry has the key, and no node is free.
- * Laws in crates/rcu_c/src/: keys_that_stay_are_found (map_laws.rt#L20), found_keys_were_there
- * (map_laws.rt#L38), no_key_that_stays_is_passed_over (map_laws.rt#L55). */
+ * Laws in crates/rcu_c/src/: keys_that_stay_are_found (map_laws.rt#L24), found_keys_were_there
+ * (map_laws.rt#L42), no_key_that_stays_is_passed_over (map_laws.rt#L92). */
 uint32_t rcu_map_insert(rcu_t *rcu, const uint64_t *entry, size_t length, uint64_t *old,
                         size_t room);
 
@@ -968,16 +968,16 @@ uint32_t rcu_map_insert(rcu_t *rcu, const uint64_t *entry, size_t length, uint64
  * rcu_queue or rcu_defer_link.
  * Faults: 32 as of rcu_map_insert; 30 if the key is 0; 31 if an entry has the key, and no node is
  * free.
- * Laws in crates/rcu_c/src/: keys_that_stay_are_found (map_laws.rt#L20), found_keys_were_there
- * (map_laws.rt#L38), no_key_that_stays_is_passed_over (map_laws.rt#L55). */
+ * Laws in crates/rcu_c/src/: keys_that_stay_are_found (map_laws.rt#L24), found_keys_were_there
+ * (map_laws.rt#L42), no_key_that_stays_is_passed_over (map_laws.rt#L92). */
 uint32_t rcu_map_replace(rcu_t *rcu, const uint64_t *entry, size_t length, uint64_t *old,
                          size_t room);
 
 /* Puts an entry in, by one store: in the place of the one that has its key, as rcu_map_replace, or
  * if none has it, as rcu_map_insert. Writes the one that had it, or the key 0.
  * Faults: 32 as of rcu_map_insert; 30 if the key is 0; 31 if no node is free.
- * Laws in crates/rcu_c/src/: keys_that_stay_are_found (map_laws.rt#L20), found_keys_were_there
- * (map_laws.rt#L38), no_key_that_stays_is_passed_over (map_laws.rt#L55). */
+ * Laws in crates/rcu_c/src/: keys_that_stay_are_found (map_laws.rt#L24), found_keys_were_there
+ * (map_laws.rt#L42), no_key_that_stays_is_passed_over (map_laws.rt#L92). */
 uint32_t rcu_map_put(rcu_t *rcu, const uint64_t *entry, size_t length, uint64_t *old, size_t room);
 
 /* Takes the entry of a key out, by one store, and writes its words, or the key 0 if there is none.
@@ -985,8 +985,8 @@ uint32_t rcu_map_put(rcu_t *rcu, const uint64_t *entry, size_t length, uint64_t 
  * that a full grace period has passed since. Data that its words lead to may be freed when a full
  * grace period has passed.
  * Fault 32: an entry has another number of words.
- * Laws in crates/rcu_c/src/: keys_that_stay_are_found (map_laws.rt#L20), found_keys_were_there
- * (map_laws.rt#L38), no_key_that_stays_is_passed_over (map_laws.rt#L55). */
+ * Laws in crates/rcu_c/src/: keys_that_stay_are_found (map_laws.rt#L24), found_keys_were_there
+ * (map_laws.rt#L42), no_key_that_stays_is_passed_over (map_laws.rt#L92). */
 uint32_t rcu_map_remove(rcu_t *rcu, uint64_t key, uint64_t *old, size_t room);
 
 /* Writes the words of the entry of a key as it is now, or the key 0: under the lock no change is
@@ -1003,8 +1003,8 @@ uint64_t rcu_map_len(rcu_t *rcu);
  * waits from now on or is free.
  * If a put finds no node free (31): call it, drive until the cookie is done, and call it again; or
  * call rcu_map_wait.
- * Laws in crates/rcu_c/src/: keys_that_stay_are_found (map_laws.rt#L20), found_keys_were_there
- * (map_laws.rt#L38), no_key_that_stays_is_passed_over (map_laws.rt#L55). */
+ * Laws in crates/rcu_c/src/: keys_that_stay_are_found (map_laws.rt#L24), found_keys_were_there
+ * (map_laws.rt#L42), no_key_that_stays_is_passed_over (map_laws.rt#L92). */
 uint32_t rcu_map_age(rcu_t *rcu, uint64_t *cookie);
 
 /* One step of waiting for a free node, for the driver: it looks at the number, as rcu_map_age. If
@@ -1016,8 +1016,8 @@ uint32_t rcu_map_age(rcu_t *rcu, uint64_t *cookie);
  * Faults: 31 if each node has an entry, so that none becomes free before one is removed; 11 if a
  * grace period would begin, and the number is the last one. At 11 it has looked.
  * Fence: behind.
- * Laws in crates/rcu_c/src/: keys_that_stay_are_found (map_laws.rt#L20), found_keys_were_there
- * (map_laws.rt#L38), no_key_that_stays_is_passed_over (map_laws.rt#L55). */
+ * Laws in crates/rcu_c/src/: keys_that_stay_are_found (map_laws.rt#L24), found_keys_were_there
+ * (map_laws.rt#L42), no_key_that_stays_is_passed_over (map_laws.rt#L92). */
 uint32_t rcu_map_wait_unfenced(rcu_t *rcu);
 static inline uint32_t rcu_map_wait(rcu_t *rcu) {
     uint32_t result = rcu_map_wait_unfenced(rcu);

@@ -1,12 +1,18 @@
 -- A step of waiting for a barrier is a run.
-use Rattle.std.proofs.Common.{◌≡◌, ℕ, zero, suc, ◌≤◌, ◌++◌, Bool, true, false, [], ◌∷◌}
-use Rattle.std.proofs.Common.{refl, ap, ◌∙◌, arith, if◌then◌else◌}
-use Rattle.rcu_barrier.specs.Lists.{AllLists}
+use Rattle.std.proofs.Common.{◌≡◌, ℕ, zero, suc, ◌≤◌, ◌++◌, Bool, true, false, List, [], ◌∷◌}
+use Rattle.std.proofs.Common.{append_assoc, refl, ap, ◌∙◌, arith, if◌then◌else◌}
+use Rattle.std.specs.Prelude.{◌==◌}
+use Rattle.std.proofs.lemmas.Bool.Decides.{nat_tests}
+use Rattle.rcu_barrier.specs.Lists.{AllLists, barrier_left, barrier_test_answer}
+use Rattle.rcu_barrier.specs.declared.lists.BarrierState.{BarrierState}
+use Rattle.rcu_barrier.specs.declared.lists.BarrierState.TheVariants as state
 use Rattle.rcu_live.specs.Drive.{after_collections, after_drive, moved_on, wants_begin}
 use Rattle.rcu_live.specs.Engine.{Locked, after_begin, after_end}
-use Rattle.rcu_live.specs.Runs.{BarrierBegin, IsRun}
-use Rattle.rcu_live.specs.Runs.{engine_after}
-use Rattle.rcu_c.specs.BarrierSteps.{before_drive, begun, tends, visits, whole_step}
+use Rattle.rcu_live.specs.Runs.{BarrierBegin, Call, IsRun}
+use Rattle.rcu_live.specs.Runs.{engine_after, queued_before_barrier}
+use Rattle.rcu_c.specs.Answers.{left_of}
+use Rattle.rcu_c.specs.BarrierSteps.{after_driving, before_drive, begun, step_answer, tends, visits}
+use Rattle.rcu_c.specs.BarrierSteps.{whole_step}
 use Rattle.rcu_c.proofs.BarrierRuns.{appended, as_many, as_many_tended, same_barrier, still_runs}
 
 module _ {C X : Type 0} where
@@ -92,3 +98,57 @@ module _ {C X : Type 0} where
             ∙ running_before e,
         (tt, ready_is_a_run e),
       )
+
+  -- visits and tends begin no barrier
+  queued_visits : (first : Locked C X) (n : ℕ) (calls : List (Call X))
+      → queued_before_barrier first (visits n ++ calls) ≡ queued_before_barrier first calls
+  queued_visits first zero calls = refl
+  queued_visits first (suc n) calls = queued_visits first n calls
+
+  queued_tends : (first : Locked C X) (n : ℕ) (calls : List (Call X))
+      → queued_before_barrier first (tends n ++ calls) ≡ queued_before_barrier first calls
+  queued_tends first zero calls = refl
+  queued_tends first (suc n) calls = queued_tends first n calls
+
+  queued_begun : (first : Locked C X) (calls : List (Call X)) (b : Bool)
+      → queued_before_barrier first ((if b then [] else BarrierBegin ∷ []) ++ calls)
+      ≡ (if b then queued_before_barrier first calls
+      else (engine_after first calls).grace.lists.queued)
+  queued_begun first calls true = refl
+  queued_begun first calls false = refl
+
+  -- what was queued before the barrier that a step waits for: all, where the step began it
+  pub queued_by_step : (first : Locked C X) (calls : List (Call X)) (word : ℕ → ℕ)
+      → queued_before_barrier first (whole_step (engine_after first calls) word ++ calls)
+      ≡ (if (engine_after first calls).grace.lists.running then queued_before_barrier first calls
+      else (engine_after first calls).grace.lists.queued)
+  queued_by_step first calls word =
+      let e = engine_after first calls in
+      let behind = begun e ++ calls in
+      let apart : before_drive e ++ calls ≡ tends e.cpus ++ (visits e.cpus ++ behind) =
+      append_assoc (tends e.cpus) (visits e.cpus ++ begun e) calls
+      ∙ ap (λ (l : List (Call X)). tends e.cpus ++ l)
+      (append_assoc (visits e.cpus) (begun e) calls) in
+      ap (λ (l : List (Call X)). queued_before_barrier first l) apart
+      ∙ queued_tends first e.cpus (visits e.cpus ++ behind)
+      ∙ queued_visits first e.cpus behind
+      ∙ queued_begun first calls e.grace.lists.running
+
+-- a barrier that waits for nothing is done
+done_at_0 : (n : ℕ) (b : Bool) → (n == 0) ≡ b
+    → left_of (if b then state.Done else state.Waits n) ≡ 0
+    → (if b then state.Done else state.Waits n) ≡ state.Done
+done_at_0 n true is none = refl
+done_at_0 n false is none = absurd (grind (arith, nat_tests, is, none))
+
+module _ {C X : Type 0} where
+  pub done_by_step : (first : Locked C X) (calls : List (Call X)) (word : ℕ → ℕ)
+      → left_of (step_answer (engine_after first calls) word) ≡ 0
+      → barrier_test_answer (engine_after first
+      (after_driving (engine_after first calls) word ++ calls)).grace.lists ≡ state.Done
+  done_by_step first calls word none =
+      let e = engine_after first calls in
+      let all : AllLists X = (engine_after e (after_driving e word)).grace.lists in
+      ap (λ (x : Locked C X). barrier_test_answer x.grace.lists)
+      (appended first (after_driving e word) calls)
+      ∙ done_at_0 (barrier_left all) (barrier_left all == 0) refl none

@@ -1,19 +1,27 @@
 //! What the words of the laws say: where each holds, and where it does not.
-ghost use Rattle.std.specs.Prelude.{◌≡◌, ◌≢◌, ◌≤◌, ◌<◌, ℕ, List, None, Option, Some, false};
-ghost use Rattle.std.specs.Prelude.{length, slice_index, true};
+ghost use Rattle.std.specs.Prelude.{◌≡◌, ◌≢◌, ◌≤◌, ◌<◌, ◌+◌, ℕ, Bool, List, None, Option, Some};
+ghost use Rattle.std.specs.Prelude.{false, length, slice_index, true};
 ghost use mathlib.Core.Option.{some};
 ghost use lib.ListN.{get_elem?};
 ghost use Rattle.rcu_seq.specs.Numbers.{Number};
 ghost use Rattle.rcu_seq.specs.Seq.{number_of};
+ghost use Rattle.rcu_state.specs.GpState.{awaited_in};
+ghost use Rattle.rcu_live.specs.CpuSeat.{Seated};
+ghost use Rattle.rcu_live.specs.Engine.{Locked};
 ghost use Rattle.rcu_live.specs.Rule.{IsKept};
 ghost use Rattle.rcu_live.specs.View.{IsOfEngine};
 ghost use Rattle.rcu_live.specs.declared.view.Role.TheVariants.{Cpu};
+ghost use Rattle.rcu_graph.specs.declared.known.Planned.{Planned};
+ghost use Rattle.rcu_wish.specs.Wishes.{cpu_word};
 ghost use Rattle.rcu_c.specs.Belonging.{BelongsTo, HasSectionAt, IsEngineAt, IsMapKept, Moment};
 ghost use Rattle.rcu_c.specs.Engines.{EngineAndSeats, is_own};
-ghost use Rattle.rcu_c.specs.Holding.{cpu_of, engine_of, grace_of, keeper_of, opened_of, seat_of};
+ghost use Rattle.rcu_c.specs.Holding.{AcceptedAt, RenewedAt, WatchedAt, cpu_of, engine_of};
+ghost use Rattle.rcu_c.specs.Holding.{grace_of, keeper_of, on_cpu, opened_of, seat_of, watcher_of};
+ghost use Rattle.rcu_c.specs.Holding.{wisher_of, wishes_of};
 ghost use Rattle.rcu_c.specs.MapEntries.{told};
 ghost use Rattle.rcu_c.specs.MapSizes.{are_sizes, least_sizes, plan_of_sizes};
 ghost use Rattle.rcu_c.specs.Seats.{Seat};
+ghost use Rattle.rcu_c.specs.Sleeps.{IsFirst, IsForFirst, awaits};
 ghost use Rattle.rcu_c.specs.Staying.{AllStay, BothStay};
 ghost use Rattle.rcu_c.specs.declared.contents.Contents.{Contents};
 ghost use Rattle.rcu_c.specs.declared.map_sizes.MapSizes.{MapSizes};
@@ -36,11 +44,13 @@ pub fn moments_have_what_their_views_show()
         (engine_of rcu).view.seen ≢ number_of (grace_of rcu).seq → IsEngineAt now id rcu → ⊥ }
 {}
 
-/// A seat that belongs to an engine reads its words and its map, and is taken by it. None is taken
-/// of another identity, or of a processor that the engine does not have.
+/// A seat that belongs to an engine reads its words and its map, wishes where it looks, and is
+/// taken by it. None is taken of another identity, or of a processor that the engine does not have.
 pub fn seats_belong_to_who_takes_them()
     ensures taken { (seat rcu : Option Contents) → BelongsTo seat rcu →
         is_own (opened_of rcu) (seat_of seat) ≡ true }
+    ensures wishes { (seat rcu : Option Contents) → BelongsTo seat rcu →
+        (wisher_of seat).words ≡ (wishes_of rcu).words }
     ensures table { (seat rcu : Option Contents) → BelongsTo seat rcu →
         (seat_of seat).words.table ≡ (engine_of rcu).table }
     ensures cpus { (seat rcu : Option Contents) → BelongsTo seat rcu →
@@ -55,6 +65,37 @@ pub fn seats_belong_to_who_takes_them()
         opened.identity.count ≢ seat.identity.count → is_own opened seat ≡ false }
     ensures beyond { (opened : EngineAndSeats) (seat : Seat) →
         opened.engine.cpus ≤ seat.cpu.cpu → is_own opened seat ≡ false }
+{}
+
+/// A seat's call that was accepted at a number saw no less than what its processor's seat saw
+/// before, and so did a renewal, whose next section began at no less. A watcher's load saw no less
+/// than what the watcher saw.
+pub fn accepted_calls_saw_no_less()
+    ensures left { (after : Seated Planned → Number → Seated Planned) (n : Number)
+        (seat now : Option Contents) → AcceptedAt after seat n now →
+        now ≡ on_cpu (λ s. after s n) seat }
+    ensures accepted { (after : Seated Planned → Number → Seated Planned) (n : Number)
+        (seat now : Option Contents) → AcceptedAt after seat n now → (cpu_of seat).view.seen ≤ n }
+    ensures renewed { (seat now : Option Contents) (n : Number) → RenewedAt seat n now →
+        (cpu_of seat).view.seen ≤ n }
+    ensures onward { (seat now : Option Contents) (n : Number) → RenewedAt seat n now →
+        n ≤ (cpu_of now).view.seen }
+    ensures word { (seat now : Option Contents) (n : Number) → RenewedAt seat n now →
+        (cpu_of now).view.own_word ≡ n + 1 }
+    ensures watched { (seat now : Option Contents) (n : Number) → WatchedAt seat n now →
+        (watcher_of seat).view.seen ≤ n }
+{}
+
+/// Who drives sleeps for the first processor that was awaited, where one is awaited still, and may
+/// sleep where that first one is; else it sleeps for none, and may not.
+pub fn who_drives_sleeps_for_the_first_that_is_awaited()
+    ensures first { (e now : Locked Planned ℕ) (word : ℕ) (sleeps : Bool) →
+        0 < awaited_in now.grace → IsForFirst e now word sleeps →
+        (cpu : Option ℕ) × IsFirst e cpu × (word ≡ cpu_word cpu) × (sleeps ≡ awaits now cpu) }
+    ensures word { (e now : Locked Planned ℕ) (word : ℕ) (sleeps : Bool) →
+        awaited_in now.grace ≡ 0 → IsForFirst e now word sleeps → word ≡ 0 }
+    ensures awake { (e now : Locked Planned ℕ) (word : ℕ) (sleeps : Bool) →
+        awaited_in now.grace ≡ 0 → IsForFirst e now word sleeps → sleeps ≡ false }
 {}
 
 /// What stays is what it was: both things, or all three.

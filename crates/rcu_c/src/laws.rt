@@ -25,8 +25,8 @@ ghost use Rattle.rcu_live.specs.Watcher.{Watching};
 ghost use Rattle.rcu_graph.specs.Graph.{IsOfSameGraph};
 ghost use Rattle.rcu_graph.specs.declared.known.Planned.{Planned};
 ghost use Rattle.rcu_graph.specs.declared.plan.Plan.{Plan};
-ghost use Rattle.rcu_c.specs.Answers.{number_for};
-ghost use Rattle.rcu_c.specs.BarrierSteps.{before_drive, begun, visits, whole_step};
+ghost use Rattle.rcu_c.specs.Answers.{left_of, number_for};
+ghost use Rattle.rcu_c.specs.BarrierSteps.{before_drive, begun, step_answer, visits, whole_step};
 ghost use Rattle.rcu_c.specs.Belonging.{BelongsTo, HasSectionAt, IsEngineAt, IsSameObject, Moment};
 ghost use Rattle.rcu_c.specs.Engines.{EngineAndSeats, opened_at_first, seat_at, with_seat};
 ghost use Rattle.rcu_c.specs.Engines.{without_seat};
@@ -36,11 +36,12 @@ ghost use Rattle.rcu_c.specs.Holding.{on_opened, on_watcher, seat_of};
 ghost use Rattle.rcu_c.specs.Maps.{on_keeper};
 ghost use Rattle.rcu_c.specs.Refusals.{CanQueue, engine_number, going_refusal};
 ghost use Rattle.rcu_c.specs.Seats.{Seat, seat_at_first};
+ghost use Rattle.rcu_c.specs.Sleeps.{after_saying};
 ghost use Rattle.rcu_c.specs.declared.contents.Contents.{Contents};
 ghost use Rattle.rcu_c.specs.declared.identity.Identity.{Identity};
 
 use crate::open_engine::Rule;
-use rcu_live::laws;
+use rcu_live::{definition_laws, laws};
 
 /// A newly opened engine has the seat of each processor to deal. Each is one of its own: it reads
 /// the words that the engine writes, and the engine's map, and the engine takes it.
@@ -132,9 +133,10 @@ pub fn sections_end_before_what_waits_for_them()
 
 /// Each call that changes an engine, and returns 0, is a step of a run of it: what its clause
 /// `state` says is what the step leaves, and what its faults say is why the step may be made. A
-/// departure that returns 2 or 16 is one, too. Collecting from all is none where no grace period
-/// runs: it changes nothing then. Nor is an update of the map, or a wait for a node that finds one
-/// free: it leaves the running engine as it is. An engine is new as it is opened.
+/// departure that returns 2 or 16 is one, too. Collecting from all, also before a sleep
+/// (`rcu_may_sleep`), is none where no grace period runs: it changes nothing then. Nor is an update
+/// of the map, or a wait for a node that finds one free: it leaves the running engine as it is. An
+/// engine is new as it is opened.
 pub fn calls_are_steps_of_a_run()
     ensures new { (identity : Identity) (table wishes : TableId) (plan : Plan) (cpus last : ℕ) →
         IsNew (opened_at_first identity table wishes plan cpus last).engine }
@@ -154,6 +156,12 @@ pub fn calls_are_steps_of_a_run()
     ensures collect_all { (rcu : Option Contents) (word : ℕ → ℕ) →
         (grace_of rcu).seq.running ≡ true → Makes (Call.CollectAwaited word) (engine_of rcu)
         (engine_of (on_engine (λ e. moved_on e false word) rcu)) }
+    ensures may_sleep { (rcu : Option Contents) (said : ℕ) (word : ℕ → ℕ) →
+        (grace_of rcu).seq.running ≡ true → Makes (Call.CollectAwaited word) (engine_of rcu)
+        (engine_of (on_opened (λ o. after_saying o said word) rcu)) }
+    ensures idle { (rcu : Option Contents) (said : ℕ) (word : ℕ → ℕ) →
+        (grace_of rcu).seq.running ≡ false →
+        engine_of (on_opened (λ o. after_saying o said word) rcu) ≡ engine_of rcu }
     ensures drive { (rcu : Option Contents) (word : ℕ → ℕ) →
         Makes (Call.Drive (wants_begin (grace_of rcu)) word) (engine_of rcu)
         (engine_of (on_engine (λ e. after_drive e (wants_begin e.grace) word) rcu)) }
@@ -196,6 +204,17 @@ pub fn calls_are_steps_of_a_run()
         (engine_of (on_grace (λ g. grace.after_barrier_test g) rcu)) }
 {}
 
+/// Calls after a run go on with it: a run from the engine that it left is with it one run, which
+/// leaves what the second one leaves.
+pub fn a_run_goes_on_from_the_end_of_another()
+    ensures run { (first : Locked Planned ℕ) (calls more : List (Call ℕ)) → IsRun first calls →
+        IsRun (engine_after first calls) more → IsRun first (more ++ calls) }
+    ensures left { (first : Locked Planned ℕ) (calls more : List (Call ℕ)) →
+        engine_after first (more ++ calls) ≡ engine_after (engine_after first calls) more }
+{
+    definition_laws::a_run_goes_on_from_the_end_of_another::<u64, Rule>();
+}
+
 /// A step of waiting for a barrier is a run of calls: whole, up to its step of driving where that
 /// is refused, and as far as it visited where memory was refused.
 pub fn waiting_for_a_barrier_is_a_run()
@@ -235,6 +254,29 @@ pub fn barrier_covers_earlier_callbacks()
         times_handed_out place first calls ≡ 1 }
 {
     laws::barrier_covers_earlier_callbacks::<u64, Rule>();
+}
+
+/// A barrier that was waited for until 0 was written covers what was queued before it began. It
+/// began in the first step of the wait where none ran, and else before that: a step that joins one
+/// begins none.
+pub fn a_barrier_waited_for_covers_earlier_callbacks()
+    ensures begun { (first : Locked Planned ℕ) (calls : List (Call ℕ)) (word : ℕ → ℕ) →
+        (engine_after first calls).grace.lists.running ≡ false →
+        queued_before_barrier first (whole_step (engine_after first calls) word ++ calls)
+        ≡ (engine_after first calls).grace.lists.queued }
+    ensures joined { (first : Locked Planned ℕ) (calls : List (Call ℕ)) (word : ℕ → ℕ) →
+        (engine_after first calls).grace.lists.running ≡ true →
+        queued_before_barrier first (whole_step (engine_after first calls) word ++ calls)
+        ≡ queued_before_barrier first calls }
+    ensures covered { (first : Locked Planned ℕ) (calls : List (Call ℕ)) (word : ℕ → ℕ)
+        (place : ℕ) → IsNew first → IsRun first calls →
+        left_of (step_answer (engine_after first calls) word) ≡ 0 → 0 < place →
+        place ≤ queued_before_barrier first
+        (whole_step (engine_after first calls) word ++ calls) →
+        times_handed_out place first (whole_step (engine_after first calls) word ++ calls) ≡ 1 }
+{
+    a_run_goes_on_from_the_end_of_another();
+    barrier_covers_earlier_callbacks();
 }
 
 /// No callback runs early: each that is handed out was queued, is what it was then, and a full

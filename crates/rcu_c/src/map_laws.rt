@@ -1,15 +1,19 @@
 //! What sections find in the map of an engine, over runs of the shared words by atomic steps.
-ghost use Rattle.std.specs.Prelude.{◌≡◌, ◌≤◌, ◌<◌, ◌+◌, ℕ, List, Option};
+ghost use Rattle.std.specs.Prelude.{◌≡◌, ◌≤◌, ◌<◌, ◌+◌, ℕ, List, Option, length};
 ghost use Rattle.rcu_live.specs.Watcher.{Watching};
 ghost use Rattle.rcu_graph.specs.Beside.{Moment};
 ghost use Rattle.rcu_graph.specs.declared.known.Planned.{Planned};
 ghost use Rattle.rcu_graph.specs.declared.plan.Plan.{Plan};
 ghost use Rattle.rcu_map.specs.After.{IsBehind, IsUpTo};
-ghost use Rattle.rcu_map.specs.Beside.{AreMadeOver, HadKey, IsMapOver, IsReadOver, since};
+ghost use Rattle.rcu_map.specs.Beside.{AreMadeOver, HadEntry, HadKey, IsMapOver, IsReadOver};
+ghost use Rattle.rcu_map.specs.Beside.{since};
 ghost use Rattle.rcu_map.specs.Keys.{key_in};
 ghost use Rattle.rcu_map.specs.Runs.{HasKeyThroughout, IsRun};
+ghost use Rattle.rcu_c.specs.Answers.{number_in_c};
 ghost use Rattle.rcu_c.specs.MapEntries.{IsKeyed};
-ghost use Rattle.rcu_c.specs.Maps.{IsGotBetween, IsNextBetween};
+ghost use Rattle.rcu_c.specs.Maps.{IsGotBetween, IsGotInC, IsNextBetween, IsNextInC, known_of};
+ghost use Rattle.rcu_c.specs.Maps.{map_plan, reading_refusal};
+ghost use Rattle.rcu_c.specs.Refusals.{seat_number};
 ghost use Rattle.rcu_c.specs.declared.contents.Contents.{Contents};
 
 use crate::keyed_words::KeyedWords;
@@ -49,6 +53,39 @@ pub fn found_keys_were_there()
 {
     laws::keys_found_over_a_run_were_there::<KeyedWords, 0>();
 }
+
+/// So were its words: the entry that it writes was in the map when the run began, or after one of
+/// its calls, and is the key's.
+pub fn found_entries_were_there()
+    ensures { (plan : Plan) (opened key keeper id from done last : ℕ) (moments : ℕ → Moment)
+        (now : Watching Planned) (run : IsRun IsKeyed plan opened now)
+        (before after : Option Contents) (room entry : List ℕ) →
+        0 < plan.roots → plan.links ≡ 1 → 2 ≤ plan.words → 0 < key → from + done ≤ last →
+        IsMapOver IsKeyed plan keeper last moments →
+        AreMadeOver IsKeyed plan opened moments last now run →
+        IsReadOver IsKeyed plan id opened done (since from moments) →
+        IsGotBetween plan key (moments from) (moments (from + done)) before room entry
+        after →
+        0 < key_in entry → HadEntry IsKeyed plan opened entry now run × (key_in entry ≡ key) }
+{
+    laws::words_found_over_a_run_were_there::<KeyedWords, 0>();
+}
+
+/// A read is between two moments of a run where the seat reads the map of its plan, and the section
+/// knows at the call what it knows at the first one, and at the return what it knows at the last
+/// one. The rest is what an `rcu_map_get` or an `rcu_map_next` that returns 0 says itself.
+pub fn reads_are_between_the_moments_that_they_know()
+    ensures got { (plan : Plan) (key : ℕ) (first last : Moment) (before after : Option Contents)
+        (room entry : List ℕ) → map_plan before ≡ plan → known_of before ≡ first.section →
+        known_of after ≡ last.section →
+        seat_number before (number_in_c (reading_refusal before (length room))) ≡ 0 →
+        IsGotInC key before room entry after →
+        IsGotBetween plan key first last before room entry after }
+    ensures next { (plan : Plan) (key : ℕ) (first last : Moment) (before after : Option Contents)
+        (room entry : List ℕ) → map_plan before ≡ plan → known_of before ≡ first.section →
+        known_of after ≡ last.section → IsNextInC key before room entry after →
+        IsNextBetween plan key first last before room entry after }
+{}
 
 /// A key that stays in the map over such a run, and that lies behind another one, is passed over by
 /// no `rcu_map_next` from that: it writes an entry, of the key or of one before it.
