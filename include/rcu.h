@@ -324,8 +324,10 @@ void rcu_seat_close(rcu_seat_t *seat);
  * Laws in crates/rcu_c/src/: dealt_seats_are_of_their_engine (laws.rt#L48),
  * seats_stay_of_their_engine (laws.rt#L73), returned_seats_are_dealt_again (laws.rt#L61),
  * calls_are_steps_of_a_run (laws.rt#L140), waiting_for_a_barrier_is_a_run (laws.rt#L220),
- * no_callback_runs_twice (laws.rt#L228), no_callback_is_lost (laws.rt#L237),
- * barrier_covers_earlier_callbacks (laws.rt#L249), no_callback_runs_early (laws.rt#L284). */
+ * a_run_goes_on_from_the_end_of_another (laws.rt#L209), no_callback_runs_twice (laws.rt#L228),
+ * no_callback_is_lost (laws.rt#L237), barrier_covers_earlier_callbacks (laws.rt#L249),
+ * a_barrier_waited_for_covers_earlier_callbacks (laws.rt#L262), no_callback_runs_early
+ * (laws.rt#L284). */
 uint32_t rcu_begin(rcu_t *rcu, uint64_t *number, uint32_t *awaited);
 
 /* Ends the grace period. Writes the new number.
@@ -368,8 +370,10 @@ static inline uint32_t rcu_turn(rcu_t *rcu, rcu_turn_t *turn) {
  * Laws in crates/rcu_c/src/: dealt_seats_are_of_their_engine (laws.rt#L48),
  * seats_stay_of_their_engine (laws.rt#L73), returned_seats_are_dealt_again (laws.rt#L61),
  * calls_are_steps_of_a_run (laws.rt#L140), waiting_for_a_barrier_is_a_run (laws.rt#L220),
- * no_callback_runs_twice (laws.rt#L228), no_callback_is_lost (laws.rt#L237),
- * barrier_covers_earlier_callbacks (laws.rt#L249), no_callback_runs_early (laws.rt#L284). */
+ * a_run_goes_on_from_the_end_of_another (laws.rt#L209), no_callback_runs_twice (laws.rt#L228),
+ * no_callback_is_lost (laws.rt#L237), barrier_covers_earlier_callbacks (laws.rt#L249),
+ * a_barrier_waited_for_covers_earlier_callbacks (laws.rt#L262), no_callback_runs_early
+ * (laws.rt#L284). */
 uint32_t rcu_collect(rcu_t *rcu, uint32_t cpu, uint32_t *found);
 
 /* ---- processors that come and go: `rcu` is under the caller's lock, and `seat` is in no other
@@ -401,8 +405,10 @@ static inline uint32_t rcu_arrive(rcu_t *rcu, rcu_seat_t *seat) {
  * Laws in crates/rcu_c/src/: dealt_seats_are_of_their_engine (laws.rt#L48),
  * seats_stay_of_their_engine (laws.rt#L73), returned_seats_are_dealt_again (laws.rt#L61),
  * calls_are_steps_of_a_run (laws.rt#L140), waiting_for_a_barrier_is_a_run (laws.rt#L220),
- * no_callback_runs_twice (laws.rt#L228), no_callback_is_lost (laws.rt#L237),
- * barrier_covers_earlier_callbacks (laws.rt#L249), no_callback_runs_early (laws.rt#L284). */
+ * a_run_goes_on_from_the_end_of_another (laws.rt#L209), no_callback_runs_twice (laws.rt#L228),
+ * no_callback_is_lost (laws.rt#L237), barrier_covers_earlier_callbacks (laws.rt#L249),
+ * a_barrier_waited_for_covers_earlier_callbacks (laws.rt#L262), no_callback_runs_early
+ * (laws.rt#L284). */
 uint32_t rcu_depart(rcu_t *rcu, rcu_seat_t *seat, uint64_t *moved);
 
 /* ---- queries of an engine: `rcu` is under the caller's lock. On a handle that is not an open
@@ -453,8 +459,10 @@ bool rcu_poll(rcu_t *rcu, uint64_t cookie);
  * Faults: 1 if there is no such processor; 2 if it is not online; 15 if 2^62 were queued; 16.
  * Laws in crates/rcu_c/src/: sections_end_before_what_waits_for_them (laws.rt#L120),
  * calls_are_steps_of_a_run (laws.rt#L140), waiting_for_a_barrier_is_a_run (laws.rt#L220),
- * no_callback_runs_twice (laws.rt#L228), no_callback_is_lost (laws.rt#L237),
- * barrier_covers_earlier_callbacks (laws.rt#L249), no_callback_runs_early (laws.rt#L284). */
+ * a_run_goes_on_from_the_end_of_another (laws.rt#L209), no_callback_runs_twice (laws.rt#L228),
+ * no_callback_is_lost (laws.rt#L237), barrier_covers_earlier_callbacks (laws.rt#L249),
+ * a_barrier_waited_for_covers_earlier_callbacks (laws.rt#L262), no_callback_runs_early
+ * (laws.rt#L284). */
 uint32_t rcu_queue(rcu_t *rcu, uint32_t cpu, uint64_t value, uint64_t *place);
 
 /* Sets what the processor's callbacks wait for, and which are done. Call it after queueing, so that
@@ -462,9 +470,10 @@ uint32_t rcu_queue(rcu_t *rcu, uint32_t cpu, uint64_t value, uint64_t *place);
  * wait.
  * Fault 1: there is no such processor.
  * Laws in crates/rcu_c/src/: calls_are_steps_of_a_run (laws.rt#L140),
- * waiting_for_a_barrier_is_a_run (laws.rt#L220), no_callback_runs_twice (laws.rt#L228),
- * no_callback_is_lost (laws.rt#L237), barrier_covers_earlier_callbacks (laws.rt#L249),
- * no_callback_runs_early (laws.rt#L284). */
+ * waiting_for_a_barrier_is_a_run (laws.rt#L220), a_run_goes_on_from_the_end_of_another
+ * (laws.rt#L209), no_callback_runs_twice (laws.rt#L228), no_callback_is_lost (laws.rt#L237),
+ * barrier_covers_earlier_callbacks (laws.rt#L249), a_barrier_waited_for_covers_earlier_callbacks
+ * (laws.rt#L262), no_callback_runs_early (laws.rt#L284). */
 uint32_t rcu_tend(rcu_t *rcu, uint32_t cpu, uint64_t *done, uint64_t *waiting);
 
 /* Hands out done callbacks of the processor, in order, `room` at most: writes their values from
@@ -473,8 +482,10 @@ uint32_t rcu_tend(rcu_t *rcu, uint32_t cpu, uint64_t *done, uint64_t *waiting);
  * Fault 1: there is no such processor.
  * Laws in crates/rcu_c/src/: sections_end_before_what_waits_for_them (laws.rt#L120),
  * calls_are_steps_of_a_run (laws.rt#L140), waiting_for_a_barrier_is_a_run (laws.rt#L220),
- * no_callback_runs_twice (laws.rt#L228), no_callback_is_lost (laws.rt#L237),
- * barrier_covers_earlier_callbacks (laws.rt#L249), no_callback_runs_early (laws.rt#L284). */
+ * a_run_goes_on_from_the_end_of_another (laws.rt#L209), no_callback_runs_twice (laws.rt#L228),
+ * no_callback_is_lost (laws.rt#L237), barrier_covers_earlier_callbacks (laws.rt#L249),
+ * a_barrier_waited_for_covers_earlier_callbacks (laws.rt#L262), no_callback_runs_early
+ * (laws.rt#L284). */
 uint32_t rcu_run(rcu_t *rcu, uint32_t cpu, uint64_t *values, size_t room, uint64_t *count);
 
 /* Gives back the memory that the processor's list does not need, at a step for each item that
@@ -488,18 +499,20 @@ uint32_t rcu_shrink(rcu_t *rcu, uint32_t cpu, uint64_t *room);
 /* Begins a barrier.
  * Fault 13: one runs.
  * Laws in crates/rcu_c/src/: calls_are_steps_of_a_run (laws.rt#L140),
- * waiting_for_a_barrier_is_a_run (laws.rt#L220), no_callback_runs_twice (laws.rt#L228),
- * no_callback_is_lost (laws.rt#L237), barrier_covers_earlier_callbacks (laws.rt#L249),
- * no_callback_runs_early (laws.rt#L284). */
+ * waiting_for_a_barrier_is_a_run (laws.rt#L220), a_run_goes_on_from_the_end_of_another
+ * (laws.rt#L209), no_callback_runs_twice (laws.rt#L228), no_callback_is_lost (laws.rt#L237),
+ * barrier_covers_earlier_callbacks (laws.rt#L249), a_barrier_waited_for_covers_earlier_callbacks
+ * (laws.rt#L262), no_callback_runs_early (laws.rt#L284). */
 uint32_t rcu_barrier_begin(rcu_t *rcu);
 
 /* Has the barrier visit a processor; it has to visit each, also those offline. Writes an
  * rcu_visited.
  * Faults: 1 if there is no such processor; 14 if none runs; 16, only if it would mark.
  * Laws in crates/rcu_c/src/: calls_are_steps_of_a_run (laws.rt#L140),
- * waiting_for_a_barrier_is_a_run (laws.rt#L220), no_callback_runs_twice (laws.rt#L228),
- * no_callback_is_lost (laws.rt#L237), barrier_covers_earlier_callbacks (laws.rt#L249),
- * no_callback_runs_early (laws.rt#L284). */
+ * waiting_for_a_barrier_is_a_run (laws.rt#L220), a_run_goes_on_from_the_end_of_another
+ * (laws.rt#L209), no_callback_runs_twice (laws.rt#L228), no_callback_is_lost (laws.rt#L237),
+ * barrier_covers_earlier_callbacks (laws.rt#L249), a_barrier_waited_for_covers_earlier_callbacks
+ * (laws.rt#L262), no_callback_runs_early (laws.rt#L284). */
 uint32_t rcu_barrier_visit(rcu_t *rcu, uint32_t cpu, uint32_t *did);
 
 /* Tests the barrier. Writes how many markers and unvisited processors are left; at 0 it is over,
@@ -509,9 +522,10 @@ uint32_t rcu_barrier_visit(rcu_t *rcu, uint32_t cpu, uint32_t *did);
  * processed, and waits for that too.
  * Fault 14: none runs.
  * Laws in crates/rcu_c/src/: calls_are_steps_of_a_run (laws.rt#L140),
- * waiting_for_a_barrier_is_a_run (laws.rt#L220), no_callback_runs_twice (laws.rt#L228),
- * no_callback_is_lost (laws.rt#L237), barrier_covers_earlier_callbacks (laws.rt#L249),
- * no_callback_runs_early (laws.rt#L284). */
+ * waiting_for_a_barrier_is_a_run (laws.rt#L220), a_run_goes_on_from_the_end_of_another
+ * (laws.rt#L209), no_callback_runs_twice (laws.rt#L228), no_callback_is_lost (laws.rt#L237),
+ * barrier_covers_earlier_callbacks (laws.rt#L249), a_barrier_waited_for_covers_earlier_callbacks
+ * (laws.rt#L262), no_callback_runs_early (laws.rt#L284). */
 uint32_t rcu_barrier_test(rcu_t *rcu, uint64_t *left);
 
 /* ---- a thread by its seat, with no lock, beside all calls on other handles. No call here waits or
@@ -891,9 +905,10 @@ uint32_t rcu_wanted(rcu_t *rcu, bool sleeps, uint64_t *cookie);
  * call again.
  * Fence: behind.
  * Laws in crates/rcu_c/src/: calls_are_steps_of_a_run (laws.rt#L140),
- * waiting_for_a_barrier_is_a_run (laws.rt#L220), no_callback_runs_twice (laws.rt#L228),
- * no_callback_is_lost (laws.rt#L237), barrier_covers_earlier_callbacks (laws.rt#L249),
- * no_callback_runs_early (laws.rt#L284). */
+ * waiting_for_a_barrier_is_a_run (laws.rt#L220), a_run_goes_on_from_the_end_of_another
+ * (laws.rt#L209), no_callback_runs_twice (laws.rt#L228), no_callback_is_lost (laws.rt#L237),
+ * barrier_covers_earlier_callbacks (laws.rt#L249), a_barrier_waited_for_covers_earlier_callbacks
+ * (laws.rt#L262), no_callback_runs_early (laws.rt#L284). */
 uint32_t rcu_barrier_wait_unfenced(rcu_t *rcu, uint64_t *left);
 static inline uint32_t rcu_barrier_wait(rcu_t *rcu, uint64_t *left) {
     uint32_t result = rcu_barrier_wait_unfenced(rcu, left);
@@ -911,7 +926,12 @@ static inline uint32_t rcu_barrier_wait(rcu_t *rcu, uint64_t *left) {
  * sleeps, by means of the program's own, until a thread is told to wake it (rcu_seat_wakes). It
  * lets go of the lock and sleeps in one step, as a condition variable does. Else writes 0. Writes
  * how many are awaited still; where none is, it says that it sleeps for none. Until then call it
- * again, also where the caller woke by chance. */
+ * again, also where the caller woke by chance.
+ * Laws in crates/rcu_c/src/: calls_are_steps_of_a_run (laws.rt#L140),
+ * waiting_for_a_barrier_is_a_run (laws.rt#L220), a_run_goes_on_from_the_end_of_another
+ * (laws.rt#L209), no_callback_runs_twice (laws.rt#L228), no_callback_is_lost (laws.rt#L237),
+ * barrier_covers_earlier_callbacks (laws.rt#L249), a_barrier_waited_for_covers_earlier_callbacks
+ * (laws.rt#L262), no_callback_runs_early (laws.rt#L284). */
 uint32_t rcu_may_sleep(rcu_t *rcu, uint32_t *sleeps, uint32_t *left);
 
 /* Looks whether who drives sleeps for the seat's processor. A thread looks so after each call by
@@ -931,7 +951,8 @@ uint32_t rcu_seat_wakes(rcu_seat_t *seat, uint32_t *wakes);
  * this call.
  * Faults: 5 if no section is open; 32 if an entry has another number of words.
  * Laws in crates/rcu_c/src/: keys_that_stay_are_found (map_laws.rt#L24), found_keys_were_there
- * (map_laws.rt#L42), no_key_that_stays_is_passed_over (map_laws.rt#L92). */
+ * (map_laws.rt#L42), found_entries_were_there (map_laws.rt#L59), no_key_that_stays_is_passed_over
+ * (map_laws.rt#L92), reads_are_between_the_moments_that_they_know (map_laws.rt#L77). */
 uint32_t rcu_map_get(rcu_seat_t *seat, uint64_t key, uint64_t *entry, size_t room);
 
 /* Goes on from a key to the entry behind it, in the open section, and writes the words of that, or
@@ -943,7 +964,8 @@ uint32_t rcu_map_get(rcu_seat_t *seat, uint64_t key, uint64_t *entry, size_t roo
  * It orders what rcu_map_get orders.
  * Faults: 5 if no section is open; 32 if an entry has another number of words.
  * Laws in crates/rcu_c/src/: keys_that_stay_are_found (map_laws.rt#L24), found_keys_were_there
- * (map_laws.rt#L42), no_key_that_stays_is_passed_over (map_laws.rt#L92). */
+ * (map_laws.rt#L42), found_entries_were_there (map_laws.rt#L59), no_key_that_stays_is_passed_over
+ * (map_laws.rt#L92), reads_are_between_the_moments_that_they_know (map_laws.rt#L77). */
 uint32_t rcu_map_next(rcu_seat_t *seat, uint64_t key, uint64_t *entry, size_t room);
 
 /* ---- updates of the map of an engine: `rcu` is under the caller's lock. Sections read the map
@@ -957,7 +979,8 @@ uint32_t rcu_map_next(rcu_seat_t *seat, uint64_t key, uint64_t *entry, size_t ro
  * Faults: 32 if an entry has another number of words than `entry` or `old`; 30 if the key is 0; 31
  * if no entry has the key, and no node is free.
  * Laws in crates/rcu_c/src/: keys_that_stay_are_found (map_laws.rt#L24), found_keys_were_there
- * (map_laws.rt#L42), no_key_that_stays_is_passed_over (map_laws.rt#L92). */
+ * (map_laws.rt#L42), found_entries_were_there (map_laws.rt#L59), no_key_that_stays_is_passed_over
+ * (map_laws.rt#L92), reads_are_between_the_moments_that_they_know (map_laws.rt#L77). */
 uint32_t rcu_map_insert(rcu_t *rcu, const uint64_t *entry, size_t length, uint64_t *old,
                         size_t room);
 
@@ -969,7 +992,8 @@ uint32_t rcu_map_insert(rcu_t *rcu, const uint64_t *entry, size_t length, uint64
  * Faults: 32 as of rcu_map_insert; 30 if the key is 0; 31 if an entry has the key, and no node is
  * free.
  * Laws in crates/rcu_c/src/: keys_that_stay_are_found (map_laws.rt#L24), found_keys_were_there
- * (map_laws.rt#L42), no_key_that_stays_is_passed_over (map_laws.rt#L92). */
+ * (map_laws.rt#L42), found_entries_were_there (map_laws.rt#L59), no_key_that_stays_is_passed_over
+ * (map_laws.rt#L92), reads_are_between_the_moments_that_they_know (map_laws.rt#L77). */
 uint32_t rcu_map_replace(rcu_t *rcu, const uint64_t *entry, size_t length, uint64_t *old,
                          size_t room);
 
@@ -977,7 +1001,8 @@ uint32_t rcu_map_replace(rcu_t *rcu, const uint64_t *entry, size_t length, uint6
  * if none has it, as rcu_map_insert. Writes the one that had it, or the key 0.
  * Faults: 32 as of rcu_map_insert; 30 if the key is 0; 31 if no node is free.
  * Laws in crates/rcu_c/src/: keys_that_stay_are_found (map_laws.rt#L24), found_keys_were_there
- * (map_laws.rt#L42), no_key_that_stays_is_passed_over (map_laws.rt#L92). */
+ * (map_laws.rt#L42), found_entries_were_there (map_laws.rt#L59), no_key_that_stays_is_passed_over
+ * (map_laws.rt#L92), reads_are_between_the_moments_that_they_know (map_laws.rt#L77). */
 uint32_t rcu_map_put(rcu_t *rcu, const uint64_t *entry, size_t length, uint64_t *old, size_t room);
 
 /* Takes the entry of a key out, by one store, and writes its words, or the key 0 if there is none.
@@ -986,7 +1011,8 @@ uint32_t rcu_map_put(rcu_t *rcu, const uint64_t *entry, size_t length, uint64_t 
  * grace period has passed.
  * Fault 32: an entry has another number of words.
  * Laws in crates/rcu_c/src/: keys_that_stay_are_found (map_laws.rt#L24), found_keys_were_there
- * (map_laws.rt#L42), no_key_that_stays_is_passed_over (map_laws.rt#L92). */
+ * (map_laws.rt#L42), found_entries_were_there (map_laws.rt#L59), no_key_that_stays_is_passed_over
+ * (map_laws.rt#L92), reads_are_between_the_moments_that_they_know (map_laws.rt#L77). */
 uint32_t rcu_map_remove(rcu_t *rcu, uint64_t key, uint64_t *old, size_t room);
 
 /* Writes the words of the entry of a key as it is now, or the key 0: under the lock no change is
@@ -1004,7 +1030,8 @@ uint64_t rcu_map_len(rcu_t *rcu);
  * If a put finds no node free (31): call it, drive until the cookie is done, and call it again; or
  * call rcu_map_wait.
  * Laws in crates/rcu_c/src/: keys_that_stay_are_found (map_laws.rt#L24), found_keys_were_there
- * (map_laws.rt#L42), no_key_that_stays_is_passed_over (map_laws.rt#L92). */
+ * (map_laws.rt#L42), found_entries_were_there (map_laws.rt#L59), no_key_that_stays_is_passed_over
+ * (map_laws.rt#L92), reads_are_between_the_moments_that_they_know (map_laws.rt#L77). */
 uint32_t rcu_map_age(rcu_t *rcu, uint64_t *cookie);
 
 /* One step of waiting for a free node, for the driver: it looks at the number, as rcu_map_age. If
@@ -1017,7 +1044,8 @@ uint32_t rcu_map_age(rcu_t *rcu, uint64_t *cookie);
  * grace period would begin, and the number is the last one. At 11 it has looked.
  * Fence: behind.
  * Laws in crates/rcu_c/src/: keys_that_stay_are_found (map_laws.rt#L24), found_keys_were_there
- * (map_laws.rt#L42), no_key_that_stays_is_passed_over (map_laws.rt#L92). */
+ * (map_laws.rt#L42), found_entries_were_there (map_laws.rt#L59), no_key_that_stays_is_passed_over
+ * (map_laws.rt#L92), reads_are_between_the_moments_that_they_know (map_laws.rt#L77). */
 uint32_t rcu_map_wait_unfenced(rcu_t *rcu);
 static inline uint32_t rcu_map_wait(rcu_t *rcu) {
     uint32_t result = rcu_map_wait_unfenced(rcu);
