@@ -8,7 +8,7 @@ use crate::compare::compare;
 use crate::map::route::Route;
 use crate::map::{Engine, Routes, Seat};
 use crate::seats::{next_online, next_seat};
-use rcu_map::{MapKeeper, Put, Updater};
+use rcu_map::{MapKeeper, NotPut, Put, Updater};
 use std::sync::Wait;
 use std::thread;
 use std::thread::Threads;
@@ -146,20 +146,26 @@ impl<'a> Worker<'a> {
         let _ = self.live.online(rt, &mut self.seat);
     }
 
-    /// Puts a route in, replaces it and takes it out. Returns whether it did.
+    /// Puts a route in, waiting for a node where it needs one. Returns the one that was there.
+    fn put<R: Wait>(&mut self, rt: &R, how: Put, route: Route) -> Result<Option<Route>, NotPut>
+        requires { 0 < route.network }
+    {
+        self.updater
+            .put_or_wait(rt, self.live, &mut self.seat, how, route)
+    }
+
+    /// Puts a route in, which an insertion then leaves as it is, replaces it and takes it out;
+    /// then a replacement finds none, and puts none in. Returns whether it did.
     fn change<R: Wait>(&mut self, rt: &R, first: Route, route: Route) -> bool
         requires first { 0 < first.network }
         requires route { 0 < route.network }
     {
-        let put = self
-            .updater
-            .put_or_wait(rt, self.live, &mut self.seat, Put::Insert, first);
-        let replaced = self
-            .updater
-            .put_or_wait(rt, self.live, &mut self.seat, Put::Upsert, route);
-        put == Ok(None)
-            && replaced == Ok(Some(first))
+        self.put(rt, Put::Insert, first) == Ok(None)
+            && self.put(rt, Put::Insert, route) == Ok(Some(first))
+            && self.put(rt, Put::Upsert, route) == Ok(Some(first))
             && self.updater.remove(rt, first.network) == Some(route)
+            && self.put(rt, Put::Replace, route) == Ok(None)
+            && self.updater.remove(rt, first.network).is_none()
     }
 
     /// Does that many times, and takes the processor offline. Returns how often it did.
