@@ -123,6 +123,7 @@ class Cluster:
         """Three machines, once each may open sections."""
         all_three = [self.start(own) for own in OWN]
         for it in all_three:
+            it.wait("ended")
             self.enter(it, it.own.split("-")[0])
             it.ask(f"exit {it.own.split('-')[0]}", "done")
         return all_three

@@ -23,8 +23,14 @@ from .machine import STALL, Machine
 from .streams import named, numbered
 
 
+SAYING = threading.RLock()  # (a handler of signals prints, too)
+
+
 def say(*words: object) -> None:
-    print(*words, flush=True)
+    """Prints a line as a whole: two threads do."""
+    with SAYING:
+        sys.stdout.write(" ".join(map(str, words)) + "\n")
+        sys.stdout.flush()
 
 
 def reply(machine: Machine, line: str) -> None:
@@ -50,7 +56,7 @@ def reply(machine: Machine, line: str) -> None:
         say(f"refused: {error!r}")
 
 
-def main(words: Optional[List[str]] = None) -> int:
+def options() -> argparse.ArgumentParser:
     parser = argparse.ArgumentParser(prog="rcu-replica", description=__doc__,
                                      formatter_class=argparse.RawDescriptionHelpFormatter)
     parser.add_argument("url", help="redis://HOST:PORT/DB, rediss://.. or unix://PATH")
@@ -68,7 +74,11 @@ def main(words: Optional[List[str]] = None) -> int:
                         help="after which an answer of Redis is given up (5)")
     parser.add_argument("--stall", type=float, default=STALL, metavar="SECONDS",
                         help="after which it tells whom a grace period waits for (10; 0: never)")
-    given = parser.parse_args(words)
+    return parser
+
+
+def main(words: Optional[List[str]] = None) -> int:
+    given = options().parse_args(words)
     machine = Machine(given.url, given.cpus, numbered(given.own.replace(",", " ")), given.prefix,
                       say, watch=say, timeout=given.timeout, name=given.name,
                       stall=given.stall)
