@@ -9,9 +9,10 @@ import os
 import sys
 
 HERE = os.path.dirname(os.path.realpath(__file__))
-sys.path.insert(0, f"{HERE}/../urcu/tests")
+sys.path[:0] = [f"{HERE}/../urcu/tests", HERE]
 sys.dont_write_bytecode = True
 from model import try_all
+from steps import Sources
 
 # A reader gets quiet, and then looks whether the maker sleeps for it.
 GETS_QUIET = """
@@ -72,7 +73,26 @@ PROTOCOLS = {
           sleeps("locked.rcu.may_sleep()",
                  "(true, _) => locked = self.sleep(&self.quiet, locked)")]),
 }
-OWN = f"{HERE}/../../crates/rcu_c/src/sleeps.rt"
+OWN = f"{HERE}/../../crates/rcu_c/src"
+# What says for whom the maker sleeps, in the order in which it stands in `sleep_for_first`.
+QUOTES = {
+    "let first = opened.inner.next_awaited(0);": ("find the first",),
+    "opened.wishes.sleep_for(first);": ("say it",),
+    "collect_all(&mut opened.inner);": ("look at each",),
+    "if awaited.count() == 0 {": ("none is awaited",),
+    "opened.wishes.sleep_for(None);": ("say none",),
+}
+WANTED = ["find the first", "say it", "look at each", ("none is awaited", ("say none",))]
+
+
+def named():
+    """Whether what is named is so named in the archive for C, and nowhere else."""
+    sources = Sources(OWN, QUOTES)
+    found = sources.steps("None::sleep_for_first")
+    yield found == WANTED, f"who is named, and then looked at: {found}"
+    others = list(sources.unread({"": r"\bsleep_for\(|name_cpu\("}, r"\bfn "))
+    yield not others, f"nothing else names one{': '.join(['', *others])}"
+
 
 if __name__ == "__main__":
-    sys.exit(try_all(PROTOCOLS, [f"{HERE}/../rust/src/inner.rs", OWN]))
+    sys.exit(try_all(PROTOCOLS, [f"{HERE}/../rust/src/inner.rs", f"{OWN}/sleeps.rt"], named()))

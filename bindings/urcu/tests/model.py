@@ -69,8 +69,8 @@ def unknown_quotes(protocols, code):
                     yield quote.strip()
 
 
-def try_all(protocols, paths):
-    """Tries the protocols of the code in these files."""
+def try_all(protocols, paths, more=()):
+    """Tries the protocols of the code in these files. What was tried besides comes last."""
     counts = {True: 0, False: 0}
 
     def count(well, what):
@@ -87,6 +87,8 @@ def try_all(protocols, paths):
     quotes = sorted(set(unknown_quotes(protocols, code)))
     missing = f": not there: {'; '.join(quotes)}" if quotes else ""
     count(not quotes, f"the model's steps are the code's{missing}")
+    for well, what in more:
+        count(well, what)
     print(f"{counts[True]} passed, {counts[False]} failed")
     return 1 if counts[False] else 0
 

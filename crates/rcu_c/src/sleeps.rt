@@ -1,7 +1,8 @@
-//! Sleeping until a processor is quiet. Who drives says for which one it sleeps, and then looks at
-//! it once more; the processor's thread gets quiet, idle or offline, and then looks whether who
+//! Sleeping until a processor is quiet. Who drives says once for which one it sleeps, and then
+//! looks at it once more; the processor's thread gets quiet, idle or offline, and then looks if who
 //! drives sleeps for it. All four steps are sequentially consistent, so one of the two sees the
-//! other: no quiescent state is slept through.
+//! other. So no quiescent state is slept through: no proof says that, but `bindings/model/sleep.py`
+//! tries it, by these steps in this order.
 ghost use Rattle.std.specs.Prelude.{◌≡◌, ◌≢◌, ◌==◌, Bool, Some};
 ghost use Rattle.rcu_live.specs.Engine.{latest_words};
 ghost use Rattle.rcu_state.specs.GpState.{awaited_in};
