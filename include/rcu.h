@@ -916,10 +916,11 @@ static inline uint32_t rcu_barrier_wait(rcu_t *rcu, uint64_t *left) {
     return result;
 }
 
-/* ---- sleeping until a processor is quiet. Who drives says for which one it sleeps, and then looks
- * at it once more; the processor's thread gets quiet, idle or offline, and then looks whether who
+/* ---- sleeping until a processor is quiet. Who drives says once for which one it sleeps, and then
+ * looks at it once more; the processor's thread gets quiet, idle or offline, and then looks if who
  * drives sleeps for it. All four steps are sequentially consistent, so one of the two sees the
- * other: no quiescent state is slept through. */
+ * other. So no quiescent state is slept through: no proof says that, but `bindings/model/sleep.py`
+ * tries it, by these steps in this order. */
 
 /* Says that who drives sleeps for the first processor that is awaited, and then collects from each
  * that is, as rcu_collect_all. Writes 1 where that first one is awaited still: then the caller

@@ -1,7 +1,7 @@
 -- A client's steps keep the rule.
 use Rattle.std.proofs.Common.{◌≡◌, ◌≢◌, ℕ, ◌+◌, ◌<◌, ◌≤◌, List, [], ◌∷◌, ◌++◌, Option, Some, None}
 use Rattle.std.proofs.Common.{length, get_or, set, map, drop, refl, sym, ap, ◌∙◌, subst, ⊎_elim}
-use Rattle.std.proofs.Common.{arith, length-set}
+use Rattle.std.proofs.Common.{arith, length-set, true, false, ◌%◌}
 use Rattle.std.proofs.lemmas.List.{drop-set-add, get_or-drop, get_or-set_other}
 use mathlib.Core.List.{map-append}
 use mathlib.Core.Option.{some}
@@ -9,13 +9,14 @@ use lib.ListN.{get_elem?}
 use lib.Seq.{map-set}
 use Rattle.atomic_table.specs.Table.{Me, keeps, Allows, Splits}
 use Rattle.atomic_table.proofs.Lists.{at_map, at_set}
+use Rattle.rcu_node.specs.Words.{has_bit}
 use Rattle.rcu_live.specs.Client.{IsStable, Views, AllowsNumber, ClientView, AllowsWord}
 use Rattle.rcu_live.specs.Rule.{Fits, IsKept, IsSound}
 use Rattle.rcu_live.specs.Several.{IsPart, Lens}
 use Rattle.rcu_live.specs.View.{IsOfEngine, IsOfWatcher, SteppedOnNumber, SteppedOnWord, after_hand}
 use Rattle.rcu_live.specs.View.{after_load, client_view, handed_seat, if_cpu, watcher_seat}
 use Rattle.rcu_live.specs.View.{with_client}
-use Rattle.rcu_live.specs.Words.{base_of, own_word_index}
+use Rattle.rcu_live.specs.Words.{base_of, own_word_index, mask_index}
 use Rattle.rcu_live.specs.declared.view.Role.{Role}
 use Rattle.rcu_live.specs.declared.view.Role.TheVariants.{Cpu, Watcher}
 use Rattle.rcu_live.specs.declared.view.View.{View}
@@ -23,6 +24,7 @@ use Rattle.rcu_live.proofs.ClientLemmas.{are_lone, are_open}
 use Rattle.rcu_live.proofs.Deals.{at_end, watcher_fits}
 use Rattle.rcu_live.proofs.Frames.{changed, unchanged}
 use Rattle.rcu_live.proofs.Loads.{load_fits}
+use Rattle.rcu_live.proofs.Numbers.{mask_inside}
 
 -- what is shown of a seat of this role
 abbrev client_view_of : {C : Type 0} → Role → ℕ → Option ℕ → C → ClientView C
@@ -46,6 +48,9 @@ module _ {C : Type 0} (holds : List ℕ → Views C → Type 0) where
             let low = f.inside r in
             subst (λ (y : ℕ × ℕ). IsSound y.0 y.1 own_word_loads v)
             (λ i. (sym number i, sym (same (own_word_index v.cpu) (omega arith)) i)) (f.sound r);
+        announced = λ r e.
+            subst (λ (x : ℕ). has_bit x (v.cpu % 64) ≡ true)
+            (sym (same (mask_index v.cpu) (mask_inside v.cpu cpus (f.inside r)))) (f.announced r e);
         lone = f.lone;
         number = λ r. f.number r ∙ sym number;
         found = f.found;
@@ -73,6 +78,7 @@ module _ {C : Type 0} (holds : List ℕ → Views C → Type 0) where
       current = t.current;
       cleared = t.cleared;
     };
+    announced = f.announced;
     lone = f.lone;
     number = f.number;
     found = f.found;
@@ -126,6 +132,9 @@ module _ {C : Type 0} (holds : List ℕ → Views C → Type 0) where
         tt,
         changed holds cpus s k id w new k.own_word_loads
             (rw (length-set s.words here x) room) (rw number k.number) boot
+            (λ c low none. same (own_word_index c) (omega arith)
+            ∙ k.absent c low (subst (λ (y : ℕ). has_bit y (c % 64) ≡ false)
+            (same (mask_index c) (mask_inside c cpus low)) none))
             (λ j o apart h.
             fits_still cpus s.words new k.owner k.engine k.own_word_loads j o same h)
             (with_client_fits cpus new k.owner k.engine k.own_word_loads id v u.0
@@ -223,6 +232,7 @@ module _ {C : Type 0} (holds : List ℕ → Views C → Type 0) where
         room = k.room;
         number = k.number;
         boot = k.boot;
+        absent = k.absent;
         owner = k.owner;
         engine = k.engine;
         own_word_loads = k.own_word_loads;

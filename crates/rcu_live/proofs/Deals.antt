@@ -70,6 +70,7 @@ module _ {C : Type 0} (holds : List ℕ → Views C → Type 0) where
     inside = λ r. absurd (cc);
     own = λ r. absurd (cc);
     sound = λ r. absurd (cc);
+    announced = λ r. absurd (cc);
     lone = λ r. absurd (cc);
     number = λ r. absurd (cc);
     found = λ r. absurd (cc);
@@ -86,6 +87,7 @@ module _ {C : Type 0} (holds : List ℕ → Views C → Type 0) where
         room = k.room;
         number = k.number;
         boot = k.boot;
+        absent = k.absent;
         owner = k.owner;
         engine = k.engine;
         own_word_loads = k.own_word_loads;
@@ -121,6 +123,7 @@ module _ {C : Type 0} (holds : List ℕ → Views C → Type 0) where
         inside = λ r. absurd (cc);
         own = λ r. absurd (cc);
         sound = λ r. absurd (cc);
+        announced = λ r. absurd (cc);
         lone = f.lone;
         number = f.number;
         found = f.found;
@@ -143,6 +146,7 @@ module _ {C : Type 0} (holds : List ℕ → Views C → Type 0) where
           current = λ p o. absurd (cc);
           cleared = λ p o. absurd (cc);
         };
+        announced = λ r e. absurd (cc);
         lone = λ r. absurd (cc);
         number = λ r. absurd (cc);
         found = λ r. absurd (cc);
@@ -157,6 +161,7 @@ module _ {C : Type 0} (holds : List ℕ → Views C → Type 0) where
         inside = h.inside;
         own = λ r. miss u.cpu (λ e. apart (sym (h.own r) ∙ ap k.owner e ∙ free.0)) ∙ h.own r;
         sound = h.sound;
+        announced = h.announced;
         lone = h.lone;
         number = h.number;
         found = h.found;
@@ -171,6 +176,7 @@ module _ {C : Type 0} (holds : List ℕ → Views C → Type 0) where
         room = k.room;
         number = k.number;
         boot = k.boot;
+        absent = k.absent;
         owner = owner;
         engine = k.engine;
         own_word_loads = k.own_word_loads;

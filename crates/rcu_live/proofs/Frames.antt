@@ -1,5 +1,7 @@
 -- The rule where one view changes: what the other seats, the words and the client keep.
-use Rattle.std.proofs.Common.{◌≡◌, ◌≢◌, ℕ, ◌<◌, ◌≤◌, List, length, get_or, set, map, drop, true}
+use Rattle.std.proofs.Common.{◌≡◌, ◌≢◌, ℕ, ◌%◌, ◌<◌, ◌≤◌, List, length, get_or, set, map}
+use Rattle.std.proofs.Common.{drop}
+use Rattle.std.proofs.Common.{true, false}
 use Rattle.std.proofs.Common.{sym, ap, ◌∙◌, subst, ⊎_elim}
 use Rattle.std.specs.Prelude.{slice_index}
 use Rattle.std.proofs.lemmas.List.{set-get_or}
@@ -8,11 +10,12 @@ use lib.ListN.{get_elem?}
 use lib.Seq.{map-set}
 use Rattle.atomic_table.specs.Table.{State}
 use Rattle.atomic_table.proofs.Lists.{at_set, set_again, at_map}
+use Rattle.rcu_node.specs.Words.{has_bit}
 use Rattle.rcu_live.specs.Client.{Views, ClientView}
 use Rattle.rcu_live.specs.Numbers.{is_number_word}
 use Rattle.rcu_live.specs.Rule.{Fits, IsKept}
 use Rattle.rcu_live.specs.View.{client_view}
-use Rattle.rcu_live.specs.Words.{base_of, own_word_index}
+use Rattle.rcu_live.specs.Words.{base_of, own_word_index, mask_index}
 use Rattle.rcu_live.specs.declared.view.View.{View}
 
 -- a view that a client cannot tell from the one before leaves what is shown of all
@@ -47,15 +50,19 @@ module _ {C : Type 0} (holds : List ℕ → Views C → Type 0) where
       → base_of cpus ≤ length words
       → is_number_word (slice_index words 0) ≡ true
       → 0 < slice_index words (own_word_index 0)
+      → ((cpu : ℕ) → cpu < cpus
+      → has_bit (slice_index words (mask_index cpu)) (cpu % 64) ≡ false
+      → slice_index words (own_word_index cpu) ≡ 0)
       → ((j : ℕ) (u : View C) → j ≢ id → Fits cpus s.words k.owner k.engine k.own_word_loads j u
       → Fits cpus words k.owner k.engine own_word_loads j u)
       → Fits cpus words k.owner k.engine own_word_loads id w
       → holds (drop (base_of cpus) words) (map client_view (set s.views id w))
       → IsKept holds cpus record { words = words; homes = s.homes; views = set s.views id w }
-  changed cpus s k id w words own_word_loads room number boot others mine client = record {
+  changed cpus s k id w words own_word_loads room number boot absent others mine client = record {
     room = room;
     number = number;
     boot = boot;
+    absent = absent;
     owner = k.owner;
     engine = k.engine;
     own_word_loads = own_word_loads;
@@ -80,5 +87,5 @@ module _ {C : Type 0} (holds : List ℕ → Views C → Type 0) where
       subst (λ (words : List ℕ).
       IsKept holds cpus record { words = words; homes = s.homes; views = set s.views id w })
       (sym (set-get_or s.words at 0))
-      (changed cpus s k id w s.words k.own_word_loads k.room k.number k.boot
+      (changed cpus s k id w s.words k.own_word_loads k.room k.number k.boot k.absent
       (λ j u apart f. f) mine client)

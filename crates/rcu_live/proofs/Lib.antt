@@ -21,6 +21,7 @@ pub mod Meetings
 pub mod NextCpus
 pub mod Numbers
 pub mod OldSections
+pub mod OnlineMasks
 pub mod Openings
 pub mod OwnWordLoads
 pub mod Quieting

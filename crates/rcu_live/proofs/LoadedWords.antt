@@ -1,8 +1,9 @@
 -- The words that loads found, and who is cleared by them.
-use Rattle.std.proofs.Common.{◌≡◌, ◌≢◌, ℕ, zero, suc, ◌+◌, ◌<◌, ◌==◌, ◌&&◌, Bool, true, false}
+use Rattle.std.proofs.Common.{◌≡◌, ◌≢◌, ℕ, zero, suc, ◌+◌, ◌-◌, ◌<◌, ◌≤◌, ◌==◌, ◌&&◌, Bool}
+use Rattle.std.proofs.Common.{true, false}
 use Rattle.std.proofs.Common.{if◌then◌else◌, List, ◌∷◌, length, slice_set, refl, sym, ap, ◌∙◌}
 use Rattle.std.proofs.Common.{subst, arith, inl, inr}
-use Rattle.std.proofs.lemmas.Bool.{cases_eq, or_left, or_right}
+use Rattle.std.proofs.lemmas.Bool.{cases_eq, cases_lt, or_left, or_right}
 use Rattle.std.proofs.lemmas.Bool.Decides.{nat_tests}
 use Rattle.std.proofs.lemmas.List.{get_or-set_other, get_or-set_same}
 use Rattle.rcu_seq.specs.Numbers.{Number}
@@ -10,7 +11,8 @@ use Rattle.rcu_node.specs.CpuSet.{is_in}
 use Rattle.rcu_live.specs.Engine.{after_own_word_loads, loads_in_turn, loaded_word}
 use Rattle.rcu_live.specs.Numbers.{reports_quiescence}
 use Rattle.rcu_live.specs.Rule.{is_cleared}
-use Rattle.rcu_live.specs.View.{after_own_word_load}
+use Rattle.rcu_live.specs.View.{absent_from, after_online_mask_load, after_own_word_load}
+use Rattle.rcu_live.specs.View.{found_offline, offline_loads}
 use Rattle.rcu_live.specs.Words.{own_word_index}
 use Rattle.rcu_live.specs.declared.view.View.{View}
 use Rattle.rcu_live.proofs.Numbers.{own_words_apart}
@@ -123,3 +125,116 @@ module _ {C : Type 0} where
       → is_in flags c ≡ test (loaded_word w.own_word_loads c)
   found_of test flags v w n word new h c low =
       h c low ∙ sym (ap (λ (u : View C). test (loaded_word u.own_word_loads c)) new)
+
+length-in_turn : (word : ℕ → ℕ) (n : ℕ) → length (loads_in_turn word n) ≡ n
+length-in_turn word zero = refl
+length-in_turn word (suc n) = ap suc (length-in_turn word n)
+
+-- loads that found others at 0 leave what was found of a processor
+offline_before : (from more c : ℕ) (earlier : List (ℕ × ℕ)) → c < from
+    → loaded_word (offline_loads from more earlier) c ≡ loaded_word earlier c
+offline_before from zero c earlier low = refl
+offline_before from (suc more) c earlier low =
+    found_there (offline_loads from more earlier) (from + more) 0 c
+    (λ e. absurd (omega (arith, e, low)))
+    ∙ offline_before from more c earlier low
+
+-- and tell of those that they found
+offline_here : (from more c : ℕ) (earlier : List (ℕ × ℕ)) → from ≤ c → c < from + more
+    → loaded_word (offline_loads from more earlier) c ≡ 0
+offline_here from zero c earlier far low = absurd (omega (arith, far, low))
+offline_here from (suc more) c earlier far low = elim (cases_eq c (from + more)) [
+  | inl same ↦ subst (λ (d : ℕ). loaded_word (offline_loads from (suc more) earlier) d ≡ 0)
+      (sym same) (found_here (offline_loads from more earlier) (from + more) 0)
+  | inr apart ↦ found_there (offline_loads from more earlier) (from + more) 0 c apart
+      ∙ offline_here from more c earlier far (omega (arith, low, apart))
+]
+
+offline_in_turn : (word : ℕ → ℕ) (from more : ℕ)
+    → ((c : ℕ) → from ≤ c → c < from + more → word c ≡ 0)
+    → offline_loads from more (loads_in_turn word from) ≡ loads_in_turn word (from + more)
+offline_in_turn word from zero none =
+    ap (loads_in_turn word) (let e : from ≡ from + 0 = omega arith in e)
+offline_in_turn word from (suc more) none =
+    let before : offline_loads from more (loads_in_turn word from)
+    ≡ loads_in_turn word (from + more) =
+    offline_in_turn word from more (λ c far low. none c far (omega (arith, low))) in
+    let last : word (from + more) ≡ 0 = none (from + more) (omega arith) (omega arith) in
+    let next : suc (from + more) ≡ from + suc more = omega arith in
+    (λ i. (own_word_index (from + more), sym last i) ∷ before i)
+    ∙ ap (loads_in_turn word) next
+
+module _ {C : Type 0} where
+  -- how many loads were made in turn
+  pub many_in_turn : (first v : View C) (n : ℕ)
+      → v ≡ after_own_word_loads first (loaded_word v.own_word_loads) n
+      → length v.own_word_loads ≡ n
+  many_in_turn first v n is =
+      ap (λ (u : View C). length u.own_word_loads) is
+      ∙ length-in_turn (loaded_word v.own_word_loads) n
+
+  -- a load that found so many more at 0
+  pub all_found : (first v w : View C) (n more : ℕ)
+      → v ≡ after_own_word_loads first (loaded_word v.own_word_loads) n
+      → w ≡ found_offline v n more
+      → w ≡ after_own_word_loads first (loaded_word w.own_word_loads) (n + more)
+  all_found first v w n more old new =
+      let found : w.own_word_loads ≡ offline_loads n more v.own_word_loads =
+      ap (λ (u : View C). u.own_word_loads) new in
+      let word : ℕ → ℕ = loaded_word w.own_word_loads in
+      let here : (c : ℕ) → n ≤ c → c < n + more → word c ≡ 0 =
+      λ c far less.
+      ap (λ (l : List (ℕ × ℕ)). loaded_word l c) found
+      ∙ offline_here n more c v.own_word_loads far less in
+      let before : loads_in_turn (loaded_word v.own_word_loads) n ≡ loads_in_turn word n =
+      in_turn_same (loaded_word v.own_word_loads) word n
+      (λ c less. sym (ap (λ (l : List (ℕ × ℕ)). loaded_word l c) found
+      ∙ offline_before n more c v.own_word_loads less)) in
+      let list : offline_loads n more (loads_in_turn word n) ≡ loads_in_turn word (n + more) =
+      offline_in_turn word n more here in
+      let loads : first.loads + n + more ≡ first.loads + (n + more) = omega arith in
+      new
+      ∙ ap (λ (u : View C). found_offline u n more) old
+      ∙ (λ i. record first {
+        loads = loads i;
+        own_word_loads = offline_loads n more (before i);
+      })
+      ∙ ap
+      (λ (l : List (ℕ × ℕ)). record first { loads = first.loads + (n + more); own_word_loads = l })
+      list
+
+  -- a load of an online mask found those offline that have no bit in it, from the next one on
+  pub mask_loaded : (first v w : View C) (n mask cpus : ℕ)
+      → v ≡ after_own_word_loads first (loaded_word v.own_word_loads) n
+      → first.cpu ≡ cpus
+      → w ≡ after_online_mask_load v mask
+      → w ≡ found_offline v n (absent_from mask n cpus)
+  mask_loaded first v w n mask cpus is dealt told =
+      let next = many_in_turn first v n is in
+      let here : v.cpu ≡ cpus = ap (λ (u : View C). u.cpu) is ∙ dealt in
+      told ∙ (λ i. found_offline v (next i) (absent_from mask (next i) (here i)))
+
+  -- where it found none, nothing is seen
+  pub none_found : (v : View C) (n more : ℕ) → more ≡ 0 → found_offline v n more ≡ v
+  none_found v n more none =
+      let loads : v.loads + 0 ≡ v.loads = omega arith in
+      ap (found_offline v n) none ∙ (λ i. record v { loads = loads i })
+
+  -- a set of flags that follow the words found, and are unset of those that were found offline,
+  -- follows the words of these too
+  pub flags_all : (test : ℕ → Bool) (flags : List Bool) (v w : View C) (n more : ℕ)
+      → test 0 ≡ false
+      → w ≡ found_offline v n more
+      → ((c : ℕ) → c < n → is_in flags c ≡ test (loaded_word v.own_word_loads c))
+      → ((c : ℕ) → n ≤ c → c < n + more → is_in flags c ≡ false)
+      → (c : ℕ) → c < n + more → is_in flags c ≡ test (loaded_word w.own_word_loads c)
+  flags_all test flags v w n more none new below above c inside =
+      let found : loaded_word w.own_word_loads c
+      ≡ loaded_word (offline_loads n more v.own_word_loads) c =
+      ap (λ (u : View C). loaded_word u.own_word_loads c) new in
+      elim (cases_lt c n) [
+        | inl less ↦ below c less
+            ∙ sym (ap test (found ∙ offline_before n more c v.own_word_loads less))
+        | inr far ↦ above c far inside
+            ∙ sym (ap test (found ∙ offline_here n more c v.own_word_loads far inside) ∙ none)
+      ]

@@ -1,17 +1,20 @@
 -- Each load of the number keeps the rule.
-use Rattle.std.proofs.Common.{◌≡◌, ℕ, ◌+◌, ◌<◌, ◌≤◌, List, Option, Some, None, get_or, set, map}
+use Rattle.std.proofs.Common.{◌≡◌, ℕ, ◌+◌, ◌%◌, ◌<◌, ◌≤◌, List, Option, Some, None, get_or}
+use Rattle.std.proofs.Common.{set}
+use Rattle.std.proofs.Common.{map}
 use Rattle.std.proofs.Common.{drop, true, refl, sym, ap, ◌∙◌, subst, arith}
 use mathlib.Core.Option.{some}
 use lib.ListN.{get_elem?}
 use lib.Seq.{map-set}
 use Rattle.atomic_table.specs.Table.{State, Me, keeps, Allows}
 use Rattle.atomic_table.proofs.Lists.{at_map}
+use Rattle.rcu_node.specs.Words.{has_bit}
 use Rattle.rcu_live.specs.Client.{IsStable, Views, ClientView}
 use Rattle.rcu_live.specs.Numbers.{may_open}
 use Rattle.rcu_live.specs.Rule.{Fits, IsKept, IsSound}
 use Rattle.rcu_live.specs.View.{Closed, Loaded, Opened, after_close, after_load, after_open, if_cpu}
 use Rattle.rcu_live.specs.View.{client_view}
-use Rattle.rcu_live.specs.Words.{base_of, own_word_index}
+use Rattle.rcu_live.specs.Words.{base_of, own_word_index, mask_index}
 use Rattle.rcu_live.specs.declared.view.Role.{Role}
 use Rattle.rcu_live.specs.declared.view.Role.TheVariants.{Cpu, Watcher, Engine}
 use Rattle.rcu_live.specs.declared.view.View.{View}
@@ -38,16 +41,21 @@ module _ {C : Type 0} (holds : List ℕ → Views C → Type 0) where
       → w.seen ≡ get_or words 0 0
       → w.base ≡ v.base
       → w.own_word_loads ≡ v.own_word_loads
+      → w.announced ≡ v.announced
       → (w.role ≡ Cpu → IsSound (get_or words 0 0) (get_or words (own_word_index w.cpu) 0)
       own_word_loads w)
       → Fits cpus words owner engine own_word_loads id w
-  seen_fits cpus words owner engine own_word_loads id v w f role cpu seen base found sound =
+  seen_fits cpus words owner engine own_word_loads id v w f role cpu seen base found same sound =
       record {
         seen = omega (arith, seen);
         base = base ∙ f.base;
         inside = λ r. subst (λ (c : ℕ). c < cpus) (sym cpu) (f.inside (sym role ∙ r));
         own = λ r. ap owner cpu ∙ f.own (sym role ∙ r);
         sound = sound;
+        announced = λ r e.
+            subst (λ (c : ℕ). has_bit (get_or words (mask_index c) 0) (c % 64) ≡ true)
+            (sym cpu)
+            (f.announced (sym role ∙ r) (sym same ∙ e));
         lone = λ r. f.lone (sym role ∙ r);
         number = λ r. seen;
         found = λ r. found ∙ f.found (sym role ∙ r);
@@ -77,7 +85,7 @@ module _ {C : Type 0} (holds : List ℕ → Views C → Type 0) where
         cleared = t.cleared;
       } in
       seen_fits cpus s.words k.owner k.engine k.own_word_loads id v w f refl refl refl refl refl
-      sound
+      refl sound
 
   -- number load
   pub loads : (cpus slots id : ℕ) (me : Me (Unit {0}) (View C))
@@ -132,7 +140,7 @@ module _ {C : Type 0} (holds : List ℕ → Views C → Type 0) where
         cleared = λ p o running told. let e = the_same o in omega arith;
       } in
       let mine = seen_fits cpus s.words k.owner k.engine k.own_word_loads id v w f refl refl refl
-      refl refl sound in
+      refl refl refl sound in
       let one : Option ℕ = if_cpu v.role (Some v.cpu) in
       let now : client_view w ≡ (one, Some n, v.client) =
       ap (λ (r : Role). (one, if_cpu r (Some n), v.client)) cpu in
@@ -179,7 +187,7 @@ module _ {C : Type 0} (holds : List ℕ → Views C → Type 0) where
         cleared = λ p o. absurd (cc);
       } in
       let mine = seen_fits cpus s.words k.owner k.engine k.own_word_loads id v w f refl refl refl
-      refl refl sound in
+      refl refl refl sound in
       let one : Option ℕ = if_cpu v.role (Some v.cpu) in
       let now : client_view w ≡ (one, None, close v.client) =
       ap (λ (o : Option ℕ). (one, o, close v.client)) (none_shown v.role) in

@@ -59,6 +59,21 @@ none_of set from cpu word flags empty before c later low = elim (cases_lt c cpu)
       ∙ no_bit (c - cpu)
 ]
 
+within_width : (b : Bool) (bit width : ℕ) → bit < width → b ≡ (nat_lt bit width && b)
+within_width b bit width low = grind (arith, nat_tests, low)
+
+-- the same of the flags of fewer than 64
+pub none_of_few : (set : List Bool) (from width word c : ℕ)
+    → ((bit : ℕ) → has_bit word bit ≡ (nat_lt bit width && is_in set (from + bit)))
+    → word ≡ 0 → from ≤ c → c < from + width → is_in set c ≡ false
+none_of_few set from width word c flags empty far low =
+    let at : from + (c - from) ≡ c = omega arith in
+    ap (is_in set) (sym at)
+    ∙ within_width (is_in set (from + (c - from))) (c - from) width (omega arith)
+    ∙ sym (flags (c - from))
+    ∙ ap (λ (n : ℕ). has_bit n (c - from)) empty
+    ∙ no_bit (c - from)
+
 -- where it is not, its lowest bit is the next one's
 pub first_of : (set : List Bool) (from cpu word : ℕ)
     → AreFlags set cpu word → 0 < word → word < 2 ^ 64 → from ≤ cpu → NobodyIn set from cpu

@@ -1,9 +1,9 @@
 -- Facts on numbers and own words.
-use Rattle.std.proofs.Common.{◌≡◌, ◌≢◌, ℕ, ◌+◌, ◌≤◌, true, false, arith}
+use Rattle.std.proofs.Common.{◌≡◌, ◌≢◌, ℕ, ◌+◌, ◌%◌, ◌<◌, ◌≤◌, true, false, arith}
 use Rattle.std.proofs.lemmas.Bool.Decides.{nat_tests}
 use Rattle.rcu_seq.specs.Numbers.{Number}
 use Rattle.rcu_live.specs.Numbers.{is_own_word, is_past, is_open_at, may_open}
-use Rattle.rcu_live.specs.Words.{own_word_index}
+use Rattle.rcu_live.specs.Words.{base_of, own_word_index, mask_index}
 
 -- an own word with which a section may open is at most one more than the number seen
 pub own_bound : (seen : Number) (word : ℕ) → is_own_word seen word ≡ true → may_open word ≡ true
@@ -29,3 +29,16 @@ own_words_apart a b apart same = apart (omega arith)
 
 pub number_apart : (cpu : ℕ) → own_word_index cpu ≢ 0
 number_apart cpu same = absurd (omega arith)
+
+-- online masks have places of their own, among the engine's words
+pub mask_apart : (cpu c : ℕ) → own_word_index cpu ≢ mask_index c
+mask_apart cpu c same = absurd (omega arith)
+
+pub mask_number : (c : ℕ) → mask_index c ≢ 0
+mask_number c same = absurd (omega arith)
+
+pub mask_inside : (c cpus : ℕ) → c < cpus → mask_index c < base_of cpus
+mask_inside c cpus low = omega (arith, low)
+
+pub same_mask : (c d : ℕ) → mask_index c ≡ mask_index d → c % 64 ≡ d % 64 → c ≡ d
+same_mask c d same bit = omega (arith, same, bit)

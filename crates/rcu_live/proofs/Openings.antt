@@ -1,17 +1,21 @@
 -- The rule at the opening: one seat, the engine's, which has all parts.
 use Rattle.std.proofs.Common.{◌≡◌, ℕ, zero, suc, ◌+◌, ◌<◌, ◌≤◌, List, [], ◌∷◌, ◌++◌, None, length}
-use Rattle.std.proofs.Common.{get_or, drop, replicate, true, refl, sym, ap, ◌∙◌, subst, arith}
+use Rattle.std.proofs.Common.{get_or, set, drop, replicate, true, refl, sym, ap, ◌∙◌, subst, arith}
 use Rattle.std.proofs.Common.{length-append, length-set}
 use Rattle.std.proofs.lemmas.List.{get_or-replicate, get_or-set_other, get_or-set_same}
 use Rattle.std.proofs.lemmas.List.{length-replicate}
 use mathlib.Core.Option.{some, some-injective, some-ne-none}
 use lib.ListN.{get_elem?}
 use Rattle.atomic_table.specs.Table.{opening}
+use Rattle.std.proofs.Common.{◌%◌, false}
+use Rattle.std.proofs.lemmas.Bool.{true≢false}
+use Rattle.rcu_node.specs.Words.{has_bit}
 use Rattle.rcu_live.specs.Client.{Views}
 use Rattle.rcu_live.specs.Numbers.{is_number_word}
 use Rattle.rcu_live.specs.Rule.{Fits, IsKept}
 use Rattle.rcu_live.specs.View.{engine_seat}
 use Rattle.rcu_live.specs.Words.{base_of, first_own_word, first_words, own_word_index}
+use Rattle.rcu_live.specs.Words.{mask_index}
 use Rattle.rcu_live.specs.declared.view.View.{View}
 
 -- what stands behind a list of so many
@@ -28,7 +32,9 @@ at_front (x ∷ xs) ys (suc i) h = at_front xs ys i (omega arith)
 
 pub length-first_words : (cpus : ℕ) → length (first_words cpus) ≡ base_of cpus
 length-first_words cpus =
-    length-set (replicate (base_of cpus) 0) 16 1 ∙ length-replicate (base_of cpus) 0
+    length-set (set (replicate (base_of cpus) 0) 16 1) 8 1
+    ∙ length-set (replicate (base_of cpus) 0) 16 1
+    ∙ length-replicate (base_of cpus) 0
 
 -- there is room for the engine's words
 pub room_at_first : (cpus : ℕ) (behind words : List ℕ) → words ≡ first_words cpus ++ behind
@@ -39,17 +45,42 @@ room_at_first cpus behind words is =
 
 number_at_first : (cpus : ℕ) → get_or (first_words cpus) 0 0 ≡ 0
 number_at_first cpus =
-    get_or-set_other (replicate (base_of cpus) 0) 16 0 1 0 (λ e. absurd (omega arith))
+    get_or-set_other (set (replicate (base_of cpus) 0) 16 1) 8 0 1 0 (λ e. absurd (omega arith))
+    ∙ get_or-set_other (replicate (base_of cpus) 0) 16 0 1 0 (λ e. absurd (omega arith))
     ∙ get_or-replicate (base_of cpus) 0 0 0 (omega arith)
+
+mask_at_first : (cpus : ℕ) → get_or (first_words cpus) 8 0 ≡ 1
+mask_at_first cpus =
+    let none : List ℕ = replicate (base_of cpus) 0 in
+    let z : ℕ = 0 in
+    let one : ℕ = 1 in
+    let more = length-set none 16 one in
+    let long = length-replicate (base_of cpus) z in
+    get_or-set_same (set none 16 1) 8 1 0 (omega (arith, more, long))
 
 word_at_first : (cpus c : ℕ) → c < cpus
     → get_or (first_words cpus) (own_word_index c) 0 ≡ first_own_word c
-word_at_first cpus zero low = get_or-set_same (replicate (base_of cpus) 0) 16 1 0
+word_at_first cpus zero low =
+    get_or-set_other (set (replicate (base_of cpus) 0) 16 1) 8 16 1 0 (λ e. absurd (omega arith))
+    ∙ get_or-set_same (replicate (base_of cpus) 0) 16 1 0
     (let z : ℕ = 0 in let l = length-replicate (base_of cpus) z in omega arith)
 word_at_first cpus (suc c) low =
-    get_or-set_other (replicate (base_of cpus) 0) 16 (own_word_index (suc c)) 1 0
+    get_or-set_other (set (replicate (base_of cpus) 0) 16 1) 8 (own_word_index (suc c)) 1 0
+    (λ e. absurd (omega arith))
+    ∙ get_or-set_other (replicate (base_of cpus) 0) 16 (own_word_index (suc c)) 1 0
     (λ e. absurd (omega arith))
     ∙ get_or-replicate (base_of cpus) (own_word_index (suc c)) 0 0 (omega arith)
+
+one_here : has_bit 1 0 ≡ true
+unfolding has_bit
+one_here = refl
+
+-- who has no bit in its online mask is offline at the start
+first_absent : (words : List ℕ) (c : ℕ) → get_or words 8 0 ≡ 1
+    → has_bit (get_or words (mask_index c) 0) (c % 64) ≡ false → first_own_word c ≡ 0
+first_absent words zero one none =
+    absurd (true≢false (sym one_here ∙ ap (λ (x : ℕ). has_bit x 0) (sym one) ∙ none))
+first_absent words (suc c) one none = refl
 
 zero_is_number : (n : ℕ) → n ≡ 0 → is_number_word n ≡ true
 zero_is_number n e = rw e refl
@@ -70,12 +101,15 @@ module _ {C : Type 0} (holds : List ℕ → Views C → Type 0) where
       λ d low.
       at_front (first_words cpus) behind (own_word_index d) (omega arith)
       ∙ word_at_first cpus d low in
+      let mask : get_or words 8 0 ≡ 1 =
+      at_front (first_words cpus) behind 8 (omega (arith, long)) ∙ mask_at_first cpus in
       let first : Fits cpus words (λ _. 0) 0 [] 0 (engine_seat cpus 0 c) = record {
         seen = omega arith;
         base = refl;
         inside = λ r. absurd (cc);
         own = λ r. absurd (cc);
         sound = λ r. absurd (cc);
+        announced = λ r. absurd (cc);
         lone = λ r. refl;
         number = λ r. sym number;
         found = λ r. refl;
@@ -84,6 +118,7 @@ module _ {C : Type 0} (holds : List ℕ → Views C → Type 0) where
         room = omega arith;
         number = zero_is_number _ number;
         boot = let one : get_or words (own_word_index 0) 0 ≡ 1 = word 0 any in omega arith;
+        absent = λ d low none. word d low ∙ first_absent words d mask none;
         owner = λ _. 0;
         engine = 0;
         own_word_loads = [];

@@ -18,7 +18,7 @@ use Rattle.rcu_live.proofs.Frames.{changed, unseen}
 reported_later : (n word : ℕ) → reports_quiescence n word ≡ true → 0 < word → n < word
 reported_later n word told more = grind (arith, nat_tests)
 
-online_some : (own_word : ℕ) → may_open own_word ≡ true → 0 < own_word
+pub online_some : (own_word : ℕ) → may_open own_word ≡ true → 0 < own_word
 online_some own_word online = grind (arith, nat_tests)
 
 -- a section of a cleared processor is no older than the grace period, whichever word was found last
@@ -57,6 +57,7 @@ module _ {C : Type 0} (holds : List ℕ → Views C → Type 0) where
         inside = λ r. absurd (cc);
         own = λ r. absurd (cc);
         sound = λ r. absurd (cc);
+        announced = λ r. absurd (cc);
         lone = f.lone;
         number = f.number;
         found = λ r. ap (λ (l : List (ℕ × ℕ)). (own_word_index cpu, word) ∷ l) (f.found r);
@@ -87,6 +88,7 @@ module _ {C : Type 0} (holds : List ℕ → Views C → Type 0) where
                   (online_some u.own_word (t.online p o)) (t.from_own_word p o) (t.cleared p o runs)
                   told;
             };
+        announced = h.announced;
         lone = h.lone;
         number = h.number;
         found = λ r. absurd (apart (sym (h.lone r) ∙ f.lone engine));
@@ -98,7 +100,7 @@ module _ {C : Type 0} (holds : List ℕ → Views C → Type 0) where
         subst (λ (words : List ℕ).
             IsKept holds cpus record { words = words; homes = s.homes; views = set s.views id w })
             (sym (set-get_or s.words (own_word_index cpu) 0))
-            (changed holds cpus s k id w s.words now k.room k.number k.boot others mine
+            (changed holds cpus s k id w s.words now k.room k.number k.boot k.absent others mine
             (unseen holds cpus s k id v w s.words at refl refl)),
         (
           record {

@@ -1,5 +1,7 @@
 -- The begin store and the end store keep the rule.
-use Rattle.std.proofs.Common.{◌≡◌, ◌≢◌, ℕ, ◌+◌, ◌^◌, ◌<◌, ◌≤◌, List, [], length, get_or, set, true}
+use Rattle.std.proofs.Common.{◌≡◌, ◌≢◌, ℕ, ◌+◌, ◌%◌, ◌^◌, ◌<◌, ◌≤◌, List, [], length, get_or}
+use Rattle.std.proofs.Common.{set}
+use Rattle.std.proofs.Common.{true}
 use Rattle.std.proofs.Common.{false, refl, sym, ◌∙◌, subst, arith, length-set}
 use Rattle.std.proofs.lemmas.Bool.Decides.{nat_tests}
 use Rattle.std.proofs.lemmas.List.{drop-set-lt, get_or-set_other, get_or-set_same}
@@ -7,15 +9,16 @@ use mathlib.Core.Option.{some}
 use lib.ListN.{get_elem?}
 use Rattle.atomic_table.specs.Table.{State, Me, keeps, Allows}
 use Rattle.rcu_seq.specs.Numbers.{Number, is_running}
+use Rattle.rcu_node.specs.Words.{has_bit}
 use Rattle.rcu_live.specs.Client.{Views}
 use Rattle.rcu_live.specs.Numbers.{is_number_word, is_past}
 use Rattle.rcu_live.specs.Rule.{AreCleared, Fits, IsKept, IsSound, is_cleared}
 use Rattle.rcu_live.specs.View.{after_begin_store, after_end_store}
-use Rattle.rcu_live.specs.Words.{base_of, own_word_index}
+use Rattle.rcu_live.specs.Words.{base_of, own_word_index, mask_index}
 use Rattle.rcu_live.specs.declared.view.Role.TheVariants.{Engine}
 use Rattle.rcu_live.specs.declared.view.View.{View}
 use Rattle.rcu_live.proofs.Frames.{changed, unseen}
-use Rattle.rcu_live.proofs.Numbers.{number_apart}
+use Rattle.rcu_live.proofs.Numbers.{number_apart, mask_number}
 
 -- the number after a begin, and after an end
 begun_word : (n : Number) → is_number_word n ≡ true → is_running n ≡ false → n < 2 ^ 62
@@ -65,12 +68,15 @@ module _ {C : Type 0} (holds : List ℕ → Views C → Type 0) where
       let now : get_or words 0 0 ≡ n = get_or-set_same s.words 0 n 0 (omega arith) in
       let same : (c : ℕ) → get_or words (own_word_index c) 0 ≡ get_or s.words (own_word_index c) 0 =
       λ c. get_or-set_other s.words 0 (own_word_index c) n 0 (number_apart c) in
+      let mask : (c : ℕ) → get_or words (mask_index c) 0 ≡ get_or s.words (mask_index c) 0 =
+      λ c. get_or-set_other s.words 0 (mask_index c) n 0 (mask_number c) in
       let mine : Fits cpus words k.owner k.engine own_word_loads id w = record {
         seen = omega (arith, now);
         base = f.base;
         inside = λ r. absurd (cc);
         own = λ r. absurd (cc);
         sound = λ r. absurd (cc);
+        announced = λ r. absurd (cc);
         lone = f.lone;
         number = λ r. sym now;
         found = λ r. refl;
@@ -89,13 +95,17 @@ module _ {C : Type 0} (holds : List ℕ → Views C → Type 0) where
         sound =
             λ r. subst (λ (y : ℕ × ℕ). IsSound y.0 y.1 own_word_loads u)
             (λ i. (sym now i, sym (same u.cpu) i)) (sound u (h.sound r) (h.inside r));
+        announced = λ r e. subst (λ (x : ℕ). has_bit x (u.cpu % 64) ≡ true) (sym (mask u.cpu))
+            (h.announced r e);
         lone = h.lone;
         number = λ r. absurd (none r);
         found = λ r. absurd (none r);
         undealt = λ r. absurd (none r);
       } in
       changed holds cpus s k id w words own_word_loads (rw (length-set s.words 0 n) room)
-      (rw now legal) (rw (same 0) k.boot) others mine
+      (rw now legal) (rw (same 0) k.boot)
+      (λ c low none. same c
+      ∙ k.absent c low (subst (λ (x : ℕ). has_bit x (c % 64) ≡ false) (mask c) none)) others mine
       (unseen holds cpus s k id v w words at refl
       (drop-set-lt (base_of cpus) s.words 0 n (omega arith)))
 

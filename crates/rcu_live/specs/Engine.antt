@@ -89,6 +89,7 @@ pub record ArePieces {C X : Type 0} (cpus : ℕ) (view : View C) (grace : Grace 
   pub epoch : grace.seq.epoch ≡ 0
   pub idle : grace.seq.running ≡ false
   pub processors : cpus_of grace.processors ≡ cpus
+  pub dealt : view.cpu ≡ cpus
   pub already_quiescent : room ≡ cpus
 
 module _ {C : Type 0} where
@@ -128,8 +129,8 @@ module _ {X : Type 0} where
   }
 
 module _ {C X : Type 0} where
-  -- a grace period begins: its number is stored, and then each own word is loaded once, which found
-  -- these words
+  -- a grace period begins: its number is stored, and then each own word is found once, which are
+  -- these
   abbrev pub after_begin : Locked C X → (ℕ → ℕ) → Locked C X
   after_begin e word = record e {
     view = after_own_word_loads (after_begin_store e.view (next_number e.grace)) word e.cpus;

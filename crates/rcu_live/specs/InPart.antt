@@ -29,6 +29,7 @@ module _ {D C : Type 0} (lens : Lens D C) where
     own_word = v.own_word;
     section = v.section;
     own_word_loads = v.own_word_loads;
+    announced = v.announced;
     base = lens.begins v.base v.client;
     client = lens.get v.client;
   }

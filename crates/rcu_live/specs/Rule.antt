@@ -1,15 +1,18 @@
 -- The rule of the shared words: what holds of them and of all seats between any two atomic steps.
-use Rattle.std.specs.Prelude.{◌≡◌, ℕ, ◌+◌, ◌<◌, ◌≤◌, ◌==◌, ◌&&◌, ◌||◌, Bool, true, false, List, []}
+use Rattle.std.specs.Prelude.{◌≡◌, ℕ, ◌+◌, ◌%◌, ◌<◌, ◌≤◌, ◌==◌, ◌&&◌, ◌||◌, Bool, true, false}
+use Rattle.std.specs.Prelude.{List}
+use Rattle.std.specs.Prelude.{[]}
 use Rattle.std.specs.Prelude.{◌∷◌, Some, drop, length, map, slice_index}
 use mathlib.Core.Option.{some}
 use lib.ListN.{get_elem?}
 use Rattle.atomic_table.specs.Table.{State}
 use Rattle.rcu_seq.specs.Numbers.{Number, is_running}
+use Rattle.rcu_node.specs.Words.{has_bit}
 use Rattle.rcu_live.specs.Client.{Views}
 use Rattle.rcu_live.specs.Numbers.{is_number_word, is_own_word, is_past, may_open}
 use Rattle.rcu_live.specs.Numbers.{reports_quiescence}
 use Rattle.rcu_live.specs.View.{client_view}
-use Rattle.rcu_live.specs.Words.{base_of, first_own_word, own_word_index}
+use Rattle.rcu_live.specs.Words.{base_of, first_own_word, own_word_index, mask_index}
 use Rattle.rcu_live.specs.declared.view.Role.TheVariants.{Cpu, Engine}
 use Rattle.rcu_live.specs.declared.view.View.{View}
 
@@ -62,6 +65,8 @@ module _ {C : Type 0} where
     pub own : v.role ≡ Cpu → owner v.cpu ≡ id
     pub sound : v.role ≡ Cpu
         → IsSound (slice_index words 0) (slice_index words (own_word_index v.cpu)) own_word_loads v
+    pub announced : v.role ≡ Cpu → v.announced ≡ true
+        → has_bit (slice_index words (mask_index v.cpu)) (v.cpu % 64) ≡ true
     pub lone : v.role ≡ Engine → engine ≡ id
     pub number : v.role ≡ Engine → v.seen ≡ slice_index words 0
     pub found : v.role ≡ Engine → v.own_word_loads ≡ own_word_loads
@@ -73,6 +78,9 @@ module _ {C : Type 0} where
     pub room : base_of cpus ≤ length s.words
     pub number : is_number_word (slice_index s.words 0) ≡ true
     pub boot : 0 < slice_index s.words (own_word_index 0)
+    pub absent : (cpu : ℕ) → cpu < cpus
+        → has_bit (slice_index s.words (mask_index cpu)) (cpu % 64) ≡ false
+        → slice_index s.words (own_word_index cpu) ≡ 0
     pub owner : ℕ → ℕ
     pub engine : ℕ
     pub own_word_loads : List (ℕ × ℕ)

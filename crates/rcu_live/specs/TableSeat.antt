@@ -41,13 +41,25 @@ module _ {C : Type 0} where
     pub shut : v.section ≡ None
 
   -- this may be stored as the own word of a processor: by its seat, where no section is open; it is
-  -- one that the number seen allows, and that of processor 0 is never 0
+  -- one that the number seen allows, that of processor 0 is never 0, and that of an offline one
+  -- stays 0
   pub record MayStore (cpu word : ℕ) (v : View C) : Type 0 where
     pub role : v.role ≡ Cpu
     pub own : v.cpu ≡ cpu
     pub shut : v.section ≡ None
     pub bounded : is_own_word v.seen word ≡ true
     pub boot : cpu ≡ 0 → 0 < word
+    pub still : 0 < word → 0 < v.own_word
+
+  -- by the store of this word the processor may arrive: by its seat, where no section is open; it
+  -- is one that the number seen allows, and the processor's bit is set in its online mask
+  pub record MayArrive (cpu word : ℕ) (v : View C) : Type 0 where
+    pub role : v.role ≡ Cpu
+    pub own : v.cpu ≡ cpu
+    pub shut : v.section ≡ None
+    pub bounded : is_own_word v.seen word ≡ true
+    pub online : 0 < word
+    pub announced : v.announced ≡ true
 
   -- a grace period may begin by the store of this number: by the engine's seat, where none runs; it
   -- is the next one

@@ -1,5 +1,7 @@
 -- The views of seats: at the start, as they are dealt, and after each kind of step.
-use Rattle.std.specs.Prelude.{◌≡◌, ℕ, ◌+◌, ◌<◌, ◌≤◌, [], ◌∷◌, Option, Some, None, true, false}
+use Rattle.std.specs.Prelude.{◌≡◌, ℕ, zero, suc, ◌+◌, ◌-◌, ◌/◌, ◌%◌, ◌^◌, ◌<◌, ◌≤◌, List, []}
+use Rattle.std.specs.Prelude.{◌∷◌, Option, Some, None, true, false, length, min}
+use Rattle.std.specs.Int.{trailing_zeros, w64}
 use Rattle.rcu_seq.specs.Numbers.{Number}
 use Rattle.rcu_live.specs.Client.{ClientView}
 use Rattle.rcu_live.specs.Numbers.{is_number_word, is_past}
@@ -13,6 +15,18 @@ abbrev pub if_cpu : Role → Option ℕ → Option ℕ
 if_cpu Cpu o = o
 if_cpu Watcher o = None
 if_cpu Engine o = None
+
+-- how many processors from this one on, in a row, have no bit in this online mask of theirs, of the
+-- 64 that share it and of those that there are
+abbrev pub absent_from : ℕ → ℕ → ℕ → ℕ
+absent_from mask cpu cpus =
+    min (trailing_zeros w64 (mask / 2 ^ (cpu % 64))) (min (64 - cpu % 64) (cpus - cpu))
+
+-- behind other loads of own words, those of so many processors from one on, which found 0, in turn
+abbrev pub offline_loads : ℕ → ℕ → List (ℕ × ℕ) → List (ℕ × ℕ)
+offline_loads from zero earlier = earlier
+offline_loads from (suc more) earlier =
+    (own_word_index (from + more), 0) ∷ offline_loads from more earlier
 
 module _ {C : Type 0} where
   -- what a client is shown of a seat
@@ -30,6 +44,7 @@ module _ {C : Type 0} where
     own_word = own_word;
     section = None;
     own_word_loads = [];
+    announced = false;
     base = base;
     client = c;
   }
@@ -92,6 +107,14 @@ module _ {C : Type 0} where
   abbrev pub after_store : View C → ℕ → View C
   after_store v word = record v { stores = v.stores + 1; own_word = word }
 
+  -- after the processor's bit was set in its online mask
+  abbrev pub after_announcement : View C → View C
+  after_announcement v = record v { announced = true }
+
+  -- after the store by which the processor arrives
+  abbrev pub after_arrive_store : View C → ℕ → View C
+  after_arrive_store v word = record (after_store v word) { announced = false }
+
   -- what a number load tells: one load more, which saw n, a number that is at least all that the
   -- seat saw before; where a section is open at it, the section began no later than what the seat
   -- saw, and no full grace period lies since
@@ -120,6 +143,20 @@ module _ {C : Type 0} where
     loads = v.loads + 1;
     own_word_loads = (at, word) ∷ v.own_word_loads;
   }
+
+  -- after one load that found the own words of so many processors from one on to be 0: it counts as
+  -- a load of each
+  abbrev pub found_offline : View C → ℕ → ℕ → View C
+  found_offline v from more = record v {
+    loads = v.loads + more;
+    own_word_loads = offline_loads from more v.own_word_loads;
+  }
+
+  -- after a load of the online mask of the first processor whose own word was not loaded since the
+  -- latest begin: the own words of those that have no bit in it, from that one on in a row, are 0
+  abbrev pub after_online_mask_load : View C → ℕ → View C
+  after_online_mask_load v mask =
+      let next = length v.own_word_loads in found_offline v next (absent_from mask next v.cpu)
 
   -- after a begin store of the number n: what was found before it falls
   abbrev pub after_begin_store : View C → Number → View C

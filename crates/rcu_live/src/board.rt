@@ -1,19 +1,26 @@
 //! The shared words, and each kind of step on them in plain words.
-ghost use Rattle.std.specs.Prelude.{◌≡◌, ◌<◌, ◌^◌, [], IfOk, false};
+ghost use Rattle.std.specs.Prelude.{◌≡◌, ◌%◌, ◌<◌, ◌^◌, [], IfOk, false, length};
+ghost use Rattle.rcu_live.specs.declared.view.Role.TheVariants.{Cpu};
 ghost use Rattle.rcu_live.specs.Board.{IsCpuCount, IsSized};
-ghost use Rattle.rcu_live.specs.Numbers.{may_open};
-ghost use Rattle.rcu_live.specs.TableSeat.{IsSeatAt, IsSplit, MayBegin, MayEnd, MayOpen};
-ghost use Rattle.rcu_live.specs.TableSeat.{MayStore, Stepped};
+ghost use Rattle.rcu_live.specs.TableSeat.{IsSeatAt, IsSplit, MayArrive, MayBegin, MayEnd};
+ghost use Rattle.rcu_live.specs.TableSeat.{MayOpen, MayStore, Stepped};
 ghost use Rattle.rcu_live.specs.View.{Closed, IsOfEngine, Loaded, Opened, OwnWordLoaded};
-ghost use Rattle.rcu_live.specs.View.{after_begin_store, after_deal, after_end_store, after_store};
+ghost use Rattle.rcu_live.specs.View.{after_begin_store, after_deal, after_end_store};
+ghost use Rattle.rcu_live.specs.View.{after_arrive_store};
+ghost use Rattle.rcu_live.specs.View.{after_announcement};
+ghost use Rattle.rcu_live.specs.View.{after_online_mask_load};
+ghost use Rattle.rcu_live.specs.View.{after_store};
 ghost use Rattle.rcu_live.specs.View.{engine_seat, next_cpu_seat, watcher_seat};
 ghost use Rattle.rcu_live.specs.Words.{own_word_index};
 
 use crate::client::{Client, NoClient};
-use crate::rule::{Begin, Close, DealCpu, DealWatcher, End, Load, LoadOwn, Open, Store, Words};
+use crate::rule::{
+    Arrive, Begin, ClearOnlineBit, Close, DealCpu, DealWatcher, End, Load, LoadOnlineMask, LoadOwn,
+    Open, SetOnlineBit, Store, Words,
+};
 use crate::sleepers::Sleepers;
 use crate::view::View;
-use crate::words::{NUMBER, first_words, own_word_index};
+use crate::words::{NUMBER, first_words, mask_index, own_word_index};
 use atomic_table::{Seat, Table};
 use std::alloc::{AllocError, Global};
 use std::marker::Model;
@@ -236,6 +243,61 @@ impl<P: Client> Board<P> {
         self.table
             .shared
             .store::<Store>(seat, own_word_index(cpu), word)
+    }
+
+    /// Online-mask step: the processor's bit is set.
+    pub fn set_online_bit(&self, seat: &mut TableSeat<P>, cpu: u32)
+        requires table { seat.old.table_id ≡ self.now.table }
+        requires inside { own_word_index cpu < seat.old.table_id.words }
+        requires role { seat.old.me.0.role ≡ Cpu }
+        requires own { seat.old.me.0.cpu ≡ cpu }
+        ensures { Stepped (λ old new. new ≡ after_announcement old) seat.old seat.new }
+    {
+        self.table
+            .shared
+            .fetch_or::<SetOnlineBit>(seat, mask_index(cpu), 1 << (cpu % 64));
+    }
+
+    /// Online-mask step: the bit of the processor, whose own word is 0, is cleared.
+    pub fn clear_online_bit(&self, seat: &mut TableSeat<P>, cpu: u32)
+        requires table { seat.old.table_id ≡ self.now.table }
+        requires inside { own_word_index cpu < seat.old.table_id.words }
+        requires role { seat.old.me.0.role ≡ Cpu }
+        requires own { seat.old.me.0.cpu ≡ cpu }
+        requires offline { seat.old.me.0.own_word ≡ 0 }
+        requires settled { seat.old.me.0.announced ≡ false }
+        ensures { Stepped (λ old new. new ≡ old) seat.old seat.new }
+    {
+        self.table
+            .shared
+            .fetch_and::<ClearOnlineBit>(seat, mask_index(cpu), !(1 << (cpu % 64)));
+    }
+
+    /// Own-word store by which the processor arrives.
+    pub fn arrive(&self, seat: &mut TableSeat<P>, cpu: u32, word: u64)
+        requires table { seat.old.table_id ≡ self.now.table }
+        requires inside { own_word_index cpu < seat.old.table_id.words }
+        requires allowed { MayArrive cpu word seat.old.me.0 }
+        ensures { Stepped (λ old new. new ≡ after_arrive_store old word) seat.old seat.new }
+    {
+        self.table
+            .shared
+            .store::<Arrive>(seat, own_word_index(cpu), word)
+    }
+
+    /// Online-mask load, of the first processor whose own word was not loaded since the begin:
+    /// returns the mask. The own words of the next ones in a row that have no bit in it are 0.
+    pub fn load_online_mask(&self, seat: &mut TableSeat<P>, cpu: u32) -> u64
+        requires table { seat.old.table_id ≡ self.now.table }
+        requires engine { IsOfEngine seat.old.me.0 }
+        requires dealt { seat.old.me.0.cpu ≡ self.now.cpus }
+        requires inside { cpu < self.now.cpus }
+        requires next { length seat.old.me.0.own_word_loads ≡ cpu }
+        ensures { Stepped (λ old new. new ≡ after_online_mask_load old result) seat.old seat.new }
+    {
+        self.table
+            .shared
+            .load::<LoadOnlineMask>(seat, mask_index(cpu))
     }
 
     /// Processor-word load: returns the processor's own word.

@@ -63,6 +63,7 @@ impl<P: Client> Model for CpuSeat<P> {
       number : s.data.noted.number ≤ 2 ^ 62;
       epoch : s.data.noted.epoch ≡ 0;
       section : s.seat.me.0.section ≡ s.opened;
+      settled : s.seat.me.0.announced ≡ false;
       offline : s.data.online ≡ false → s.opened ≡ None;
       idle : s.data.idle ≡ true → s.opened ≡ None;
       shut : s.data.depth ≡ 0 → s.opened ≡ None;
@@ -404,9 +405,10 @@ impl<P: Client> CpuSeat<P> {
             return Err(Fault::AlreadyOnline);
         }
         let board = live.board();
+        board.set_online_bit(&mut self.seat, self.data.cpu());
         let number = board.load(&mut self.seat);
         self.data.arrive(Tag::of_first_epoch(number))?;
-        board.store_awake(&mut self.seat, self.data.cpu(), number + 1);
+        board.arrive(&mut self.seat, self.data.cpu(), number + 1);
         Ok(())
     }
 
@@ -430,7 +432,9 @@ impl<P: Client> CpuSeat<P> {
             self.data.depart()?;
         }
         let board = live.board();
-        live.stored(board.store(&mut self.seat, self.data.cpu(), 0));
+        let stored = board.store(&mut self.seat, self.data.cpu(), 0);
+        board.clear_online_bit(&mut self.seat, self.data.cpu());
+        live.stored(stored);
         Ok(again)
     }
 

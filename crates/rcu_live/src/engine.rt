@@ -57,6 +57,8 @@ impl<A: Awaited, T: Drop, P: Client> Model for Engine<A, T, P> {
       already_quiescent : length e.by_word.already_quiescent ≡ (arc_value e.board).cpus;
       awaited : AwaitsTheOthers (arc_value e.board).cpus e.seat.me.0.own_word_loads e.gp.grace;
       same : e.by_word.awaited ≡ e.gp.grace.processors.awaited;
+      dealt : e.seat.me.0.cpu ≡ (arc_value e.board).cpus;
+      online : e.by_word.online ≡ e.gp.grace.processors.online;
     } };
 }
 
@@ -72,6 +74,7 @@ impl<A: Awaited, T: Drop, P: Client> Engine<A, T, P> {
         requires pieces { ArePieces (arc_value board).cpus seat.me.0 gp.grace
             (length by_word.already_quiescent) }
         requires awaited { by_word.awaited ≡ gp.grace.processors.awaited }
+        requires online { by_word.online ≡ gp.grace.processors.online }
         ensures { result ≡ record {
           table = (arc_value board).table;
           cpus = (arc_value board).cpus;

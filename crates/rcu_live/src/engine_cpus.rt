@@ -10,22 +10,27 @@ ghost use Rattle.rcu_live.specs.Runs.{Call, Makes};
 
 use crate::client::Client;
 use crate::engine::Engine;
-use rcu_node::{Awaited, CpuSet};
+use crate::word_sets::WordSets;
+use rcu_node::Awaited;
 use rcu_seq::Fault;
 use rcu_state::GpState;
 
 /// The processor departs, unless a begin has found it gone, and is awaited no more.
 #[tactic(auto, using(crate::proofs::Departures::departed))]
-fn depart<A: Awaited, T: Drop>(gp: &mut GpState<A, T>, awaited: &mut CpuSet, cpu: u32)
+fn depart<A: Awaited, T: Drop>(gp: &mut GpState<A, T>, by_word: &mut WordSets, cpu: u32)
     requires cpu { cpu < cpus_of gp.old.grace.processors }
     requires other { cpu ≢ 0 }
-    requires awaited { awaited.old ≡ gp.old.grace.processors.awaited }
+    requires awaited { by_word.old.awaited ≡ gp.old.grace.processors.awaited }
+    requires online { by_word.old.online ≡ gp.old.grace.processors.online }
     ensures state { gp.new.grace ≡ with_departure gp.old.grace cpu }
-    ensures awaited { awaited.new ≡ gp.new.grace.processors.awaited }
+    ensures awaited { by_word.new.awaited ≡ gp.new.grace.processors.awaited }
+    ensures online { by_word.new.online ≡ gp.new.grace.processors.online }
+    ensures already_quiescent { by_word.new.already_quiescent ≡ by_word.old.already_quiescent }
 {
     if gp.online(cpu) {
         let _ = gp.depart(cpu);
-        awaited.remove(cpu);
+        by_word.awaited.remove(cpu);
+        by_word.online.remove(cpu);
     }
 }
 
@@ -36,7 +41,9 @@ impl<A: Awaited, T: Drop, P: Client> Engine<A, T, P> {
         requires { cpu < self.old.cpus }
         ensures { Makes (Call.Join cpu) self.old self.new }
     {
-        let _ = self.gp.arrive(cpu);
+        if cpu < self.gp.cpus() && self.gp.arrive(cpu).is_ok() {
+            self.by_word.online.insert(cpu);
+        }
     }
 
     /// The processor is offline here too: loads its own word, and where that is 0 the processor
@@ -69,7 +76,7 @@ impl<A: Awaited, T: Drop, P: Client> Engine<A, T, P> {
         if again && self.gp.is_list_empty(cpu) {
             return Err(Fault::Offline);
         }
-        depart(&mut self.gp, &mut self.by_word.awaited, cpu);
+        depart(&mut self.gp, &mut self.by_word, cpu);
         self.gp.migrate(cpu)
     }
 }

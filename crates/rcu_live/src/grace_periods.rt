@@ -43,9 +43,10 @@ impl Collected {
 }
 
 impl<A: Awaited, T: Drop, P: Client> Engine<A, T, P> {
-    /// A grace period begins: stores its number, and then loads each processor's own word once.
-    /// Online are the processors whose word is not 0, and awaited those of them whose word is at
-    /// most the number. Returns the number, and how many it awaits.
+    /// A grace period begins: stores its number, and then finds each processor's own word once: by
+    /// a load of it, or of an online mask, which tells of the next ones in a row that are 0. Online
+    /// are the processors whose word is not 0, and awaited those of them whose word is at most the
+    /// number. Returns the number, and how many it awaits.
     ///
     /// Faults: `Running` (8) where one runs; `Exhausted` (11) where the number is the last one.
     pub fn begin(&mut self) -> Result<(u64, u32), Fault>

@@ -211,6 +211,7 @@ fn make_state<const LEAF: u32, const FAN: u32, T: Drop>(
     ensures state { IfOk result (λ made. made.0.grace ≡ grace.at_first cpus last most) }
     ensures already_quiescent { IfOk result (λ made. length made.1.already_quiescent ≡ cpus) }
     ensures awaited { IfOk result (λ made. made.1.awaited ≡ made.0.grace.processors.awaited) }
+    ensures online { IfOk result (λ made. made.1.online ≡ made.0.grace.processors.online) }
 {
     let (Ok(tree), Ok(by_word)) = (Tree::new(alloc, cpus), WordSets::new(alloc, cpus)) else {
         return Err(AllocError);

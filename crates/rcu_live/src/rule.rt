@@ -60,6 +60,41 @@ impl<S, C> Play<S, View<C>> for Store {
     ghost then = { λ step me _ now. (now.0 ≡ after_store me.0 step.first) × (now.1 ≡ me.1) };
 }
 
+/// Online-mask step: the processor's bit is set.
+pub struct SetOnlineBit;
+
+impl<S, C> Play<S, View<C>> for SetOnlineBit {
+    ghost use Rattle.rcu_live.specs.View.{after_announcement};
+
+    ghost then = { λ _ me _ now. (now.0 ≡ after_announcement me.0) × (now.1 ≡ me.1) };
+}
+
+/// Own-word store by which the processor arrives.
+pub struct Arrive;
+
+impl<S, C> Play<S, View<C>> for Arrive {
+    ghost use Rattle.rcu_live.specs.View.{after_arrive_store};
+
+    ghost then = { λ step me _ now.
+        (now.0 ≡ after_arrive_store me.0 step.first) × (now.1 ≡ me.1) };
+}
+
+/// Online-mask step: the processor's bit is cleared.
+pub struct ClearOnlineBit;
+
+impl<S, C> Play<S, View<C>> for ClearOnlineBit {
+    ghost then = { λ _ me _ now. (now.0 ≡ me.0) × (now.1 ≡ me.1) };
+}
+
+/// Online-mask load.
+pub struct LoadOnlineMask;
+
+impl<S, C> Play<S, View<C>> for LoadOnlineMask {
+    ghost use Rattle.rcu_live.specs.View.{after_online_mask_load};
+
+    ghost then = { λ _ me mask now. (now.0 ≡ after_online_mask_load me.0 mask) × (now.1 ≡ me.1) };
+}
+
 /// Processor-word load.
 pub struct LoadOwn;
 

@@ -15,7 +15,8 @@ pub struct View<C> {
     pub cpu: u32,
     /// The greatest number seen; of the engine's seat the number.
     pub seen: u64,
-    /// How many loads the seat made.
+    /// How many loads the seat made. One of an online mask counts once for each own word of which
+    /// it tells.
     pub loads: u64,
     /// How many times the seat stored its processor's own word.
     pub stores: u64,
@@ -25,6 +26,8 @@ pub struct View<C> {
     pub section: Option<u64>,
     /// The engine's loads of own words since the latest begin, the newest first: place and word.
     pub own_word_loads: LinkedList<(u64, u64)>,
+    /// The processor's bit is set in its online mask, and it is about to arrive.
+    pub announced: bool,
     /// The place where the client's words begin.
     pub base: u64,
     /// What the client has seen.

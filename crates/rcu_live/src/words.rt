@@ -1,14 +1,21 @@
 //! Where the shared words stand.
 ghost use Rattle.std.specs.Prelude.{◌≡◌, ◌<◌, ◌≤◌, IfOk};
-ghost use Rattle.rcu_live.specs.Words.{first_words, own_word_index};
+ghost use Rattle.rcu_live.specs.Words.{first_words, own_word_index, mask_index};
 
 use std::alloc::{AllocError, Global};
 
 /// The place of the number word.
 pub const NUMBER: usize = 0;
 
+/// How many words a cache line has. The second line of each 128 bytes is none of an own word, and
+/// has as many online masks, which change where a processor arrives or departs alone.
+const LINE: u32 = 8;
+
+/// How many processors share an online mask.
+const MASK_BITS: u32 = 64;
+
 /// How far apart the words stand: 128 bytes, so that no two share a cache line, nor a pair of lines
-/// that a processor fetches together. The words between are never named by a step.
+/// that a processor fetches together. Of the words between, online masks alone are named by a step.
 const APART: usize = 16;
 
 /// The own word of processor 0 at the start: it is online, and the number is 0.
@@ -22,12 +29,22 @@ pub fn own_word_index(cpu: u32) -> usize
     APART * (cpu as usize + 1)
 }
 
-/// The engine's words at the start: the number is 0, and processor 0 alone is online.
+/// The place of a processor's online mask, which it shares with 63 others.
+pub fn mask_index(cpu: u32) -> usize
+    ensures { result ≡ mask_index cpu }
+{
+    let mask = cpu / MASK_BITS;
+    APART * (mask / LINE) as usize + (LINE + mask % LINE) as usize
+}
+
+/// The engine's words at the start: the number is 0, and processor 0 alone is online and has its
+/// bit in its online mask.
 pub fn first_words(alloc: Global, cpus: u32) -> Result<Vec<u64>, AllocError>
     requires { 0 < cpus }
     ensures { IfOk result (λ words. words.items ≡ first_words cpus) }
 {
     let mut words = vec![in alloc; 0u64; own_word_index(cpus)]?;
     words[own_word_index(0)] = BOOT_WORD;
+    words[mask_index(0)] = 1;
     Ok(words)
 }

@@ -1,4 +1,4 @@
-use Rattle.std.proofs.Common.{◌≡◌, ◌<◌, ◌≤◌, ◌==◌, false, not, nat_lt, length, ℕ}
+use Rattle.std.proofs.Common.{◌≡◌, ◌-◌, ◌<◌, ◌≤◌, ◌==◌, false, not, nat_lt, length, ℕ}
 use Rattle.rcu_node.specs.CpuSet.{is_in}
 use Rattle.rcu_hotplug.specs.Hotplug.{cpus_of}
 use Rattle.rcu_live.specs.Engine.{after_own_word_loads, loaded_word}
@@ -26,3 +26,9 @@ invariant-loop-cpu g l =
     × ((c : ℕ) → l.cpu ≤ c → is_in l.by_word.already_quiescent c ≡ false)
     × ((c : ℕ) → l.cpu ≤ c → is_in l.by_word.awaited c ≡ false)
     × (l.by_word.number ≡ l.initial.by_word.number)
+    × (l.cpu ≤ l.board.cpus)
+    × (l.by_word.online ≡ l.gp.grace.processors.online)
+    × (l.cpu ≡ 0 → l.mask ≡ 1)
+
+abbrev pub decreases-loop-cpu : goal.decreases-loop-cpu
+decreases-loop-cpu g l = l.board.cpus - l.cpu

@@ -1,6 +1,11 @@
-use Rattle.std.proofs.Common.{◌≤◌, arith}
+use Rattle.std.proofs.Common.{◌≤◌, ◌∙◌, sym, arith}
+use Rattle.rcu_node.proofs.CpuSetLemmas.{nobody_in}
 use Rattle.rcu_live.proofs.NextCpus.{first_of, nobody_left, none_of}
 use Rattle.rcu_live.proofs.next_cpu.next_from.Goals as goal
+
+pub returns-then-count-eq0-clause-none : goal.returns-then-count-eq0-clause-none
+returns-then-count-eq0-clause-none c =
+    λ _ cpu far. nobody_in c.args.set.now (sym c.count.ensures ∙ c.if-count-eq0.true) cpu
 
 pub returns-then-flags-ne0-clause-first : goal.returns-then-flags-ne0-clause-first
 returns-then-flags-ne0-clause-first c =

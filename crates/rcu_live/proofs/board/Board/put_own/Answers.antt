@@ -9,5 +9,6 @@ store-requires g c =
       search rules,
       stores (g.P.Client.holds _) _ _ _ _ _ _ _ r.role r.own c.own_word_index.ensures r.shut
           r.bounded
-          r.boot,
+          r.boot
+          r.still,
     )

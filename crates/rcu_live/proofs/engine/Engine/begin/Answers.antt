@@ -76,6 +76,10 @@ invariant_of-self g c =
           (λ (n : ℕ). listed cpus (λ d. not (reports_quiescence n (loaded_word own_word_loads d))))
           (c.start.ensures.number ∙ number)
           ∙ sym (ap (λ (y : Grace g.row.T.Denot). y.processors.awaited) state);
+      dealt = ap (λ (v : View g.row.P-Known.Denot). v.cpu) view ∙ i.dealt;
+      online =
+          f.online ∙ f.state.these
+          ∙ sym (ap (λ (y : Grace g.row.T.Denot). y.processors.online) state);
     }
 
 -- where a begin is not refused no grace period runs

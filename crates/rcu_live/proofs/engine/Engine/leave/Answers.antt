@@ -19,6 +19,8 @@ invariant_of-self-2 g c =
           moved_awaits _ _ c.depart.new.gp.grace c.migrate.new.self.grace c.args.cpu
           c.migrate.result c.migrate.ensures.state c.migrate.ensures.unchanged (search rules);
       same = c.depart.ensures.awaited ∙ ap (λ (p : Processors). p.awaited) (sym moved);
+      dealt = search rules;
+      online = c.depart.ensures.online ∙ ap (λ (p : Processors). p.online) (sym moved);
     }
 
 pub returns-clause-fault : goal.returns-clause-fault

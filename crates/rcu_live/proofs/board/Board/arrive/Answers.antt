@@ -1,0 +1,14 @@
+use Rattle.std.proofs.Common.{rules}
+use Rattle.rcu_live.proofs.Stores.{arrives}
+use Rattle.rcu_live.proofs.board.Board.arrive.Goals as goal
+
+pub store-requires : goal.store-requires
+store-requires g c =
+    let r = c.requires.allowed in (
+      search rules,
+      search rules,
+      arrives (g.P.Client.holds _) _ _ _ _ _ _ _ r.role r.own c.own_word_index.ensures r.shut
+          r.bounded
+          r.online
+          r.announced,
+    )
