@@ -2,15 +2,13 @@
 ghost use Rattle.std.specs.Prelude.{◌≡◌, ◌%◌, ◌<◌, ◌^◌, [], IfOk, false, length};
 ghost use Rattle.rcu_live.specs.declared.view.Role.TheVariants.{Cpu};
 ghost use Rattle.rcu_live.specs.Board.{IsCpuCount, IsSized};
+ghost use Rattle.rcu_live.specs.Numbers.{may_open};
 ghost use Rattle.rcu_live.specs.TableSeat.{IsSeatAt, IsSplit, MayArrive, MayBegin, MayEnd};
 ghost use Rattle.rcu_live.specs.TableSeat.{MayOpen, MayStore, Stepped};
 ghost use Rattle.rcu_live.specs.View.{Closed, IsOfEngine, Loaded, Opened, OwnWordLoaded};
-ghost use Rattle.rcu_live.specs.View.{after_begin_store, after_deal, after_end_store};
-ghost use Rattle.rcu_live.specs.View.{after_arrive_store};
-ghost use Rattle.rcu_live.specs.View.{after_announcement};
-ghost use Rattle.rcu_live.specs.View.{after_online_mask_load};
-ghost use Rattle.rcu_live.specs.View.{after_store};
-ghost use Rattle.rcu_live.specs.View.{engine_seat, next_cpu_seat, watcher_seat};
+ghost use Rattle.rcu_live.specs.View.{after_announcement, after_arrive_store, after_begin_store};
+ghost use Rattle.rcu_live.specs.View.{after_deal, after_end_store, after_online_mask_load};
+ghost use Rattle.rcu_live.specs.View.{after_store, engine_seat, next_cpu_seat, watcher_seat};
 ghost use Rattle.rcu_live.specs.Words.{own_word_index};
 
 use crate::client::{Client, NoClient};
