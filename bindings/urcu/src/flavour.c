@@ -17,6 +17,8 @@ const struct rcu_flavor_struct CALL(flavor) = {
     .barrier = CALL(barrier),
     .register_rculfhash_atfork = CALL(register_rculfhash_atfork),
     .unregister_rculfhash_atfork = CALL(unregister_rculfhash_atfork),
+    .update_start_poll_synchronize_rcu = CALL(start_poll_synchronize_rcu),
+    .update_poll_state_synchronize_rcu = CALL(poll_state_synchronize_rcu),
 };
 
 void CALL(init)(void) {}
@@ -27,6 +29,10 @@ void CALL(exit)(void) {}
 
 SHARED_NAME void *rcu_dereference_sym(void *p) {
     return p;
+}
+
+SHARED_NAME void *rcu_dereference_sym2(void **at) {
+    return rcu_dereference(*at);
 }
 
 SHARED_NAME void *rcu_set_pointer_sym(void **at, void *v) {

@@ -46,6 +46,16 @@ EXCEPTIONS = {
         __uatomic_and __uatomic_cmpxchg __uatomic_dec __uatomic_exchange __uatomic_inc __uatomic_or
         _uatomic_add _uatomic_add_return _uatomic_and _uatomic_cmpxchg _uatomic_dec _uatomic_inc
         _uatomic_link_error _uatomic_or _uatomic_set _uatomic_xchg""",
+    # By which 0.15 counts the arguments of uatomic_add and so on, and looks at their size.
+    "parts of uatomic in 0.15": """
+        _uatomic_default_mo _uatomic_default_mo2 _uatomic_select_arg1 _uatomic_select_arg2
+        _uatomic_has_atomic_type _uatomic_static_assert_atomic _uatomic_str _uatomic_xstr
+        _UATOMIC_HAS_ATOMIC_BYTE_FLAG _UATOMIC_HAS_ATOMIC_SHORT_FLAG _UATOMIC_HAS_ATOMIC_INT_FLAG
+        _UATOMIC_HAS_ATOMIC_LLONG_FLAG _UATOMIC_HAS_ATOMIC_MASK _cmm_static_assert__atomic_lf
+        _cmm_compat_c11_smp_mb__after_mo _cmm_compat_c11_smp_mb__before_mo
+        _cmm_compat_c11_smp_mb__after_uatomic_load_mo _cmm_compat_c11_smp_mb__after_uatomic_store_mo
+        _cmm_compat_c11_smp_mb__before_uatomic_load_mo
+        _cmm_compat_c11_smp_mb__before_uatomic_store_mo""",
     # Set by the header for itself, where the compiler is old enough.
     "how rcu_dereference is made": "__URCU_DEREFERENCE_USE_ATOMIC_CONSUME",
 }

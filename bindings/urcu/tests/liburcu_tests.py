@@ -15,8 +15,9 @@ import tarfile
 VERSION = "0.13.2-1"
 ARCHIVE = "liburcu_0.13.2.orig.tar.bz2"
 CHECKSUM = "1213fd9f1b0b74da7de2bb74335b76098db9738fec5d3cdc07c0c524f34fc032"
-SOURCE = "deb-src [signed-by=/usr/share/keyrings/debian-archive-keyring.gpg] " \
+SOURCE = "{} [signed-by=/usr/share/keyrings/debian-archive-keyring.gpg] " \
          "http://deb.debian.org/debian {} main\n"
+LATER, LATER_SUITE = "0.15.2-2", "trixie"
 BINDING = os.path.dirname(os.path.dirname(os.path.realpath(__file__)))
 FLAGS = ["-std=gnu11", "-O2", "-g", "-w", "-D_GNU_SOURCE", "-DHAVE_GETTID=1", "-DHAVE_RAND_R=1",
          "-DHAVE_SCHED_GETCPU=1", "-DHAVE_SCHED_SETAFFINITY=1", "-DHAVE_CPU_SET_T=1",
@@ -56,6 +57,17 @@ def package():
         [f"-L{libraries[0]}", f"-Wl,-rpath,{libraries[0]}"]
 
 
+def later_headers():
+    """Where the headers of a later release are unpacked, or None where they are not to be had."""
+    folder = f"{BINDING}/out/liburcu-{LATER}"
+    if not os.path.isdir(f"{folder}/usr"):
+        fetch(folder, f"liburcu-dev={LATER}", LATER_SUITE, "deb")
+        for it in glob.glob(f"{folder}/*.deb"):
+            run(["dpkg-deb", "-x", it, folder])
+    found = glob.glob(f"{folder}/usr/include/*-linux-gnu")
+    return found[0] if found else None
+
+
 def is_whole(path, checksum=CHECKSUM):
     if not os.path.isfile(path):
         return False
@@ -63,20 +75,21 @@ def is_whole(path, checksum=CHECKSUM):
         return hashlib.sha256(file.read()).hexdigest() == checksum
 
 
-def fetch(folder, package=f"liburcu={VERSION}", suites="bookworm"):
-    """The package's archive, by apt."""
+def fetch(folder, package=f"liburcu={VERSION}", suites="bookworm", kind="deb-src"):
+    """The package's archive, or (deb) what it installs, by apt."""
     if not shutil.which("apt-get"):
         return
     for it in ("lists/partial", "cache/archives/partial"):
         os.makedirs(f"{folder}/{it}", exist_ok=True)
     with open(f"{folder}/sources.list", "w", encoding="utf-8") as file:
-        file.writelines(SOURCE.format(it) for it in suites.split())
+        file.writelines(SOURCE.format(kind, it) for it in suites.split())
     with open(f"{folder}/apt.conf", "w", encoding="utf-8") as file:
         file.write(f'Dir::Etc::SourceList "{folder}/sources.list";\nDir::Etc::SourceParts "-";\n'
                    f'Dir::State::Lists "{folder}/lists";\nDir::Cache "{folder}/cache";\n'
                    'APT::Sandbox::User "";\n')
     environment = {**os.environ, "APT_CONFIG": f"{folder}/apt.conf"}
-    for words in (["update"], ["source", "--download-only", package]):
+    words = ["download"] if kind == "deb" else ["source", "--download-only"]
+    for words in (["update"], [*words, package]):
         run(["apt-get", "-q", *words], cwd=folder, env=environment)
 
 

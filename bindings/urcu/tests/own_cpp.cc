@@ -1,4 +1,5 @@
 // The interface in C++: sections in a constructor before main, and in a destructor of a thread.
+#include "orders.h"
 #ifdef USE_QSBR
 #include <urcu-qsbr.h>
 #elif defined(USE_BP)
@@ -64,5 +65,5 @@ int main() {
     call_rcu(&first->head, free_node);
     rcu_barrier();
     rcu_unregister_thread();
-    return seen == 12 && freed == 1 ? 0 : 1;
+    return seen == 12 && freed == 1 && orders() ? 0 : 1;
 }

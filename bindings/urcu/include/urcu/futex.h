@@ -5,6 +5,7 @@
 #include <stdint.h>
 #include <time.h>
 #include <urcu/arch.h>
+#include <urcu/assert.h>
 #include <urcu/syscall-compat.h>
 
 #define FUTEX_WAIT 0

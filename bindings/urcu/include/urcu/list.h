@@ -36,7 +36,7 @@ static inline void cds_list_move(struct cds_list_head *it, struct cds_list_head 
     cds_list_del(it);
     cds_list_add(it, head);
 }
-static inline void cds_list_replace(struct cds_list_head *old, struct cds_list_head *it) {
+static inline void cds_list_replace(const struct cds_list_head *old, struct cds_list_head *it) {
     cds_list_link_(it, old->next);
     cds_list_link_(old->prev, it);
 }
