@@ -98,9 +98,11 @@ static SLOW void look_at_pressure(void) {
     if (too_many && !CALL(read_ongoing)() && self.worker != worker) wait_for_progress(was_taken);
 }
 
+static __thread unsigned since_look __attribute__((tls_model("initial-exec")));
+
 void urcu_cpp_retire(struct rcu_head *head, void (*run)(struct rcu_head *head)) {
-    static __thread unsigned since_look;
-    CALL(call_rcu)(head, run);
+    head->func = run;
+    push(default_worker(), head);
     if (likely(++since_look < LOOK_EVERY)) return;
     since_look = 0;
     look_at_pressure();

@@ -1,10 +1,11 @@
-"""Faults of the header and of cpp.c: each is planted in a copy, and has to be found in every run. A
-row has the file, the text that is there once, what stands in its place, and what finds it: a test
-of the wording, or MODEL, whose quotes are then not the code's. Of what the clock or chance would
-have to find, the model finds that the code is not what was tried."""
+"""Faults of the header, of cpp.c and of what they want of the layer (callbacks.c of bindings/urcu):
+each is planted in a copy, and has to be found in every run. A row has the file, the text that is
+there once, what stands in its place, and what finds it: a test of the wording, or MODEL, whose
+quotes are then not the code's. Of what the clock or chance would have to find, the model finds that
+the code is not what was tried."""
 
 MODEL = "the model"
-HEADER, CPP = "include/rcu", "src/cpp.c"
+HEADER, CPP, LAYER = "include/rcu", "src/cpp.c", "src/callbacks.c"
 FAULTS = {
     "lock opens no region": (
         HEADER, "            __atomic_store_n(&place->depth, depth + 1, __ATOMIC_RELAXED);\n", "",
@@ -55,6 +56,9 @@ FAULTS = {
         CPP, " && !in_hand());", ");", "func_5_barrier_during_an_evaluation"),
     "a barrier passes over what is listed": (
         CPP, "(!atomic_load(&worker->last) && !in_hand())", "!in_hand()", "func_4_5_barrier"),
+    "a worker does not say that it has a batch in hand": (
+        LAYER, "atomic_store(&worker->running, last != 0);", "atomic_store(&worker->running, 0);",
+        MODEL),
     "a barrier with nothing to wait for waits": (
         CPP, "    if (nothing_waits()) return;\n", "", "func_5_barrier_alone"),
     "a barrier in a region waits for itself": (

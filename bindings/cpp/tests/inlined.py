@@ -93,7 +93,7 @@ over:
 """
 # The barrier: if the list is empty and nothing is in hand, all that was retired has been evaluated.
 RETIRES_AND_LOOKS = """
-    x = swap last 1                       | CALL(call_rcu)(head, run);
+    x = swap last 1                       | push(default_worker(), head);
     lock !                                | hold();
     l = last !                            | !atomic_load(&worker->last)
     r = running !                         | !in_hand()
