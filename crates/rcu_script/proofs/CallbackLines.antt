@@ -22,7 +22,7 @@ use Rattle.rcu_script.proofs.PolledLemmas.{asked_line}
 use Rattle.rcu_script.proofs.ScriptRunLemmas.{lines_from_first}
 
 -- texts that are equal have equal bytes
-byte_at : (place : ℕ) {a b : List ℕ} → a ≡ b → get_or a place 0 ≡ get_or b place 0
+pub byte_at : (place : ℕ) {a b : List ℕ} → a ≡ b → get_or a place 0 ≡ get_or b place 0
 byte_at place e = ap (λ (l : List ℕ). get_or l place 0) e
 
 -- `f` is not `r`
@@ -30,7 +30,7 @@ no_f : {P : Type 0} → ◌≡◌ {A = ℕ} 102 114 → P
 no_f e = absurd (omega (arith, e))
 
 -- the reply is legal after a run that leads to this history
-legal_after : (size : Size) (run : Run) (h : History) (e : Event) (r q : Reply)
+pub legal_after : (size : Size) (run : Run) (h : History) (e : Event) (r q : Reply)
     → history run ≡ h → r ≡ q → IsLegalReply size (situation h) e r
     → IsLegalReply size (situation (history run)) e q
 legal_after size run h e r q reached is legal =

@@ -1,5 +1,6 @@
 pub mod AnswerLemmas
 pub mod CallbackLines
+pub mod EndedLines
 pub mod ExactLemmas
 pub mod FrontLemmas
 pub mod ListLemmas

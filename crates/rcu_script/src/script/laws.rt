@@ -1,10 +1,12 @@
 //! What the definitions say of the lines of a script.
-ghost use Rattle.std.specs.Prelude.{◌≡◌, ◌≢◌, ◌<◌, ◌≤◌, ◌∷◌, ◌++◌, false, true, ℕ, List, [], Some};
-ghost use Rattle.std.specs.Prelude.{All, codes, map};
+ghost use Rattle.std.specs.Prelude.{◌≡◌, ◌≢◌, ◌<◌, ◌≤◌, ◌+◌, ◌∷◌, ◌++◌, false, true, ℕ, List, []};
+ghost use Rattle.std.specs.Prelude.{Some, All, codes, map};
+ghost use Rattle.rcu_seq.specs.Numbers.{number_at};
 ghost use Rattle.rcu_seq.specs.declared.cookie.Cookie.{Cookie};
 ghost use Rattle.rcu_core.specs.Callbacks.{handed_out, has_full_period, queued_before_barrier};
 ghost use Rattle.rcu_core.specs.Callbacks.{since, times_handed_out};
-ghost use Rattle.rcu_core.specs.History.{History, section};
+ghost use Rattle.rcu_core.specs.History.{History, ends_in_epoch, running, section};
+ghost use Rattle.rcu_core.specs.Links.{ToldSince, starts, tag};
 ghost use Rattle.rcu_core.specs.Replies.{Size};
 ghost use Rattle.rcu_core.specs.Runs.{IsLegalRun, Run, history, takes};
 ghost use Rattle.rcu_text.specs.Lines.{lines_of};
@@ -18,7 +20,11 @@ use rcu_core::laws::{
     barrier_covers_earlier_callbacks, no_callback_runs_early, no_callback_runs_twice,
     readers_finish_before_done,
 };
+use rcu_core::progress::{
+    heard_processors_let_a_grace_period_end, the_last_report_lets_a_grace_period_end,
+};
 use rcu_core::{Event, Reply};
+use rcu_node::Answer;
 use rcu_text::Line;
 use rcu_text::laws::{lines_are_pieces, lines_read_whole_come_first};
 
@@ -144,4 +150,36 @@ pub fn a_barrier_printed_done_covers_earlier_callbacks()
         → 0 < ord → ord ≤ queued_before_barrier at_test → times_handed_out ord at_test ≡ 1 }
 {
     barrier_covers_earlier_callbacks();
+}
+
+/// An end after `last` is printed `ended`: if a line was answered `last`, of a delivered report or
+/// a scan, then a next line that asks for the end is answered `ended` and the number that ends the
+/// running grace period.
+pub fn an_end_after_last_is_printed_ended()
+    ensures { (size : Size) (before : List (List ℕ)) (telling ending told text : List ℕ)
+        (event : Event) (at_last at_end end : History)
+        → Answers size [] before told at_last
+        → asked_by telling ≡ Line.Ask event
+        → Answers size at_last (telling ∷ []) (text_of (Reply.Answer Answer.Last)) at_end
+        → asked_by ending ≡ Line.Ask Event.End
+        → Answers size at_end (ending ∷ []) text end
+        → text ≡ text_of (Reply.Ended (number_at (ends_in_epoch at_end + 1) false)) }
+{
+    the_last_report_lets_a_grace_period_end();
+}
+
+/// An end is printed `ended` once each processor was heard: if each one that was online at the
+/// begin has noted the number, passed a quiescent state and had its report delivered since, or was
+/// scanned or departed, a line that asks for the end is answered `ended`, whatever other lines came
+/// between.
+pub fn an_end_is_printed_ended_once_all_were_heard()
+    ensures { (size : Size) (before : List (List ℕ)) (ending told text : List ℕ)
+        (at_end end : History) → Answers size [] before told at_end → running at_end ≡ true
+        → ((cpu : ℕ) → cpu < size.cpus → starts cpu at_end ≡ true
+        → ToldSince cpu (tag at_end) at_end)
+        → asked_by ending ≡ Line.Ask Event.End
+        → Answers size at_end (ending ∷ []) text end
+        → text ≡ text_of (Reply.Ended (number_at (ends_in_epoch at_end + 1) false)) }
+{
+    heard_processors_let_a_grace_period_end();
 }
