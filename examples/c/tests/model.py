@@ -70,4 +70,4 @@ PROTOCOLS = {
 }
 
 if __name__ == "__main__":
-    sys.exit(try_all(PROTOCOLS, [f"{HERE}/../driver.h", OWN]))
+    sys.exit(try_all(PROTOCOLS, [f"{HERE}/../driver.h", f"{OWN}/sleeps.rt"]))
