@@ -1,18 +1,16 @@
 -- The steps on the online masks keep the rule.
-use Rattle.std.proofs.Common.{◌≡◌, ◌≢◌, ◌⊎◌, ℕ, zero, suc, ◌+◌, ◌-◌, ◌*◌, ◌/◌, ◌%◌, ◌^◌, ◌<◌}
+use Rattle.std.proofs.Common.{◌≡◌, ◌≢◌, ℕ, zero, suc, ◌+◌, ◌-◌, ◌*◌, ◌/◌, ◌%◌, ◌^◌, ◌<◌}
 use Rattle.std.proofs.Common.{◌≤◌}
 use Rattle.std.proofs.Common.{◌==◌, ◌&&◌, List}
-use Rattle.std.proofs.Common.{Bool, true, false, get_or, set, length, refl, sym, ap}
-use Rattle.std.proofs.Common.{◌∙◌, subst, arith, ⊎_elim, inl, inr, length-set, eq-eqb, ne_eqb}
-use Rattle.std.specs.Prelude.{if◌then◌else◌}
-use Rattle.std.proofs.Math.Nat.{min-le_left, min-le_right}
-use Rattle.std.proofs.lemmas.Bool.{and_parts, cases_Bool, cases_eq, or_cases, true≢false}
-use Rattle.std.proofs.lemmas.Bool.Decides.{Decides-eqb, nat_tests}
+use Rattle.std.proofs.Common.{true, false, get_or, set, length, refl, sym, ap}
+use Rattle.std.proofs.Common.{◌∙◌, subst, arith, ⊎_elim, inl, inr, length-set}
+use Rattle.std.proofs.Math.Nat.{min-eq_left, min-eq_right, min-le_left, min-le_right}
+use Rattle.std.proofs.lemmas.Bool.{and_parts, cases_Bool, cases_eq, cases_lt, or_cases, true≢false}
+use Rattle.std.proofs.lemmas.Bool.Decides.{Decides-eqb}
 use Rattle.std.proofs.lemmas.List.{drop-set-lt, get_or-set_other, get_or-set_same, set-get_or}
 use mathlib.Core.Option.{some}
 use lib.ListN.{get_elem?}
 use Rattle.atomic_table.specs.Table.{State, Me, keeps, Allows}
-use Rattle.atomic_table.proofs.Lists.{set_again}
 use Rattle.rcu_live.specs.Client.{Views}
 use Rattle.rcu_live.specs.Numbers.{reports_quiescence}
 use Rattle.rcu_live.specs.Rule.{Fits, IsKept, IsSound, is_cleared}
@@ -29,7 +27,7 @@ use Rattle.std.specs.Int.{bit_at, bit_not, trailing_zeros, w64}
 use Rattle.std.proofs.lemmas.Nat.{shr-shr}
 use Rattle.std.proofs.lemmas.Nat.Bits.{bit_at-trailing_zeros, bit_at-zero}
 use Rattle.rcu_node.specs.Words.{has_bit}
-use Rattle.rcu_node.proofs.Bits.{has_bit-zero, has_bit_clear_other}
+use Rattle.rcu_node.proofs.Bits.{has_bit_clear_other}
 use Rattle.rcu_node.proofs.Bits.{has_bit_set_other}
 use Rattle.rcu_node.proofs.Bits.{has_bit_set_same}
 use Rattle.rcu_live.proofs.OwnWordLoads.{online_some}
@@ -94,12 +92,20 @@ absent_inside mask cpu cpus low =
     (min (64 - cpu % 64) (cpus - cpu)) in
     let few = min-le_right (64 - cpu % 64) (cpus - cpu) in omega (arith, rest, few, low)
 
+-- who is counted shares the online mask
+pub share_mask : (mask cpu cpus d : ℕ) → cpu ≤ d → d < cpu + absent_from mask cpu cpus
+    → mask_index d ≡ mask_index cpu
+share_mask mask cpu cpus d far less =
+    let rest = min-le_right (trailing_zeros w64 (mask / 2 ^ (cpu % 64)))
+    (min (64 - cpu % 64) (cpus - cpu)) in
+    let room = min-le_left (64 - cpu % 64) (cpus - cpu) in omega (arith, far, less, rest, room)
+
 -- what an online mask tells of a processor that it has no bit of, in a row
-record IsAbsent (mask cpu d : ℕ) : Type 0 where
+pub record IsAbsent (mask cpu d : ℕ) : Type 0 where
   pub together : mask_index d ≡ mask_index cpu
   pub none : has_bit mask (d % 64) ≡ false
 
-absent : (mask cpu cpus d : ℕ) → mask < 2 ^ 64 → cpu ≤ d → d < cpu + absent_from mask cpu cpus
+pub absent : (mask cpu cpus d : ℕ) → mask < 2 ^ 64 → cpu ≤ d → d < cpu + absent_from mask cpu cpus
     → IsAbsent mask cpu d
 absent mask cpu cpus d fits far less =
     let ahead : ℕ = mask / 2 ^ (cpu % 64) in
@@ -108,12 +114,58 @@ absent mask cpu cpus d fits far less =
     let room = min-le_left (64 - cpu % 64) (cpus - cpu) in
     let bit : d % 64 ≡ cpu % 64 + (d - cpu) = omega (arith, far, less, rest, room) in
     record {
-      together = omega (arith, far, less, rest, room);
+      together = share_mask mask cpu cpus d far less;
       none = ap (has_bit mask) bit
           ∙ sym (has_bit_shift mask (cpu % 64) (d - cpu))
           ∙ no_bit_below ahead (d - cpu) (shift_fits mask (cpu % 64) fits)
           (omega (arith, far, less, zeros));
     }
+
+none_set : trailing_zeros w64 0 ≡ 64
+unfolding lib.Count.count_trailing_zeros
+none_set = refl
+
+-- below 64 `trailing_zeros` is the place of a bit
+bit_behind : (word : ℕ) → word < 2 ^ 64 → trailing_zeros w64 word < 64
+    → has_bit word (trailing_zeros w64 word) ≡ true
+unfolding has_bit
+bit_behind word fits low = elim (cases_eq word 0) [
+  | inl empty ↦
+      absurd (let z : trailing_zeros w64 word ≡ 64 = ap (trailing_zeros w64) empty ∙ none_set in
+      omega (arith, z, low))
+  | inr full ↦
+      ap (λ (n : ℕ). n == 1) (bit_at-trailing_zeros w64 word (omega (arith, full)) fits).1
+]
+
+-- the least of three is the first one where it is below the others
+least_first : (a b c : ℕ) → min a (min b c) < b → min a (min b c) < c → min a (min b c) ≡ a
+least_first a b c below under = elim (cases_lt a (min b c)) [
+  | inl less ↦ min-eq_left (omega (arith, less))
+  | inr more ↦
+      let same : min a (min b c) ≡ min b c = min-eq_right (omega (arith, more)) in
+      elim (cases_lt b c) [
+        | inl low ↦
+            absurd (let e : min b c ≡ b = min-eq_left (omega (arith, low)) in
+            omega (arith, same, e, below))
+        | inr high ↦
+            absurd (let e : min b c ≡ c = min-eq_right (omega (arith, high)) in
+            omega (arith, same, e, under))
+      ]
+]
+
+-- who comes next has its bit
+pub next_has_bit : (mask cpu cpus : ℕ) → mask < 2 ^ 64
+    → cpu + absent_from mask cpu cpus < cpus
+    → cpu % 64 + absent_from mask cpu cpus < 64
+    → has_bit mask (cpu % 64 + absent_from mask cpu cpus) ≡ true
+next_has_bit mask cpu cpus fits inside room =
+    let ahead : ℕ = mask / 2 ^ (cpu % 64) in
+    let zeros : ℕ = trailing_zeros w64 ahead in
+    let is : absent_from mask cpu cpus ≡ zeros =
+    least_first zeros (64 - cpu % 64) (cpus - cpu) (omega (arith, room)) (omega (arith, inside)) in
+    ap (λ (n : ℕ). has_bit mask (cpu % 64 + n)) is
+    ∙ sym (has_bit_shift mask (cpu % 64) zeros)
+    ∙ bit_behind ahead (shift_fits mask (cpu % 64) fits) (omega (arith, is, room))
 
 bit_small : (c : ℕ) → c % 64 < 64
 bit_small c = omega arith

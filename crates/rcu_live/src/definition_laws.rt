@@ -1,11 +1,12 @@
 //! What the words of a run of the engine say, on small runs, and those of an accepted call.
-ghost use Rattle.std.specs.Prelude.{◌≡◌, ◌⊎◌, ◌+◌, ◌<◌, ◌≤◌, ◌^◌, [], ◌∷◌, ℕ, All, List, None};
-ghost use Rattle.std.specs.Prelude.{Some, ◌++◌, false, length, true};
+ghost use Rattle.std.specs.Prelude.{◌≡◌, ◌⊎◌, ◌+◌, ◌%◌, ◌<◌, ◌≤◌, ◌^◌, [], ◌∷◌, ℕ, All, List};
+ghost use Rattle.std.specs.Prelude.{None, Some, ◌++◌, false, length, true};
 ghost use Rattle.atomic_table.specs.Seated.{TableId};
 ghost use Rattle.rcu_seq.specs.Numbers.{Number, snapshot};
 ghost use Rattle.rcu_seq.specs.Seq.{has_full_period};
 ghost use Rattle.rcu_seq.specs.Tags.{cookie_at, first_tag, is_done_first, of_first_epoch};
 ghost use Rattle.rcu_seq.specs.declared.tag.Tag.{Tag};
+ghost use Rattle.rcu_node.specs.Words.{has_bit};
 ghost use Rattle.rcu_cblist.specs.SegList.{take_answer};
 ghost use Rattle.rcu_cblist.specs.declared.items.Queued.{Queued};
 ghost use Rattle.rcu_barrier.specs.Lists.{barrier_test_answer, list_of};
@@ -22,8 +23,10 @@ ghost use Rattle.rcu_live.specs.Runs.{Call, IsNew, IsRun, Makes, MayCall, after_
 ghost use Rattle.rcu_live.specs.Runs.{engine_after, queued_as, queued_before_barrier};
 ghost use Rattle.rcu_live.specs.Runs.{times_handed_out, turns_since};
 ghost use Rattle.rcu_live.specs.Several.{HoldsBoth, IsLens, IsPart, IsWordOf, of_both, whole};
+ghost use Rattle.rcu_live.specs.View.{absent_from};
 ghost use Rattle.rcu_live.specs.Waits.{AreRounds, HasPassed, HasStayedInside};
 ghost use Rattle.rcu_live.specs.Watcher.{Watching};
+ghost use Rattle.rcu_live.specs.Words.{mask_index};
 ghost use Rattle.rcu_live.specs.declared.both_known.BothKnown.{BothKnown};
 
 use crate::client::Client;
@@ -287,4 +290,18 @@ pub fn a_part_is_set_and_has_its_place()
         (λ words _. words ≡ 0 ∷ []) (λ words. words) 1 (λ c. c) (λ c. c) → ⊥ }
     ensures word { IsWordOf {C = ℕ} (λ words _. words ≡ 0 ∷ []) 0 }
     ensures no_word { IsWordOf {C = ℕ} (λ words _. words ≡ 0 ∷ []) 1 → ⊥ }
+{}
+
+/// `absent_from` counts processors in a row: each shares the first one's online mask and has no bit
+/// in it, and one more that shares it has its bit.
+pub fn absent_processors_have_no_bit()
+    ensures mask { (mask cpu cpus other : ℕ) → cpu ≤ other
+        → other < cpu + absent_from mask cpu cpus → mask_index other ≡ mask_index cpu }
+    ensures bit { (mask cpu cpus other : ℕ) → mask < 2 ^ 64 → cpu ≤ other
+        → other < cpu + absent_from mask cpu cpus → has_bit mask (other % 64) ≡ false }
+    ensures inside { (mask cpu cpus : ℕ) → cpu < cpus → cpu + absent_from mask cpu cpus ≤ cpus }
+    ensures next { (mask cpu cpus : ℕ) → mask < 2 ^ 64
+        → cpu + absent_from mask cpu cpus < cpus
+        → cpu % 64 + absent_from mask cpu cpus < 64
+        → has_bit mask (cpu % 64 + absent_from mask cpu cpus) ≡ true }
 {}

@@ -1,20 +1,16 @@
 use Rattle.std.proofs.Common.{rules, ◌≡◌, ◌+◌, ◌<◌, ◌==◌, Bool, false, not, nat_lt, List, length, ℕ}
 use Rattle.std.proofs.Common.{ap, refl, sym, ◌∙◌, subst, arith, length-set}
 use Rattle.std.proofs.lemmas.Bool.Decides.{nat_tests}
-use Rattle.std.proofs.lemmas.List.{get_or-set_other, length-replicate}
+use Rattle.std.proofs.lemmas.List.{get_or-set_other}
 use Rattle.rcu_node.specs.CpuSet.{is_in}
-use Rattle.rcu_node.proofs.CpuSetLemmas.{in_none, listed_same}
+use Rattle.rcu_node.proofs.CpuSetLemmas.{listed_same}
 use Rattle.rcu_live.specs.Engine.{loaded_word}
 use Rattle.rcu_live.specs.Numbers.{reports_quiescence}
-use Rattle.std.proofs.Common.{◌-◌}
-use Rattle.std.specs.Prelude.{min}
-use Rattle.std.proofs.Math.Nat.{min-le_left, min-le_right}
 use Rattle.atomic_table.specs.declared.shared.Seat.{Seat}
 use Rattle.rcu_live.specs.Engine.{after_own_word_loads}
 use Rattle.rcu_live.specs.View.{after_own_word_load, found_offline}
 use Rattle.rcu_live.specs.Words.{own_word_index}
 use Rattle.rcu_live.specs.View.{absent_from}
-use Rattle.rcu_live.specs.declared.view.View.{View}
 use Rattle.rcu_live.proofs.OnlineMasks.{absent_inside}
 use Rattle.rcu_live.proofs.LoadedWords.{all_found, flags_all, flags_more, found_of}
 use Rattle.rcu_live.proofs.LoadedWords.{mask_loaded}
