@@ -89,6 +89,12 @@ static void run_all(struct call_rcu_data *worker, struct rcu_head *head) {
     atomic_store(&worker->running, 0);
 }
 
+/* What was pushed before a barrier's marker has run if the marker is taken alone. So the barrier
+ * waits for no round: with nothing queued it returns while other threads are in sections. */
+static bool is_marker_alone(struct call_rcu_data *worker, struct rcu_head *first) {
+    return first == &worker->marker && !first->next;
+}
+
 static void run_batch(struct call_rcu_data *worker) {
     struct rcu_head *last = atomic_exchange_explicit(&worker->last, 0, memory_order_acquire);
     unsigned long count;
@@ -99,7 +105,7 @@ static void run_batch(struct call_rcu_data *worker) {
     struct rcu_head *first = in_order(last, &count);
     atomic_store(&worker->running, count);
     hold();
-    wait_for_round();
+    if (!is_marker_alone(worker, first)) wait_for_round();
     let_go();
     CALL(thread_online)();
     run_all(worker, first);

@@ -55,8 +55,14 @@ FAULTS = {
         "in_order(0, &count);\n    struct rcu_head *first = last;", "memb", "callbacks", False),
     "a callback runs a batch early": (
         "callbacks.c",
-        "    hold();\n    wait_for_round();\n    let_go();\n    CALL(thread_online)();",
-        "    CALL(thread_online)();", "memb", "batches", False),
+        "    hold();\n    if (!is_marker_alone(worker, first)) wait_for_round();\n    let_go();\n",
+        "", "memb", "batches", False),
+    "a barrier with nothing queued waits for a round": (
+        "callbacks.c", "if (!is_marker_alone(worker, first)) ", "", "memb", "barriers_alone",
+        HANGS),
+    "a barrier's marker takes a batch with it": (
+        "callbacks.c", "first == &worker->marker && !first->next", "worker->marker.func",
+        "memb", "batches", False),
     "a barrier does not wait": (
         "barriers.c", "    while (markers_left) sleep_on(&barrier_over);\n", "",
         "memb", "barriers", False),

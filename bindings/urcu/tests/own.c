@@ -109,7 +109,7 @@ static const struct {
     {"forks_by_handlers", forks_by_handlers},
 #ifndef NO_EXTRAS
     {"polls", polls},       {"reports", reports},     {"misuse", misuse},
-    {"gathers", gathers},
+    {"gathers", gathers},   {"barriers_alone", barriers_alone},
 #endif
 };
 

@@ -74,7 +74,7 @@ int sections(unsigned n), waits(unsigned n), nests(unsigned n), crowd(unsigned n
 int forgets(unsigned n), cancels(unsigned n), quiet(unsigned n), ends(unsigned n);
 int callbacks(unsigned n), batches(unsigned n), barriers(unsigned n), workers(unsigned n);
 int chains(unsigned n), memory(unsigned n), gathers(unsigned n), answers(unsigned n);
-int joins(unsigned n), engines(unsigned n);
+int joins(unsigned n), engines(unsigned n), barriers_alone(unsigned n);
 int defers(unsigned n), values(unsigned n), polls(unsigned n);
 int signals(unsigned n), handlers(unsigned n);
 int forks(unsigned n), forks_by_handlers(unsigned n);

@@ -103,6 +103,25 @@ int barriers(unsigned n) {
     return uatomic_read(&ran) == 3;
 }
 
+#ifndef NO_EXTRAS
+/* With nothing queued a barrier is no grace period: it returns while another thread is in a section
+ * (liburcu's waits for it). */
+int barriers_alone(unsigned n) {
+    struct holder holder;
+    (void)n;
+    for (int i = 0; i < 3; i++) {
+        open_section(&holder);
+        rcu_barrier();
+        close_section(&holder);
+        end_holder(&holder);
+        call_rcu(malloc(sizeof(struct rcu_head)), tell);
+        rcu_barrier();
+        if (uatomic_read(&ran) != i + 1) return puts("a barrier did not wait"), 0;
+    }
+    return 1;
+}
+#endif
+
 /* What callbacks queue runs too, and a barrier waits for what was queued before it. */
 static struct again {
     struct rcu_head head;
