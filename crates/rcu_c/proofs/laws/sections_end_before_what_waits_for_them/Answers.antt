@@ -33,6 +33,7 @@ of_any_map holds cpus now kept = record {
   room = kept.room;
   number = kept.number;
   boot = kept.boot;
+  absent = kept.absent;
   owner = kept.owner;
   engine = kept.engine;
   own_word_loads = kept.own_word_loads;
