@@ -19,9 +19,7 @@ void urcu_cpp_wake_maker(void) {
 
 _Static_assert(offsetof(struct place, depth) == 8 && offsetof(struct place, wished) == 16,
                "urcu_cpp_place of include/rcu");
-_Static_assert(offsetof(struct reader, place) == 0 && offsetof(struct reader, beside) == 8 &&
-                   offsetof(struct reader, busy) == 16,
-               "urcu_cpp_reader of include/rcu");
+_Static_assert(offsetof(struct reader, shown) == 0, "urcu_cpp_reader of include/rcu");
 
 /* ---- the barrier */
 

@@ -12,12 +12,10 @@ URCU_CALLS_OF_(cpp);
 URCU_SECTIONS_OF_(cpp);
 URCU_MORE_CALLS_OF_(cpp);
 
-/* What the inlined sections read of a thread, by names that stay. (The layer hides its names.) */
+/* What the inlined sections read of a thread, by a name that stays. (The layer hides its names.) */
 #define self urcu_cpp_self
-#define by_system urcu_cpp_by_system
 #pragma GCC visibility push(default)
 extern __thread struct reader self __attribute__((tls_model("initial-exec")));
-extern bool by_system;
 
 extern char urcu_cpp_domain;
 void urcu_cpp_retire(struct rcu_head *head, void (*run)(struct rcu_head *head));

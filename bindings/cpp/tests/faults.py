@@ -1,33 +1,34 @@
-"""Faults of the header, of cpp.c and of what they want of the layer (callbacks.c of bindings/urcu):
-each is planted in a copy, and has to be found in every run. A row has the file, the text that is
-there once, what stands in its place, and what finds it: a test of the wording, or MODEL, whose
-quotes are then not the code's. Of what the clock or chance would have to find, the model finds that
-the code is not what was tried."""
+"""Faults of the header, of cpp.c and of what they want of the layer (bindings/urcu): each is planted
+in a copy, and has to be found in every run. A row has the file, the text that is there once, what
+stands in its place, and what finds it: a test of the wording, or MODEL, whose quotes are then not
+the code's. Of what the clock or chance would have to find, the model finds that the code is not
+what was tried."""
 
 MODEL = "the model"
-HEADER, CPP, LAYER = "include/rcu", "src/cpp.c", "src/callbacks.c"
+HEADER, CPP = "include/rcu", "src/cpp.c"
+LAYER = CALLBACKS, SHOWN = "src/callbacks.c", "src/layer.h"  # of bindings/urcu
 FAULTS = {
     "lock opens no region": (
-        HEADER, "            __atomic_store_n(&place->depth, depth + 1, __ATOMIC_RELAXED);\n", "",
+        HEADER, "    __atomic_store_n(&place->depth, depth + 1, __ATOMIC_RELAXED);\n", "",
         "general_4_region"),
     "the inner unlock ends the region": (
         HEADER, "__atomic_store_n(&place->depth, depth - 1, __ATOMIC_RELAXED);",
         "__atomic_store_n(&place->depth, 0, __ATOMIC_RELAXED);", "general_3_nesting"),
     "unlock ends no region": (
-        HEADER, "            __atomic_store_n(&place->depth, 0, __ATOMIC_RELEASE);\n", "",
+        HEADER, "        __atomic_store_n(&place->depth, 0, __ATOMIC_RELEASE);\n", "",
         "process_misuse"),
     "unlock's store is relaxed": (
         HEADER, "__atomic_store_n(&place->depth, 0, __ATOMIC_RELEASE);",
         "__atomic_store_n(&place->depth, 0, __ATOMIC_RELAXED);", MODEL),
     "unlock wakes nobody": (
-        HEADER, "            if (__builtin_expect(is_wished, 0)) urcu_cpp_wake_maker();\n", "",
+        HEADER, "        if (__builtin_expect(is_wished, 0)) urcu_cpp_wake_maker();\n", "",
         "general_4_region"),
     "a region without membarrier(2) has no fence": (
-        HEADER, "__builtin_expect(urcu_cpp_by_system && !is_busy, 1)",
-        "__builtin_expect(!is_busy, 1)", MODEL),
+        SHOWN, "is_busy() || self.beside || !by_system;", "is_busy() || self.beside;", MODEL),
     "a handler's region takes a busy thread's place": (
-        HEADER, "__builtin_expect(urcu_cpp_by_system && !is_busy, 1)",
-        "__builtin_expect(urcu_cpp_by_system, 1)", MODEL),
+        SHOWN, "is_busy() || self.beside || !by_system;", "self.beside || !by_system;", MODEL),
+    "a region beside ends as one of the place": (
+        SHOWN, "is_busy() || self.beside || !by_system;", "is_busy() || !by_system;", MODEL),
     "try_lock opens no region": (
         HEADER, "        lock();\n        return true;", "        return true;",
         "domain_lock_opens"),
@@ -57,7 +58,7 @@ FAULTS = {
     "a barrier passes over what is listed": (
         CPP, "(!atomic_load(&worker->last) && !in_hand())", "!in_hand()", "func_4_5_barrier"),
     "a worker does not say that it has a batch in hand": (
-        LAYER, "atomic_store(&worker->running, last != 0);", "atomic_store(&worker->running, 0);",
+        CALLBACKS, "atomic_store(&worker->running, last != 0);", "atomic_store(&worker->running, 0);",
         MODEL),
     "a barrier with nothing to wait for waits": (
         CPP, "    if (nothing_waits()) return;\n", "", "func_5_barrier_alone"),

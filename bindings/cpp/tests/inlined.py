@@ -29,43 +29,49 @@ over:
 READER_BY_CALLS = f"""
 top:
     maybe over
-    b = by_system        | if (depth || __builtin_expect(urcu_cpp_by_system && !is_busy, 1))
+    b = by_system        | !BY_WORD || is_busy() || self.beside || !by_system;
     if b goto inlined
     depth = 1
-    fence !              | urcu_cpp_read_lock();
+    fence !              | if (__builtin_expect(!place, 0)) return urcu_cpp_read_lock();
 inlined:
     depth = 1
     {SECTION}
-    depth = 0            | if (__builtin_expect(place && urcu_cpp_by_system && !urcu_cpp_self.beside
+    depth = 0            | place ? __atomic_load_n(&place->depth, __ATOMIC_RELAXED) : 0;
     fence                | urcu_cpp_read_unlock();
     {WAKES}
 over:
 """
 # A signal handler, which comes at any step of a thread that takes its place and is in a region.
+# While the place is hidden from the inlined regions, the layer's calls are made.
 WITH_HANDLER = f"""
-    busy = 1
+    hidden = 1           | atomic_store_explicit(&self.shown, 0, memory_order_relaxed);
+    busy = 1             | atomic_store_explicit(&self.busy, was + more
     lock
     unlock
     busy = 0
+    hidden = 0
     depth = 1
     {SECTION}
     depth = 0
     w = wished
     unless w goto over
-    busy = 1                              | urcu_cpp_wake_maker();
+    hidden = 1 !         | urcu_cpp_wake_maker();
+    busy = 1
     lock
     wished = 0
     quiet = 1
     signal
     unlock
-    busy = 0
+    busy = 0             | memory_order_relaxed); .. show_place();
+    hidden = 0           | by_calls ? 0 : self.place, memory_order_relaxed);
 over:
 """
 HANDLER = f"""
+    h = hidden !         | place = __atomic_load_n(&urcu_cpp_self.shown, __ATOMIC_RELAXED);
+    if h goto call
+inlined:
     d = depth
     if d goto nests
-    b = busy !           | __atomic_load_n(&urcu_cpp_self.busy, __ATOMIC_RELAXED) != 0;
-    if b goto beside
     depth = 1
     {SECTION}
     depth = 0
@@ -85,7 +91,11 @@ nests:
     {SECTION}
     depth = 1
     goto over
-beside:
+call:
+    d = depth
+    if d goto nests
+    b = busy !           | else if (unlikely(is_busy())) open_beside();
+    unless b goto inlined
     x = add beside 1 !
     {SECTION}
     x = add beside -1
@@ -122,7 +132,7 @@ PROTOCOLS = {
     "a region and a round without membarrier(2)":
         ({**ROUND, "by_system": 0}, [READER_BY_CALLS, maker("fence", "")]),
     "an inlined region, a signal handler and a round":
-        ({**ROUND, "busy": 0, "beside": 0, "ended": 0},
+        ({**ROUND, "busy": 0, "hidden": 0, "beside": 0, "ended": 0},
          [WITH_HANDLER, MAKER_OF_HANDLED, POLLER], {0: HANDLER}),
     "a barrier's look": (BARRIER, [RETIRES_AND_LOOKS, EVALUATES]),
 }

@@ -1,18 +1,25 @@
 // The handshake between regions and waits, by rcu_synchronize and by retire: an updater unlinks,
 // waits and spoils. Each reader fills its store buffer with stores to cold lines, so that what lock
 // stores is long on its way while the region reads already. Use: litmus UPDATES [planted|fences].
-// By "planted" the updater does not wait, and goes on until a region saw it; by "fences" the
-// readers make their own fence, as on a system without membarrier(2).
+// By "planted" the updater does not wait, and goes on until a region saw it; by "fences" the system
+// refuses membarrier(2), so that the readers make their own fence.
 #include <rcu>
 
 #include <atomic>
+#include <cerrno>
+#include <cstddef>
 #include <cstdio>
 #include <cstdlib>
 #include <cstring>
 #include <mutex>
 #include <new>
+#include <linux/filter.h>
+#include <linux/seccomp.h>
 #include <sys/mman.h>
+#include <sys/prctl.h>
+#include <sys/syscall.h>
 #include <thread>
+#include <unistd.h>
 
 enum { POOL = 64, READERS = 2, COLD = 40, LOOKS = 30 };
 static const unsigned long SIZE = 64ul << 20;
@@ -86,10 +93,26 @@ static bool run(way by, unsigned long updates) {
     return wrong == 0;
 }
 
+// The library asks for membarrier(2) before main. So the program begins anew, where it is refused.
+static void begin_without_membarrier(char* path, char* updates) {
+    sock_filter code[] = {
+        BPF_STMT(BPF_LD | BPF_W | BPF_ABS, offsetof(seccomp_data, nr)),
+        BPF_JUMP(BPF_JMP | BPF_JEQ | BPF_K, SYS_membarrier, 0, 1),
+        BPF_STMT(BPF_RET | BPF_K, SECCOMP_RET_ERRNO | ENOSYS),
+        BPF_STMT(BPF_RET | BPF_K, SECCOMP_RET_ALLOW),
+    };
+    sock_fprog filter{sizeof code / sizeof *code, code};
+    char* words[] = {path, updates, nullptr};
+    if (!prctl(PR_SET_NO_NEW_PRIVS, 1, 0, 0, 0) && !prctl(PR_SET_SECCOMP, 2, &filter))
+        execv("/proc/self/exe", words);
+    std::perror("litmus");
+    std::exit(1);
+}
+
 int main(int count, char** words) {
     const char* how = count > 2 ? words[2] : "";
     unsigned long updates = count > 1 ? std::strtoul(words[1], nullptr, 10) : 10000;
-    if (!std::strcmp(how, "fences")) urcu_cpp_by_system = false;
+    if (!std::strcmp(how, "fences")) begin_without_membarrier(words[0], words[1]);
     if (!std::strcmp(how, "planted")) return !run(PLANTED, updates);
     bool is_right = run(BY_SYNCHRONIZE, updates);
     return !(run(BY_RETIRE, updates) && is_right);

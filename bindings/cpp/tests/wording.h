@@ -48,7 +48,7 @@ inline void take_wish_back() {
 }
 
 // Of the calling thread, which is in a region: whether the maker of a grace period waits for it.
-inline const bool* own_wish() { return &urcu_cpp_self.place->wished; }
+inline const bool* own_wish() { return &urcu_cpp_self.shown->wished; }
 inline bool is_set(const bool* it) { return __atomic_load_n(it, __ATOMIC_SEQ_CST); }
 
 // A thread in a region, which it leaves step by step.

@@ -34,6 +34,7 @@ static void renew(void) {
     atomic_store(&self.busy, 0);
     self.thread = 0;
     self.place = 0;
+    show_place();
     renew_room();
     if (BY_WORD) set_up_readers();
     if (old) {

@@ -54,9 +54,10 @@ struct ring;
 
 /* What a thread has. */
 struct reader {
-    struct place *place;  /* null where it is not registered */
-    unsigned long beside; /* how deep sections nest that a signal handler has beside the place */
-    atomic_uint busy;     /* the thread is in the midst of a call, and may hold the lock */
+    _Atomic(struct place *) shown; /* what inlined sections see of the place (show_place) */
+    struct place *place;           /* null if it is not registered */
+    unsigned long beside;          /* the depth of a signal handler's sections beside the place */
+    atomic_uint busy;              /* the thread is in a call, and may hold the lock */
     int thread;           /* the system's number, or 0 where it was not asked yet */
     bool online;          /* by state */
     bool has_key;         /* its end is told */
@@ -71,9 +72,7 @@ struct reader {
 #if !defined(URCU_BY_SEAT) && !defined(self)
 #define MAY_INLINE_SECTIONS
 #define self CALL(reader_1)
-#define by_system CALL(by_system_1)
 #define SEEN_BY_PROGRAMS __attribute__((visibility("default")))
-SEEN_BY_PROGRAMS extern bool by_system;
 SEEN_BY_PROGRAMS void CALL(got_quiet_1)(void);
 #else
 #define SEEN_BY_PROGRAMS
@@ -102,18 +101,36 @@ static inline void must(const char *call, uint32_t fault) {
     if (unlikely(fault)) fail_by(call, fault);
 }
 
+#ifdef URCU_BY_SEAT
+enum { BY_WORD = 0 };
+#else
+enum { BY_WORD = 1 };
+#endif
+/* readers_by_word.c: membarrier(2) makes the readers' fences */
+extern bool by_system;
+
 /* ---- the lock. A signal handler that finds the thread busy keeps away from its place and from the
  * lock. No cancellation takes effect where the lock is held. */
 
+static inline bool is_busy(void) {
+    return atomic_load_explicit(&self.busy, memory_order_relaxed) != 0;
+}
+
+/* Inlined sections look at one word of their thread. It is null if the library's calls have to open
+ * and close them. */
+static inline void show_place(void) {
+    bool by_calls = !BY_WORD || is_busy() || self.beside || !by_system;
+    atomic_store_explicit(&self.shown, by_calls ? 0 : self.place, memory_order_relaxed);
+}
+
+/* The place is shown only while the thread is not busy. */
 static inline void set_busy(unsigned more) {
+    atomic_store_explicit(&self.shown, 0, memory_order_relaxed);
     atomic_signal_fence(memory_order_seq_cst);
     unsigned was = atomic_load_explicit(&self.busy, memory_order_relaxed);
     atomic_store_explicit(&self.busy, was + more, memory_order_relaxed);
     atomic_signal_fence(memory_order_seq_cst);
-}
-
-static inline bool is_busy(void) {
-    return atomic_load_explicit(&self.busy, memory_order_relaxed) != 0;
+    show_place();
 }
 
 static inline void hold(void) {
@@ -149,13 +166,7 @@ void give_back_place(void);
 void stay_as_in(struct place *old);
 bool leave(const char *call);
 
-#ifdef URCU_BY_SEAT
-enum { BY_WORD = 0 };
-#else
-enum { BY_WORD = 1 };
-#endif
 /* readers_by_word.c; not in mb and qsbr, which call none of them */
-extern bool by_system;
 void set_up_readers(void);
 void open_place(struct place *place);
 void close_place(struct place *place);

@@ -53,6 +53,7 @@ static SLOW void open_beside(void) {
 
 static SLOW void close_beside(void) {
     self.beside--;
+    show_place();
     atomic_fetch_sub(&all.beside, 1);
 }
 
@@ -90,9 +91,7 @@ void CALL(got_quiet_1)(void) {
 
 _Static_assert(offsetof(struct place, depth) == 8 && offsetof(struct place, wished) == 16,
                "urcu_place_1 of urcu/sections.h");
-_Static_assert(offsetof(struct reader, place) == 0 && offsetof(struct reader, beside) == 8 &&
-                   offsetof(struct reader, busy) == 16,
-               "urcu_reader_1 of urcu/sections.h");
+_Static_assert(offsetof(struct reader, shown) == 0, "urcu_reader_1 of urcu/sections.h");
 #endif
 
 int CALL(read_ongoing)(void) {

@@ -29,43 +29,49 @@ over:
 READER_BY_CALLS = f"""
 top:
     maybe over
-    b = by_system            | __builtin_expect(!by_system || __atomic_load_n(&reader->busy
-    if b goto inlined
+    b = by_system            | !BY_WORD || is_busy() || self.beside || !by_system;
+    if b goto inlined        | if (__builtin_expect(!place, 0)) return false;
     depth = 1
-    fence !                  | urcu_##f##_by_system_1)) urcu_##f##_read_lock();
+    fence !                  | if (!urcu_enters_(&urcu_##f##_reader_1)) urcu_##f##_read_lock();
 inlined:
     depth = 1
     {SECTION}
-    depth = 0                | if (__builtin_expect(!place || !by_system || reader->beside, 0))
+    depth = 0                | if (__builtin_expect(!place, 0)) return URCU_BY_CALL_;
     fence                    | else urcu_##f##_read_unlock();
     {WAKES}
 over:
 """
 # A signal handler, which comes at any step of a thread that takes its place and is in a section.
+# While the place is hidden from the inlined sections, the library's calls are made.
 WITH_HANDLER = f"""
-    busy = 1
+    hidden = 1               | atomic_store_explicit(&self.shown, 0, memory_order_relaxed);
+    busy = 1                 | atomic_store_explicit(&self.busy, was + more
     lock
     unlock
     busy = 0
+    hidden = 0
     depth = 1
     {SECTION}
     depth = 0
     w = wished
     unless w goto over
-    busy = 1                 | if (exit == URCU_LEFT_AWAITED_) urcu_##f##_got_quiet_1();
+    hidden = 1 !             | if (exit == URCU_LEFT_AWAITED_) urcu_##f##_got_quiet_1();
+    busy = 1
     lock
     wished = 0
     quiet = 1
     signal
     unlock
-    busy = 0
+    busy = 0                 | memory_order_relaxed); .. show_place();
+    hidden = 0               | by_calls ? 0 : self.place, memory_order_relaxed);
 over:
 """
 HANDLER = f"""
+    h = hidden !             | *place = __atomic_load_n(&reader->shown, __ATOMIC_RELAXED);
+    if h goto call
+inlined:
     d = depth
     if d goto nests
-    b = busy !               | __atomic_load_n(&reader->busy, __ATOMIC_RELAXED), 0))
-    if b goto beside
     depth = 1
     {SECTION}
     depth = 0
@@ -85,7 +91,11 @@ nests:
     {SECTION}
     depth = 1
     goto over
-beside:
+call:
+    d = depth
+    if d goto nests
+    b = busy !               | else if (unlikely(is_busy())) open_beside();
+    unless b goto inlined
     x = add beside 1 !
     {SECTION}
     x = add beside -1
@@ -97,6 +107,6 @@ PROTOCOLS_OF_INLINED = {
     "an inlined section and a round without membarrier(2)":
         ({**ROUND, "by_system": 0}, [READER_BY_CALLS, maker("fence", "")]),
     "an inlined section, a signal handler and a round":
-        ({**ROUND, "busy": 0, "beside": 0, "ended": 0},
+        ({**ROUND, "busy": 0, "hidden": 0, "beside": 0, "ended": 0},
          [WITH_HANDLER, MAKER_OF_HANDLED, POLLER], {0: HANDLER}),
 }

@@ -1,8 +1,8 @@
 /* Sections inlined: those of memb, signal and bp, by liburcu's switch _LGPL_SOURCE, or by
  * URCU_INLINE_SECTIONS. They repeat the steps of the layer's sections.c and readers_by_word.c, on
- * which they rest, and call the library in all rarer cases: a thread's first section, a signal
- * handler that comes in the midst of a call, a system without membarrier(2). They add no step of
- * their own (tests/model.py). */
+ * which they rest, and call the library if it shows them no place: in a thread's first section, in
+ * a signal handler that comes in the midst of a call, on a system without membarrier(2). They add
+ * no step of their own (tests/model.py). */
 #ifndef URCU_OVER_RCU_SECTIONS_H
 #define URCU_OVER_RCU_SECTIONS_H
 #include <stdbool.h>
@@ -11,29 +11,24 @@ extern "C" {
 #endif
 
 #if defined(_LGPL_SOURCE) || defined(URCU_INLINE_SECTIONS)
-/* The first words of a thread's place and of what it has. The library's layer.h compares them with
- * its own. A program that was built by them needs a library with the same, so the names of what it
- * reads end in a number, which changes with them. */
+/* The first words of a thread's place and of what it has. The library's sections.c compares them
+ * with its own. A program that was built by them needs a library with the same, so the names of
+ * what it reads end in a number, which changes with them. */
 struct urcu_place_1 {
     void *seat;
     unsigned long depth;
     bool wished;
 };
 struct urcu_reader_1 {
-    struct urcu_place_1 *place;
-    unsigned long beside;
-    unsigned busy;
+    struct urcu_place_1 *shown; /* null if the library's calls open and close the sections */
 };
 
 /* Returns false if the library's call has to open the section. */
-static inline bool urcu_enters_(struct urcu_reader_1 *reader, bool by_system) {
-    struct urcu_place_1 *place = reader->place;
+static inline bool urcu_enters_(struct urcu_reader_1 *reader) {
+    struct urcu_place_1 *place = __atomic_load_n(&reader->shown, __ATOMIC_RELAXED);
     unsigned long depth;
     if (__builtin_expect(!place, 0)) return false;
     depth = __atomic_load_n(&place->depth, __ATOMIC_RELAXED);
-    if (!depth &&
-        __builtin_expect(!by_system || __atomic_load_n(&reader->busy, __ATOMIC_RELAXED), 0))
-        return false;
     __atomic_store_n(&place->depth, depth + 1, __ATOMIC_RELAXED);
     __atomic_signal_fence(__ATOMIC_SEQ_CST);
     return true;
@@ -43,13 +38,13 @@ enum urcu_exit_ { URCU_LEFT_, URCU_LEFT_AWAITED_, URCU_BY_CALL_ };
 
 /* Says whether a grace period waits for this section's end, or that the library's call has to
  * close it. */
-static inline enum urcu_exit_ urcu_exits_(struct urcu_reader_1 *reader, bool by_system) {
-    struct urcu_place_1 *place = reader->place;
+static inline enum urcu_exit_ urcu_exits_(struct urcu_reader_1 *reader) {
+    struct urcu_place_1 *place = __atomic_load_n(&reader->shown, __ATOMIC_RELAXED);
     unsigned long depth;
-    if (__builtin_expect(!place || !by_system || reader->beside, 0)) return URCU_BY_CALL_;
+    if (__builtin_expect(!place, 0)) return URCU_BY_CALL_;
     depth = __atomic_load_n(&place->depth, __ATOMIC_RELAXED);
-    if (__builtin_expect(!depth, 0)) return URCU_BY_CALL_;
-    if (depth > 1) {
+    if (__builtin_expect(depth != 1, 0)) {
+        if (!depth) return URCU_BY_CALL_; /* which ends the process with a line */
         __atomic_store_n(&place->depth, depth - 1, __ATOMIC_RELAXED);
         return URCU_LEFT_;
     }
@@ -61,13 +56,12 @@ static inline enum urcu_exit_ urcu_exits_(struct urcu_reader_1 *reader, bool by_
 #define URCU_INLINED_OF_(f) \
     extern __thread struct urcu_reader_1 urcu_##f##_reader_1 \
         __attribute__((tls_model("initial-exec"))); \
-    extern bool urcu_##f##_by_system_1; \
     void urcu_##f##_got_quiet_1(void); \
     static inline void urcu_##f##_inlined_read_lock(void) { \
-        if (!urcu_enters_(&urcu_##f##_reader_1, urcu_##f##_by_system_1)) urcu_##f##_read_lock(); \
+        if (!urcu_enters_(&urcu_##f##_reader_1)) urcu_##f##_read_lock(); \
     } \
     static inline void urcu_##f##_inlined_read_unlock(void) { \
-        enum urcu_exit_ exit = urcu_exits_(&urcu_##f##_reader_1, urcu_##f##_by_system_1); \
+        enum urcu_exit_ exit = urcu_exits_(&urcu_##f##_reader_1); \
         if (__builtin_expect(exit == URCU_LEFT_, 1)) return; \
         if (exit == URCU_LEFT_AWAITED_) urcu_##f##_got_quiet_1(); \
         else urcu_##f##_read_unlock(); \
