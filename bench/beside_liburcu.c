@@ -1,19 +1,23 @@
-/* Reads, updates and grace periods a second, here and by liburcu's flavours qsbr and memb, one
+/* Reads and updates a second, by rcu.h and by liburcu's flavours qsbr and memb, one
  * after the other in each of many short rounds, which begin with each of them in turn. So what else
  * the machine does meets all alike: a ratio is that of a round, and the median of all. bench/c builds
- * it: with examples/c/driver.h for this library, and with liburcu's library calls (not its inline
- * ones). Here readers renew a section each EACH reads; "sections" are of two calls each, with a
- * quiescent state in place of the renewal; "pins" open and close one for EACH reads, and are idle in
- * between. The first argument is how many rounds are made, 21 where there is none. */
+ * it with liburcu's library calls (not its inline ones). Here readers renew a section each EACH
+ * reads; "sections" are of two calls each, with a quiescent state in place of the renewal; "pins"
+ * open and close one for EACH reads, and are idle in between. The first argument is how many rounds
+ * are made, 21 where there is none. */
 #define _GNU_SOURCE
-enum { READERS = 3, UPDATERS = 4, CPUS = UPDATERS + READERS, MOST = 1000, EACH = 16 };
-enum { HERE, QSBR, MEMB, LIBRARIES, SECTIONS = LIBRARIES, PINS, WAYS };
-
-#include "driver.h"
+#include "rcu.h"
+#include <pthread.h>
+#include <sched.h>
 #include <stdatomic.h>
+#include <stdio.h>
+#include <stdlib.h>
 #include <time.h>
 #include <urcu/urcu-memb.h>
 #include <urcu/urcu-qsbr.h>
+
+enum { READERS = 3, UPDATERS = 4, CPUS = UPDATERS + READERS, MOST = 1000, EACH = 16, BATCH = 64 };
+enum { HERE, QSBR, MEMB, LIBRARIES, SECTIONS = LIBRARIES, PINS, WAYS };
 
 /* The headers of two flavours in one file declare the callbacks of the first alone. */
 void urcu_qsbr_call_rcu(struct rcu_head *head, void (*run)(struct rcu_head *head));
@@ -33,6 +37,69 @@ static _Atomic(struct node *) shown;
 static atomic_bool over;
 static atomic_uint wrong;
 static pthread_barrier_t start;
+
+/* ---- rcu.h. Once in BATCH times that an updater defers, it takes a step of driving. */
+
+struct place {
+    _Alignas(128) rcu_seat_t seat;
+    uint64_t quiet_at, deferred;
+};
+static struct place places[CPUS];
+static rcu_t rcu;
+static pthread_mutex_t lock = PTHREAD_MUTEX_INITIALIZER;
+
+static void must(uint32_t fault) {
+    if (fault) fprintf(stderr, "%s\n", rcu_fault_text(fault));
+    if (fault) abort();
+}
+
+static void arrive(struct place *place) {
+    pthread_mutex_lock(&lock);
+    must(rcu_arrive(&rcu, &place->seat));
+    pthread_mutex_unlock(&lock);
+}
+
+static void depart(struct place *place) {
+    uint64_t moved;
+    pthread_mutex_lock(&lock);
+    must(rcu_depart(&rcu, &place->seat, &moved));
+    pthread_mutex_unlock(&lock);
+}
+
+static void drive_for(uint64_t cookie) {
+    rcu_turn_t turn;
+    pthread_mutex_lock(&lock);
+    must(rcu_drive_for(&rcu, cookie, &turn));
+    pthread_mutex_unlock(&lock);
+}
+
+static void free_done(struct place *place) {
+    for (rcu_link_t *link; (link = rcu_defer_take(&place->seat));) free(link);
+    drive_for(rcu_defer_cookie(&place->seat));
+}
+
+static void defer_here(struct place *place, rcu_link_t *link) {
+    must(rcu_defer_link(&place->seat, link));
+    if (++place->deferred % BATCH == 0) free_done(place);
+}
+
+static void finish_here(struct place *place) {
+    for (; rcu_defer_count(&place->seat); sched_yield()) free_done(place);
+}
+
+/* Processor 0 is idle, and those of the other updaters are offline: they read nothing. */
+static void open_here(void) {
+    must(rcu_open(CPUS, UINT64_C(1) << 62, &rcu));
+    for (uint32_t cpu = 0; cpu < CPUS; cpu++) must(rcu_seat_open(&rcu, cpu, &places[cpu].seat));
+    must(rcu_seat_idle(&places[0].seat));
+}
+
+static void close_here(void) {
+    for (uint32_t cpu = 0; cpu < CPUS; cpu++) rcu_seat_close(&places[cpu].seat);
+    rcu_close(&rcu);
+}
+
+/* ---- what is measured */
 
 static double now(void) {
     struct timespec time;
@@ -57,7 +124,6 @@ static void read_once(void) {
     if (node->twice != 2 * node->value) atomic_fetch_add(&wrong, 1);
 }
 
-static void free_own(rcu_link_t *link) { free(link); }
 static void free_theirs(struct rcu_head *head) {
     free((char *)head - offsetof(struct node, theirs));
 }
@@ -93,43 +159,37 @@ struct reader {
         return 0;                                                                                  \
     }
 
-READS(own, (driver_arrive(reader->place), rcu_seat_enter(&reader->place->seat, &depth)), , ,
-      driver_renew(reader->place),
-      (rcu_seat_exit(&reader->place->seat, &depth), driver_depart(reader->place)))
+READS(own, (arrive(reader->place), rcu_seat_enter(&reader->place->seat, &depth)), , ,
+      rcu_seat_renew(&reader->place->seat, &reader->place->quiet_at),
+      (rcu_seat_exit(&reader->place->seat, &depth), depart(reader->place)))
 READS(qsbr, urcu_qsbr_register_thread(), urcu_qsbr_read_lock(), urcu_qsbr_read_unlock(),
       urcu_qsbr_quiescent_state(), urcu_qsbr_unregister_thread())
 READS(memb, urcu_memb_register_thread(), urcu_memb_read_lock(), urcu_memb_read_unlock(), ,
       urcu_memb_unregister_thread())
-READS(section, driver_arrive(reader->place), rcu_seat_enter(&reader->place->seat, &depth),
-      rcu_seat_exit(&reader->place->seat, &depth), driver_quiesce(reader->place),
-      driver_depart(reader->place))
-READS(pin, (driver_arrive(reader->place), driver_idle(reader->place)),
+READS(section, arrive(reader->place), rcu_seat_enter(&reader->place->seat, &depth),
+      rcu_seat_exit(&reader->place->seat, &depth),
+      rcu_seat_quiesce_since(&reader->place->seat, &reader->place->quiet_at), depart(reader->place))
+READS(pin, (arrive(reader->place), rcu_seat_idle(&reader->place->seat)),
       if (!i) rcu_seat_pin(&reader->place->seat, &depth), ,
-      driver_unpin(reader->place), driver_depart(reader->place))
+      rcu_seat_unpin(&reader->place->seat, &depth), depart(reader->place))
 
 static void *(*const reads[WAYS])(void *) = {own_reads, qsbr_reads, memb_reads, section_reads,
                                              pin_reads};
 
-static void synchronize(int way) {
-    if (way == QSBR) urcu_qsbr_synchronize_rcu();
-    else if (way == MEMB) urcu_memb_synchronize_rcu();
-    else driver_synchronize();
-}
-
 static void defer(int way, struct place *place, struct node *node) {
     if (way == QSBR) urcu_qsbr_call_rcu(&node->theirs, free_theirs);
     else if (way == MEMB) urcu_memb_call_rcu(&node->theirs, free_theirs);
-    else driver_defer(place, &node->link, free_own);
+    else defer_here(place, &node->link);
 }
 
 static void finish(int way, struct place *place) {
     if (way == QSBR) urcu_qsbr_barrier();
     else if (way == MEMB) urcu_memb_barrier();
-    else driver_barrier(place);
+    else finish_here(place);
 }
 
 /* What threads do beside the readers, each as often as the time lets it. */
-enum kind { READ, UPDATE, PERIOD };
+enum kind { READ, UPDATE };
 
 struct updater {
     _Alignas(128) pthread_t id;
@@ -145,13 +205,7 @@ static void *work(void *it) {
     pthread_barrier_wait(&start);
     double begun = now();
     for (; now() < begun + seconds; self->times++) {
-        struct node *old = replace(self->times);
-        if (self->kind == PERIOD) {
-            synchronize(self->way);
-            free(old);
-        } else {
-            defer(self->way, self->place, old);
-        }
+        defer(self->way, self->place, replace(self->times));
         if (self->kind == READ) nanosleep(&(struct timespec){0, 1000000}, 0);
     }
     self->took = now() - begun;
@@ -159,7 +213,7 @@ static void *work(void *it) {
     return 0;
 }
 
-/* How much was done a second: reads of one thread, updates or grace periods of all. */
+/* How much was done a second: reads of one thread, updates of all. */
 static double measure(enum kind kind, int way, unsigned many, unsigned others) {
     struct reader readers[READERS] = {{0}};
     struct updater updaters[UPDATERS] = {{0}};
@@ -221,18 +275,17 @@ static void show(const char *what, enum kind kind, unsigned many, unsigned other
 int main(int count, char **words) {
     if (count > 1) rounds = atoi(words[1]);
     if (rounds < 1 || rounds > MOST) return 2;
-    driver_open();
+    open_here();
     atomic_store(&shown, new_node(0));
     for (unsigned many = 1; many <= 3; many += 2) {
         show("reads a second and reader", READ, many, 1);
         show("updates a second", UPDATE, many, 1);
-        show("grace periods a second", PERIOD, many, 1);
     }
     show("reads a second and reader", READ, 2, 2);
     show("updates a second", UPDATE, 2, 2);
     show("updates a second", UPDATE, 0, 4);
     free(atomic_load(&shown));
-    driver_close();
+    close_here();
     if (atomic_load(&wrong)) printf("read wrong: %u\n", atomic_load(&wrong));
     return atomic_load(&wrong) > 0;
 }

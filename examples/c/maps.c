@@ -1,13 +1,17 @@
-/* Three threads read a table, key by key and entry by entry, while one updates it, with a driver
- * that sleeps (driver.h). An entry leads to a record, which is freed once no section can have found
- * it. A key that stays is found at each look, also while its entry is replaced, and never with the
- * words of two. Then what a map refuses. */
-#define _POSIX_C_SOURCE 200809L
-enum { READERS = 3, CPUS = 1 + READERS, STAY = 16, KEYS = 64, SPARE = 8, UPDATES = 2000 };
-
-#include "driver.h"
+/* Three threads read a table, key by key and entry by entry, while one updates it, and drives the
+ * grace periods. An entry leads to a record, which is freed once no section can have found it. A key
+ * that stays is found at each look, also while its entry is replaced, and never with the words of
+ * two. Then what a map refuses. */
+#include "rcu.h"
 #include <inttypes.h>
+#include <pthread.h>
+#include <sched.h>
+#include <stdalign.h>
 #include <stdatomic.h>
+#include <stdio.h>
+#include <stdlib.h>
+
+enum { READERS = 3, CPUS = 1 + READERS, STAY = 16, KEYS = 64, SPARE = 64, UPDATES = 2000 };
 
 /* An entry's words: its key, the place of its record, and what the record counts. */
 enum { KEY, PLACE, COUNT, WORDS };
@@ -19,10 +23,22 @@ struct record {
     uint64_t key, count, twice;
 };
 
+/* A processor's seat, and the number of its latest quiescent state. Each has its own cache line. */
+struct seat {
+    alignas(64) rcu_seat_t seat;
+    uint64_t quiet_at;
+};
+
+static rcu_t rcu;
+static struct seat seats[CPUS];
 static atomic_bool over;
 static atomic_uint wrong;
 static uint64_t made, freed;
-static pthread_barrier_t start;
+
+static void must(const char *call, uint32_t fault) {
+    if (fault) fprintf(stderr, "%s: %s\n", call, rcu_fault_text(fault));
+    if (fault) abort();
+}
 
 static void count_wrong(void) {
     atomic_fetch_add_explicit(&wrong, 1, memory_order_relaxed);
@@ -66,22 +82,23 @@ static void list_all(rcu_seat_t *seat) {
 }
 
 static void *read_table(void *it) {
-    struct place *place = it;
+    struct seat *own = it;
     uint32_t depth;
-    pthread_barrier_wait(&start);
-    driver_arrive(place);
     do {
-        must("enter", rcu_seat_enter(&place->seat, &depth));
-        look_up(&place->seat);
-        list_all(&place->seat);
-        must("exit", rcu_seat_exit(&place->seat, &depth));
-        driver_quiesce(place);
+        must("enter", rcu_seat_enter(&own->seat, &depth));
+        look_up(&own->seat);
+        list_all(&own->seat);
+        must("exit", rcu_seat_exit(&own->seat, &depth));
+        RCU_SANITIZER_RELEASE(own);
+        must("quiesce", rcu_seat_quiesce_since(&own->seat, &own->quiet_at));
     } while (!atomic_load_explicit(&over, memory_order_acquire));
-    driver_depart(place);
+    RCU_SANITIZER_RELEASE(own);
+    must("idle", rcu_seat_idle(&own->seat));
     return 0;
 }
 
-/* ---- who updates: the main thread, by place 0, which is idle */
+/* ---- who updates: the main thread, by seat 0, which is idle. It makes all calls on the engine, so
+ * they need no lock. */
 
 /* Makes a record, and the entry that leads to it. */
 static void make_record(uint64_t key, uint64_t *entry) {
@@ -101,15 +118,36 @@ static void free_record(rcu_link_t *link) {
     freed++;
 }
 
+/* Frees the records that are done, and goes on with the grace period that the others wait for. */
+static void free_done(void) {
+    rcu_turn_t turn;
+    for (rcu_link_t *link; (link = rcu_defer_take(&seats[0].seat)); free_record(link))
+        for (uint32_t cpu = 1; cpu < CPUS; cpu++) RCU_SANITIZER_ACQUIRE(&seats[cpu]);
+    must("drive", rcu_drive_for(&rcu, rcu_defer_cookie(&seats[0].seat), &turn));
+}
+
 static void free_later(const uint64_t *old) {
-    driver_defer(&places[0], &record_of(old)->link, free_record);
+    must("defer", rcu_defer_link(&seats[0].seat, &record_of(old)->link));
+    free_done();
+}
+
+typedef uint32_t (*put_call)(rcu_t *, const uint64_t *, size_t, uint64_t *, size_t);
+
+/* Puts an entry in. While no node is free it drives: one will be free after a grace period. */
+static void put_in(const char *what, put_call call, const uint64_t *entry, uint64_t *old) {
+    uint32_t fault;
+    while ((fault = call(&rcu, entry, WORDS, old, WORDS)) == RCU_MAP_FULL) {
+        must("wait", rcu_map_wait(&rcu));
+        sched_yield();
+    }
+    must(what, fault);
 }
 
 /* Replaces the entry of a key that is there. */
 static void replace(uint64_t key) {
     uint64_t entry[WORDS], old[WORDS];
     make_record(key, entry);
-    must("replace", driver_map_put(rcu_map_replace, entry, old, WORDS));
+    put_in("replace", rcu_map_replace, entry, old);
     if (old[KEY] != key) count_wrong();
     free_later(old);
 }
@@ -118,15 +156,13 @@ static void replace(uint64_t key) {
 static void put(uint64_t key) {
     uint64_t entry[WORDS], old[WORDS];
     make_record(key, entry);
-    must("put", driver_map_put(rcu_map_put, entry, old, WORDS));
+    put_in("put", rcu_map_put, entry, old);
     if (old[KEY]) free_later(old);
 }
 
 static void take_out(uint64_t key) {
     uint64_t old[WORDS];
-    pthread_mutex_lock(&lock);
     must("remove", rcu_map_remove(&rcu, key, old, WORDS));
-    pthread_mutex_unlock(&lock);
     if (old[KEY]) free_later(old);
 }
 
@@ -134,28 +170,28 @@ static void take_out(uint64_t key) {
 static void come_or_go(uint64_t key) {
     uint64_t entry[WORDS], old[WORDS];
     make_record(key, entry);
-    must("insert", driver_map_put(rcu_map_insert, entry, old, WORDS));
+    put_in("insert", rcu_map_insert, entry, old);
     if (!old[KEY]) return;
     free_record(&record_of(entry)->link);
     take_out(key);
 }
 
-static uint64_t count_entries(void) {
-    pthread_mutex_lock(&lock);
-    uint64_t count = rcu_map_len(&rcu);
-    pthread_mutex_unlock(&lock);
-    return count;
+static void set_up_table(void) {
+    rcu_map_sizes_t sizes = {.buckets = 8, .nodes = 8 + KEYS + SPARE, .seed = 1, .words = WORDS};
+    must("open", rcu_open_map(CPUS, UINT64_C(1) << 62, &sizes, &rcu));
+    for (uint32_t cpu = 0; cpu < CPUS; cpu++) {
+        must("seat", rcu_seat_open(&rcu, cpu, &seats[cpu].seat));
+        if (cpu) must("arrive", rcu_arrive(&rcu, &seats[cpu].seat));
+    }
+    must("idle", rcu_seat_idle(&seats[0].seat));
 }
 
 static void update_table(void) {
     pthread_t readers[READERS];
-    rcu_map_sizes_t sizes = {.buckets = 8, .nodes = 8 + KEYS + SPARE, .seed = 1, .words = WORDS};
-    pthread_barrier_init(&start, 0, READERS + 1);
-    driver_open_map(&sizes);
+    set_up_table();
     for (uint64_t key = 1; key <= STAY; key++) come_or_go(key);
     for (unsigned i = 0; i < READERS; i++)
-        if (pthread_create(&readers[i], 0, read_table, &places[1 + i])) abort();
-    pthread_barrier_wait(&start);
+        if (pthread_create(&readers[i], 0, read_table, &seats[1 + i])) abort();
     for (uint64_t i = 0; i < UPDATES; i++) {
         replace(1 + i % STAY);
         if (i % 2) put(STAY + 1 + i * 5 % (KEYS - STAY));
@@ -163,13 +199,13 @@ static void update_table(void) {
     }
     atomic_store_explicit(&over, true, memory_order_release);
     for (unsigned i = 0; i < READERS; i++) pthread_join(readers[i], 0);
-    uint64_t entries = count_entries();
+    uint64_t entries = rcu_map_len(&rcu);
     for (uint64_t key = 1; key <= KEYS; key++) take_out(key);
-    driver_barrier(&places[0]);
+    while (rcu_defer_count(&seats[0].seat)) free_done();
     printf("%" PRIu64 " records made, %" PRIu64 " freed; %" PRIu64 " entries, then %" PRIu64
-           "; read wrong %u\n", made, freed, entries, count_entries(), atomic_load(&wrong));
-    driver_close();
-    pthread_barrier_destroy(&start);
+           "; read wrong %u\n", made, freed, entries, rcu_map_len(&rcu), atomic_load(&wrong));
+    for (uint32_t cpu = 0; cpu < CPUS; cpu++) rcu_seat_close(&seats[cpu].seat);
+    rcu_close(&rcu);
 }
 
 /* ---- what is refused */
@@ -216,8 +252,6 @@ static void pass_grace_periods(rcu_t *engine, uint64_t cookie) {
     rcu_turn_t turn;
     while (!rcu_poll(engine, cookie)) must("drive", rcu_drive_for(engine, cookie, &turn));
 }
-
-typedef uint32_t (*put_call)(rcu_t *, const uint64_t *, size_t, uint64_t *, size_t);
 
 /* Puts an entry of two words in, and writes the one that had its key to `old`. */
 static uint32_t put_two(put_call call, rcu_t *engine, uint64_t key, uint64_t value, uint64_t *old) {

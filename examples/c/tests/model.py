@@ -1,5 +1,5 @@
 #!/usr/bin/env python3
-"""Tries how the threads of driver.h sleep and wake one another, over all interleavings and store
+"""Tries how the threads of sleeping_driver.c sleep and wake one another, over all interleavings and store
 buffers: bindings/urcu/tests/model.py says how, and what the marks of a step mean.
 
 Use: examples/c/tests/model.py
@@ -13,34 +13,34 @@ sys.dont_write_bytecode = True
 from model import try_all
 from sleep import OWN, sleeps
 
-# A place gets quiet, and then looks whether the maker sleeps for it.
+# A reader gets quiet, and then looks whether the driver sleeps for it.
 GETS_QUIET = """
-    quietME = 1                           | rcu_seat_idle(&place->seat)); .. wake_maker(place)
+    quietME = 1                           | rcu_seat_idle(&own->seat)); .. wake_driver(own);
     fence !
-    s = slept                             | rcu_seat_wakes(&place->seat, &it)
+    s = slept                             | rcu_seat_wakes(&own->seat, &wakes)
     if s is ME goto wakes
     goto over
 wakes:
-    lock
-    signal !                              | pthread_cond_signal(&quiet)
+    lock                                  | if (wakes) wake(&quiet);
+    signal !                              | pthread_cond_signal(condition);
     unlock
 over:
 """
-# A place wishes for a cookie, ME, and looks whether the driver's thread sleeps where that is the
-# greatest. (What the second place does is needed: it asks for all.)
-ASKS = """
-    c = max cookie ME !                   | rcu_seat_want(&place->seat, cookie, &wakes)
+# A thread requests the grace period of a cookie, ME, and looks whether the driver sleeps if that is
+# the greatest. (What the second thread does is needed: it requests all.)
+REQUESTS = """
+    c = max cookie ME !                   | rcu_seat_want(&own->seat, cookie, &wakes)
     if c is ME goto over
     if c is 2 goto over
-    s = asleep !                          | if (!wakes) return;
+    s = asleep !                          | if (wakes) wake(&requested);
     unless s goto over
     lock
-    signal !                              | pthread_cond_signal(&asked)
+    signal !                              | pthread_cond_signal(condition);
     unlock
 over:
 """
-# The driver's thread makes what was asked for, up to 2, and sleeps meanwhile.
-MAKES = """
+# The driver makes what was requested, up to 2, and sleeps meanwhile.
+DRIVES = """
     lock
 again:
     asleep = 1 !                          | must("wanted", rcu_wanted(&rcu, true, &cookie));
@@ -48,26 +48,45 @@ again:
     c = cookie !
     if c is made goto sleeps              | if (rcu_poll(&rcu, cookie)) {
     asleep = 0                            | must("wanted", rcu_wanted(&rcu, false, &cookie));
-    made = cookie                         | wait_for(cookie);
+    made = cookie                         | make_grace_periods(cookie);
     goto again
 sleeps:
     if made is 2 goto over
-    wait                                  | pthread_cond_wait(&asked, &lock)
+    wait                                  | pthread_cond_wait(&requested, &lock)
     lock
     goto again
 over:
     unlock
 """
+# Who waits looks under the lock whether the cookie is done; the driver ends it with the lock held.
+WAITS = """
+    lock
+again:
+    d = done                              | while (!rcu_poll(&rcu, cookie))
+    if d goto over
+    wait                                  | pthread_cond_wait(&ended, &lock)
+    lock
+    goto again
+over:
+    unlock
+"""
+ENDS = """
+    lock
+    done = 1                              | turn.what == RCU_TURN_ENDED
+    signal !                              | pthread_cond_broadcast(&ended)
+    unlock
+"""
 PROTOCOLS = {
-    "a sleep until two places are quiet":
+    "a sleep until two readers are quiet":
         ({"quiet1": 0, "quiet2": 0, "slept": 0},
          [GETS_QUIET.replace("ME", "1"), GETS_QUIET.replace("ME", "2"),
           sleeps("rcu_may_sleep(&rcu, &sleeps, &left)",
                  "if (sleeps) pthread_cond_wait(&quiet, &lock)")]),
-    "a sleep until a place asks":
+    "a sleep until a thread requests a grace period":
         ({"cookie": 0, "asleep": 0},
-         [ASKS.replace("ME", "1").replace(" ! ", "   "), ASKS.replace("ME", "2"), MAKES]),
+         [REQUESTS.replace("ME", "1").replace(" ! ", "   "), REQUESTS.replace("ME", "2"), DRIVES]),
+    "a wait for a grace period of two threads": ({"done": 0}, [WAITS, WAITS, ENDS]),
 }
 
 if __name__ == "__main__":
-    sys.exit(try_all(PROTOCOLS, [f"{HERE}/../driver.h", f"{OWN}/sleeps.rt"]))
+    sys.exit(try_all(PROTOCOLS, [f"{HERE}/../sleeping_driver.c", f"{OWN}/sleeps.rt"]))
