@@ -2,6 +2,7 @@
 import os
 import re
 
+from edits import every_edit
 from functions import HEAD, functions_of, has_proof_apart, lines_of_body, proof_with_hole
 from toolchain import rt, rtlib
 
@@ -17,15 +18,14 @@ class Edit:
     be one. Where the edit names clauses, its twin has these alone of those that begin with
     ensures. `why`: what is wrong with the edit."""
 
-    def __init__(self, crate, file, is_made=True):
-        self.crate, self.file, self.is_made = crate, file, is_made
-        self.name = os.path.basename(file).removesuffix(".edit")
-        self.is_harmless = os.path.basename(os.path.dirname(file)) != "wrong"
+    def __init__(self, crate, name, text, is_harmless, is_made=True):
+        self.crate, self.name, self.text = crate, name, text
+        self.is_harmless, self.is_made = is_harmless, is_made
         self.is_alone, self.seconds = False, 0
         self.changes, self.added, self.is_twin, self.is_renamed = {}, {}, False, False
         # The function that it is in, and the one by which it is judged.
         self.of = self.function = None
-        texts, self.why = rt.read_edit(file, crate.folder)
+        texts, self.why = rt.edited(text, crate.folder)
         if not self.why:
             self.why = self.plant(texts)
 
@@ -41,7 +41,7 @@ class Edit:
             return "it is not an edit of one function"
         self.of = around[-1]
         self.function = self.of.path
-        labels = re.findall(r"(?m)^breaks: (\w+)$", rtlib.text_of(self.file))
+        labels = re.findall(r"(?m)^breaks: (\w+)$", self.text)
         twin = self.twin(path, text, (start, end, new), labels if self.is_made else [])
         if twin:
             self.is_twin, self.changes = True, {path: twin}
@@ -91,7 +91,7 @@ class Edit:
 
     def unmade(self):
         """Its function as it is, to be judged where the edit is."""
-        found = Edit(self.crate, self.file, is_made=False)
+        found = Edit(self.crate, self.name, self.text, self.is_harmless, is_made=False)
         found.is_alone = self.is_alone
         return found
 
@@ -134,9 +134,8 @@ def with_clauses(text, labels):
 
 def edits_of(crate):
     """The edits in a crate's folders wrong/ and harmless/."""
-    folders = [f"{crate.folder}/{it}" for it in ("wrong", "harmless")]
-    files = [f"{it}/{name}" for it in folders if os.path.isdir(it) for name in os.listdir(it)]
-    return [Edit(crate, it) for it in sorted(files)]
+    return [Edit(crate, it.name, it.text, it.folder == "harmless") for it in every_edit()
+            if it.crate == crate.name and it.folder != "must-fail"]
 
 
 def planted(edits, changes_beside):

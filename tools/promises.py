@@ -8,8 +8,7 @@ prints each promise of a crate, the calls that keep it, and the wrong bodies tha
 The promises of a crate stand in sections whose heading names it, as '(`rcu_seq`)'. Each is an item
 of a list: '- **Title.** `Contract`, `contract`: what is promised. Kept by `Call`, `call`.', whose
 title and last sentence only some have. What stands in parentheses before the colon is no contract.
-A wrong body (crates/*/must-fail/*.edit, crates/*/wrong/*.edit) has a line 'promise: NAME', or
-several. NAME is a title, a contract of the page or a function of the crate, or a law that it breaks
+A wrong body (crates/*/must-fail, crates/*/wrong: edits.py) has a line 'promise: NAME', or several. NAME is a title, a contract of the page or a function of the crate, or a law that it breaks
 in a crate above, behind that crate's name: `rcu_core::laws::no_callback_runs_early`.
 """
 import functools
@@ -20,6 +19,7 @@ import textwrap
 
 sys.dont_write_bytecode = True
 from checks import files, read
+from edits import every_edit
 
 PAGE = "docs/PROMISES.md"
 ITEM = re.compile(r"(?:\*\*(?P<title>.+?)\.\*\* )?(?P<head>.+?): (?P<text>.+)")
@@ -52,9 +52,9 @@ def promises():
 
 def edits():
     """Each wrong body, as its crate and its name, with the names of its promises."""
-    for path in files():
-        if found := re.fullmatch(r"crates/(\w+)/(?:must-fail|wrong)/(\w+)\.edit", path):
-            yield *found.groups(), re.findall(r"(?m)^promise: (.+)$", read(path))
+    for it in every_edit():
+        if it.folder != "harmless":
+            yield it.crate, it.name, re.findall(r"(?m)^promise: (.+)$", it.text)
 
 
 @functools.lru_cache(maxsize=None)
