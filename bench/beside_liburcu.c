@@ -140,8 +140,6 @@ struct reader {
 #define READS(NAME, ARRIVE, ENTER, EXIT, QUIET, DEPART)                                            \
     static void *NAME##_reads(void *it) {                                                          \
         struct reader *reader = it;                                                                \
-        uint32_t depth = 0;                                                                        \
-        (void)depth;                                                                               \
         ARRIVE;                                                                                    \
         pthread_barrier_wait(&start);                                                              \
         double begun = now();                                                                      \
@@ -159,19 +157,19 @@ struct reader {
         return 0;                                                                                  \
     }
 
-READS(own, (arrive(reader->place), rcu_seat_enter(&reader->place->seat, &depth)), , ,
+READS(own, (arrive(reader->place), rcu_seat_enter(&reader->place->seat)), , ,
       rcu_seat_renew(&reader->place->seat, &reader->place->quiet_at),
-      (rcu_seat_exit(&reader->place->seat, &depth), depart(reader->place)))
+      (rcu_seat_exit(&reader->place->seat), depart(reader->place)))
 READS(qsbr, urcu_qsbr_register_thread(), urcu_qsbr_read_lock(), urcu_qsbr_read_unlock(),
       urcu_qsbr_quiescent_state(), urcu_qsbr_unregister_thread())
 READS(memb, urcu_memb_register_thread(), urcu_memb_read_lock(), urcu_memb_read_unlock(), ,
       urcu_memb_unregister_thread())
-READS(section, arrive(reader->place), rcu_seat_enter(&reader->place->seat, &depth),
-      rcu_seat_exit(&reader->place->seat, &depth),
+READS(section, arrive(reader->place), rcu_seat_enter(&reader->place->seat),
+      rcu_seat_exit(&reader->place->seat),
       rcu_seat_quiesce_since(&reader->place->seat, &reader->place->quiet_at), depart(reader->place))
 READS(pin, (arrive(reader->place), rcu_seat_idle(&reader->place->seat)),
-      if (!i) rcu_seat_pin(&reader->place->seat, &depth), ,
-      rcu_seat_unpin(&reader->place->seat, &depth), depart(reader->place))
+      if (!i) rcu_seat_pin(&reader->place->seat), ,
+      rcu_seat_unpin(&reader->place->seat), depart(reader->place))
 
 static void *(*const reads[WAYS])(void *) = {own_reads, qsbr_reads, memb_reads, section_reads,
                                              pin_reads};

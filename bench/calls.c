@@ -75,10 +75,9 @@ static void pass_a_grace_period(rcu_t *rcu, rcu_seat_t *seats) {
 typedef void work(rcu_seat_t *seat);
 
 static void sections(rcu_seat_t *seat) {
-    uint32_t depth;
     for (int i = 0; i < TIMES; i++) {
-        must(rcu_seat_enter(seat, &depth));
-        must(rcu_seat_exit(seat, &depth));
+        must(rcu_seat_enter(seat));
+        must(rcu_seat_exit(seat));
     }
 }
 

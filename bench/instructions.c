@@ -61,8 +61,8 @@ int main(int count, char **words) {
     }
     begin(&rcu, &awaited);
     online += also > 0;
-    must(rcu_seat_enter(&seats[0], &found));
-    must(rcu_seat_exit(&seats[0], &found));
+    must(rcu_seat_enter(&seats[0]));
+    must(rcu_seat_exit(&seats[0]));
     must(rcu_collect_all(&rcu, &found));
     if (awaited != online || found != online) return 1;
     must(rcu_awaited_list(&rcu, cpus, opened, &found));

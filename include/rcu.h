@@ -60,7 +60,7 @@ extern "C" {
 
 /* The version: three numbers, and one that grows with them. */
 #define RCU_VERSION_MAJOR 0
-#define RCU_VERSION_MINOR 2
+#define RCU_VERSION_MINOR 3
 #define RCU_VERSION_PATCH 0
 #define RCU_VERSION (RCU_VERSION_MAJOR * 1000000 + RCU_VERSION_MINOR * 1000 + RCU_VERSION_PATCH)
 
@@ -159,14 +159,6 @@ enum rcu_turned {
     RCU_TURN_WAITING = 3  /* the grace period goes on, and awaits this many processors */
 };
 
-/* What a report did. */
-enum rcu_answer {
-    RCU_ANSWER_TAKEN = 0,  /* the processor was awaited, and others still are */
-    RCU_ANSWER_LAST = 1,   /* the processor was the only one awaited */
-    RCU_ANSWER_REPEAT = 2, /* the processor is not awaited */
-    RCU_ANSWER_STALE = 3   /* the report is of another grace period */
-};
-
 /* An engine's handle, which lies under a lock of the caller's. Handles may pass between threads. */
 typedef struct rcu {
     unsigned char *at;
@@ -190,23 +182,6 @@ typedef struct rcu_turn {
     uint32_t awaited; /* how many processors are awaited, if it began one or waits; else 0 */
     uint64_t number;  /* the number, if a grace period began or ended; else 0 */
 } rcu_turn_t;
-
-/* A replica's handle, for one thread at a time. Handles may pass between threads. */
-typedef struct rcu_replica {
-    unsigned char *at;
-} rcu_replica_t;
-
-/* The sizes of the map of an engine. */
-typedef struct rcu_map_sizes {
-    uint64_t buckets; /* how many chains the entries are in, 1 or more */
-    uint64_t nodes;   /* how many entries there is room for at a time, plus `buckets`: each bucket
-                       * takes one. An entry that was replaced or removed keeps its own until a
-                       * grace period is over */
-    uint64_t seed;    /* the seed of the hash that assigns keys to buckets: draw it at random if
-                       * others choose keys */
-    uint64_t words;   /* how many words an entry has, 2 or more, of which word 0 is its key. 0 means
-                       * 2: a key and a value */
-} rcu_map_sizes_t;
 
 /* <<< */
 
@@ -256,7 +231,7 @@ void __tsan_acquire(void *place);
 /* The calls that make a full fence: rcu_end, rcu_turn, rcu_arrive, rcu_seat_quiesce,
  * rcu_seat_quiesce_since, rcu_seat_renew, rcu_seat_wake, rcu_seat_take, rcu_seat_poll,
  * rcu_links_tend, rcu_defer_run, rcu_drive, rcu_drive_for, rcu_seat_pin, rcu_seat_repin,
- * rcu_barrier_wait, rcu_map_wait. */
+ * rcu_barrier_wait. */
 
 /* ---- opening and closing */
 
@@ -270,14 +245,6 @@ void __tsan_acquire(void *place);
  * Laws in crates/rcu_c/src/: dealt_seats_are_of_their_engine (laws.rt#L48),
  * seats_stay_of_their_engine (laws.rt#L73), returned_seats_are_dealt_again (laws.rt#L61). */
 uint32_t rcu_open_as(uint32_t cpus, uint64_t last, rcu_identity_t identity, rcu_t *rcu);
-
-/* Opens an engine as rcu_open_as, with a map of these sizes, which is empty. Each of its seats
- * reads it. Needs: `rcu` is closed.
- * Faults: 29 if there is no bucket, an entry has one word, there are fewer nodes than buckets, or
- * more than 2^32 words in all, an entry's and one more a node; 17 for no processor or more than
- * 4,096; 19 if `last` is no such number; 16. */
-uint32_t rcu_open_map_as(uint32_t cpus, uint64_t last, rcu_identity_t identity,
-                         const rcu_map_sizes_t *sizes, rcu_t *rcu);
 
 /* Closes an engine, and frees all that it has; values that are still queued are not handed out.
  * Seats that are open go on, and are closed in turn. If `rcu` is not an open engine, it does
@@ -547,17 +514,17 @@ bool rcu_seat_is_online(rcu_seat_t *seat);
 /* Returns whether the seat's processor is idle. False if `seat` is not an open seat. */
 bool rcu_seat_is_idle(rcu_seat_t *seat);
 
-/* Opens a read section by one load, or nests one deeper in the open one by none. Writes the depth.
+/* Opens a read section by one load, or nests one deeper in the open one by none.
  * Faults: 2 if the processor is offline; 23 if it is idle; 6 if the depth is 65,535.
  * Laws in crates/rcu_c/src/: dealt_seats_are_of_their_engine (laws.rt#L48),
  * seats_stay_of_their_engine (laws.rt#L73), returned_seats_are_dealt_again (laws.rt#L61). */
-uint32_t rcu_seat_enter(rcu_seat_t *seat, uint32_t *depth);
+uint32_t rcu_seat_enter(rcu_seat_t *seat);
 
-/* Leaves the innermost section. Writes the depth, which is 0 if one load closed the section.
+/* Leaves the innermost section. One load closes the outermost one.
  * Neither this nor rcu_seat_enter orders what the thread stores: what a section did comes before
  * the next quiescent state or departure.
  * Fault 5: no section is open. */
-uint32_t rcu_seat_exit(rcu_seat_t *seat, uint32_t *depth);
+uint32_t rcu_seat_exit(rcu_seat_t *seat);
 
 /* Passes a quiescent state, by one load and one store: from here on the thread uses nothing that it
  * read before. Writes the number that it saw.
@@ -780,7 +747,7 @@ uint64_t rcu_start_poll(rcu_t *rcu);
 /* ---- a thread that may block at any time, by its seat: it is idle but in its sections */
 
 /* Opens a read section, or nests one deeper in the open one. An idle processor wakes first, by one
- * exchange, with no look at the number: no rcu_seat_wake is needed. Writes the depth.
+ * exchange, with no look at the number: no rcu_seat_wake is needed.
  * It passes no quiescent state: a grace period that begins before the section ends awaits the
  * processor until it unpins. Of one that found it idle, or at whose number the section began, the
  * section sees what came before its begin, and what a thread did before it took a cookie that is
@@ -788,20 +755,20 @@ uint64_t rcu_start_poll(rcu_t *rcu);
  * consistent loads alone: if all readers load by such, the unfenced form is enough. An inner one
  * executes no fence.
  * Faults: 2 if the processor is offline; 6 if the depth is 65,535.
- * Fence: behind if `depth` is 1. */
-uint32_t rcu_seat_pin_unfenced(rcu_seat_t *seat, uint32_t *depth);
-static inline uint32_t rcu_seat_pin(rcu_seat_t *seat, uint32_t *depth) {
-    uint32_t result = rcu_seat_pin_unfenced(seat, depth);
-    if (result == 0 && *depth == 1) rcu_fence();
+ * Fence: behind if rcu_seat_depth is 1. */
+uint32_t rcu_seat_pin_unfenced(rcu_seat_t *seat);
+static inline uint32_t rcu_seat_pin(rcu_seat_t *seat) {
+    uint32_t result = rcu_seat_pin_unfenced(seat);
+    if (result == 0 && rcu_seat_depth(seat) == 1) rcu_fence();
     return result;
 }
 
-/* Leaves the innermost section. Writes the depth. At 0 the section closed: then the processor is
- * idle, as by rcu_seat_idle, even if it was awake before the section.
+/* Leaves the innermost section. If it was the outermost one, the processor is idle from then on, as
+ * by rcu_seat_idle, even if it was awake before the section.
  * All that the thread did before comes before what follows the collection or the begin that finds
  * it idle.
  * Faults: 2 if the processor is offline; 5 if no section is open. */
-uint32_t rcu_seat_unpin(rcu_seat_t *seat, uint32_t *depth);
+uint32_t rcu_seat_unpin(rcu_seat_t *seat);
 
 /* Renews the section that a pin opened, as rcu_seat_renew: no grace period that began before waits
  * for it any more. From here on the thread uses nothing that the section read before. Writes the
@@ -816,53 +783,6 @@ static inline uint32_t rcu_seat_repin(rcu_seat_t *seat, uint64_t *number) {
     if (*number != last) rcu_fence();
     return result;
 }
-
-/* ---- replicas of one engine on several machines: each hears of reports and departures by
- * messages, and those that began alike and heard the same processors await the same ones, in
- * whatever order, however often. A replica has no seats; what a call costs is what its number of
- * processors asks. */
-
-/* Opens a replica of 1 to 4,096 processors at number 0, which awaits nobody. No grace period begins
- * at `last`, a multiple of 4 from 4 to 2^62. Needs: `replica` is closed.
- * Faults: 17 for no processor or more than 4,096; 19 if `last` is no such number; 16. */
-uint32_t rcu_replica_open(uint32_t cpus, uint64_t last, rcu_replica_t *replica);
-
-/* Begins a grace period that awaits the processors whose bits are set in words of 64, the lowest
- * first; bits of processors that there are not mean nothing. Writes its number, four for each that
- * ended and one more. It costs a step a processor, and takes no memory.
- * Faults: 8 if one runs; 11 if the number is the last one. */
-uint32_t rcu_replica_begin(rcu_replica_t *replica, const uint64_t *words, size_t length,
-                           uint64_t *number);
-
-/* Takes a processor's report of a quiescent state, with the number that it had noted. A report of
- * another number than that of the running grace period changes nothing, nor does a repeated one.
- * Writes an rcu_answer.
- * Fault 1: there is no such processor. */
-uint32_t rcu_replica_report(rcu_replica_t *replica, uint32_t cpu, uint64_t number,
-                            uint32_t *answer);
-
-/* Takes a processor's departure: it is awaited no more in the running grace period. Its message has
- * no number that is compared, so pass it on only if the processor departed in this grace period.
- * Faults: 1 if there is no such processor; 12 for processor 0. */
-uint32_t rcu_replica_depart(rcu_replica_t *replica, uint32_t cpu);
-
-/* Takes in what another replica of the same grace period has heard: the first one then awaits the
- * processors that both await. `other` is another handle, and stays as it is. It costs a step a
- * processor.
- * Fault 20: number of processors, number or start set differ. */
-uint32_t rcu_replica_merge(rcu_replica_t *replica, rcu_replica_t *other);
-
-/* Lists the processors that a replica awaits, in order, `room` at most: writes them from `cpus` on,
- * and how many they are; the rest of the room stays. */
-uint32_t rcu_replica_awaited(rcu_replica_t *replica, uint32_t *cpus, size_t room, uint32_t *count);
-
-/* Ends the grace period. Writes the new number.
- * Faults: 9 if none runs; 10 if a processor is awaited. */
-uint32_t rcu_replica_end(rcu_replica_t *replica, uint64_t *number);
-
-/* Closes a replica, and frees all that it has. If `replica` is not an open replica, it does
- * nothing. */
-void rcu_replica_close(rcu_replica_t *replica);
 
 /* ---- the version */
 
@@ -941,119 +861,6 @@ uint32_t rcu_may_sleep(rcu_t *rcu, uint32_t *sleeps, uint32_t *left);
  * Writes 1 where the caller has to wake who drives, under the lock. Else 0. It costs a load. */
 uint32_t rcu_seat_wakes(rcu_seat_t *seat, uint32_t *wakes);
 
-/* ---- the map of an engine, as a seat's section reads it: with no lock, beside all calls on other
- * handles. An entry that a section found stays as it is until the section ends. */
-
-/* Looks a key up in the open section, and writes the words of its entry, or the key 0 if it finds
- * none: then the others stay. A key that is in the map from the section's beginning on is found,
- * even if its entry is replaced meanwhile; what is found was there at some moment of the section.
- * It costs two loads for each entry of the key's bucket up to there, and one for each further word.
- * If it finds an entry, all that the thread that put it in did before comes before what follows
- * this call.
- * Faults: 5 if no section is open; 32 if an entry has another number of words.
- * Laws in crates/rcu_c/src/: keys_that_stay_are_found (map_laws.rt#L24), found_keys_were_there
- * (map_laws.rt#L42), found_entries_were_there (map_laws.rt#L59), no_key_that_stays_is_passed_over
- * (map_laws.rt#L92), reads_are_between_the_moments_that_they_know (map_laws.rt#L77). */
-uint32_t rcu_map_get(rcu_seat_t *seat, uint64_t key, uint64_t *entry, size_t room);
-
-/* Goes on from a key to the entry behind it, in the open section, and writes the words of that, or
- * the key 0 if there is none any more. From the key 0 it goes to the first one. The entries are in
- * the order of their buckets, and in each of their keys; the key need not be in the map. So calls
- * from the key 0 on, each with the key that the one before wrote, write each key that is in the map
- * as long as the section lasts. It costs two loads for each entry of the key's bucket up to there,
- * one for each bucket with no further entry, and one for each further word.
- * It orders what rcu_map_get orders.
- * Faults: 5 if no section is open; 32 if an entry has another number of words.
- * Laws in crates/rcu_c/src/: keys_that_stay_are_found (map_laws.rt#L24), found_keys_were_there
- * (map_laws.rt#L42), found_entries_were_there (map_laws.rt#L59), no_key_that_stays_is_passed_over
- * (map_laws.rt#L92), reads_are_between_the_moments_that_they_know (map_laws.rt#L77). */
-uint32_t rcu_map_next(rcu_seat_t *seat, uint64_t key, uint64_t *entry, size_t room);
-
-/* ---- updates of the map of an engine: `rcu` is under the caller's lock. Sections read the map
- * meanwhile, and see the entries as they were before a call or as they are after it. */
-
-/* Puts an entry of these words in, by one store, if none has its key, and writes the key 0. Else it
- * writes the words of the entry that has the key, and changes nothing. It costs a step for each
- * entry of the key's bucket up to there, and for each word.
- * All that the thread did before comes before what follows a section's rcu_map_get that finds the
- * entry.
- * Faults: 32 if an entry has another number of words than `entry` or `old`; 30 if the key is 0; 31
- * if no entry has the key, and no node is free.
- * Laws in crates/rcu_c/src/: keys_that_stay_are_found (map_laws.rt#L24), found_keys_were_there
- * (map_laws.rt#L42), found_entries_were_there (map_laws.rt#L59), no_key_that_stays_is_passed_over
- * (map_laws.rt#L92), reads_are_between_the_moments_that_they_know (map_laws.rt#L77). */
-uint32_t rcu_map_insert(rcu_t *rcu, const uint64_t *entry, size_t length, uint64_t *old,
-                        size_t room);
-
-/* Puts an entry in the place of the one that has its key, by one store, and writes that: a section
- * finds the old one or the new one. If none has the key, it writes the key 0, and changes nothing.
- * Costs and orders as rcu_map_insert.
- * Data that words of the old entry lead to may be freed when a full grace period has passed, as by
- * rcu_queue or rcu_defer_link.
- * Faults: 32 as of rcu_map_insert; 30 if the key is 0; 31 if an entry has the key, and no node is
- * free.
- * Laws in crates/rcu_c/src/: keys_that_stay_are_found (map_laws.rt#L24), found_keys_were_there
- * (map_laws.rt#L42), found_entries_were_there (map_laws.rt#L59), no_key_that_stays_is_passed_over
- * (map_laws.rt#L92), reads_are_between_the_moments_that_they_know (map_laws.rt#L77). */
-uint32_t rcu_map_replace(rcu_t *rcu, const uint64_t *entry, size_t length, uint64_t *old,
-                         size_t room);
-
-/* Puts an entry in, by one store: in the place of the one that has its key, as rcu_map_replace, or
- * if none has it, as rcu_map_insert. Writes the one that had it, or the key 0.
- * Faults: 32 as of rcu_map_insert; 30 if the key is 0; 31 if no node is free.
- * Laws in crates/rcu_c/src/: keys_that_stay_are_found (map_laws.rt#L24), found_keys_were_there
- * (map_laws.rt#L42), found_entries_were_there (map_laws.rt#L59), no_key_that_stays_is_passed_over
- * (map_laws.rt#L92), reads_are_between_the_moments_that_they_know (map_laws.rt#L77). */
-uint32_t rcu_map_put(rcu_t *rcu, const uint64_t *entry, size_t length, uint64_t *old, size_t room);
-
-/* Takes the entry of a key out, by one store, and writes its words, or the key 0 if there is none.
- * Its node is free again once a call of rcu_map_age has found it removed, and a later one finds
- * that a full grace period has passed since. Data that its words lead to may be freed when a full
- * grace period has passed.
- * Fault 32: an entry has another number of words.
- * Laws in crates/rcu_c/src/: keys_that_stay_are_found (map_laws.rt#L24), found_keys_were_there
- * (map_laws.rt#L42), found_entries_were_there (map_laws.rt#L59), no_key_that_stays_is_passed_over
- * (map_laws.rt#L92), reads_are_between_the_moments_that_they_know (map_laws.rt#L77). */
-uint32_t rcu_map_remove(rcu_t *rcu, uint64_t key, uint64_t *old, size_t room);
-
-/* Writes the words of the entry of a key as it is now, or the key 0: under the lock no change is
- * missed, as it may be by a section.
- * Fault 32: an entry has another number of words. */
-uint32_t rcu_map_find(rcu_t *rcu, uint64_t key, uint64_t *entry, size_t room);
-
-/* Returns how many entries the map has. 0 if `rcu` is not an open engine. */
-uint64_t rcu_map_len(rcu_t *rcu);
-
-/* Reclaims nodes, after one look at the number: the nodes of entries that were replaced or removed
- * wait from now on for the grace period of the cookie that this writes, and those whose grace
- * period has passed are free. No entry changes. It costs a load, and a step for each node that
- * waits from now on or is free.
- * If a put finds no node free (31): call it, drive until the cookie is done, and call it again; or
- * call rcu_map_wait.
- * Laws in crates/rcu_c/src/: keys_that_stay_are_found (map_laws.rt#L24), found_keys_were_there
- * (map_laws.rt#L42), found_entries_were_there (map_laws.rt#L59), no_key_that_stays_is_passed_over
- * (map_laws.rt#L92), reads_are_between_the_moments_that_they_know (map_laws.rt#L77). */
-uint32_t rcu_map_age(rcu_t *rcu, uint64_t *cookie);
-
-/* One step of waiting for a free node, for the driver: it looks at the number, as rcu_map_age. If
- * no node is free then, it takes a step of driving for the cookie of that number, as rcu_drive_for.
- * No entry changes.
- * If a call that puts an entry in finds no node free (31): call this, and that again, until the
- * entry is in or this is refused. In between let other threads run; the caller's own processor is
- * idle or offline, or passes quiescent states. It orders what rcu_drive_for orders.
- * Faults: 31 if each node has an entry, so that none becomes free before one is removed; 11 if a
- * grace period would begin, and the number is the last one. At 11 it has looked.
- * Fence: behind.
- * Laws in crates/rcu_c/src/: keys_that_stay_are_found (map_laws.rt#L24), found_keys_were_there
- * (map_laws.rt#L42), found_entries_were_there (map_laws.rt#L59), no_key_that_stays_is_passed_over
- * (map_laws.rt#L92), reads_are_between_the_moments_that_they_know (map_laws.rt#L77). */
-uint32_t rcu_map_wait_unfenced(rcu_t *rcu);
-static inline uint32_t rcu_map_wait(rcu_t *rcu) {
-    uint32_t result = rcu_map_wait_unfenced(rcu);
-    rcu_fence();
-    return result;
-}
-
 /* <<< */
 
 /* ---- links in the caller's own nodes */
@@ -1108,13 +915,6 @@ static inline rcu_identity_t rcu_new_identity(void) {
 /* Opens an engine as rcu_open_as, under an identity that no other engine of the process has. */
 static inline uint32_t rcu_open(uint32_t cpus, uint64_t last, rcu_t *rcu) {
     return rcu_open_as(cpus, last, rcu_new_identity(), rcu);
-}
-
-/* Opens an engine with a map as rcu_open_map_as, under an identity that no other engine of the
- * process has. */
-static inline uint32_t rcu_open_map(uint32_t cpus, uint64_t last, const rcu_map_sizes_t *sizes,
-                                    rcu_t *rcu) {
-    return rcu_open_map_as(cpus, last, rcu_new_identity(), sizes, rcu);
 }
 
 #ifdef __cplusplus

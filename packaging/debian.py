@@ -19,6 +19,13 @@ LIBRARIES = "lib/x86_64-linux-gnu"
 MAINTAINER = "nobody is named yet <nobody@rcu.invalid>"
 
 
+def soname_of(version):
+    """The number of the shared objects: the first one of the version, and while that is 0 the second
+    one too, as 0.3."""
+    first, second, _ = version.split(".")
+    return first if first != "0" else f"0.{second}"
+
+
 def files_in(folder):
     """The files and links below it, by their paths from there."""
     return sorted(os.path.relpath(os.path.join(at, name), folder)
@@ -67,7 +74,6 @@ def lay(usr, fields, folder, taken):
 def describe(fields, folder, version, time, build, sums):
     """Writes what dpkg reads of a package, and its documents."""
     name, control = fields["Package"], f"{folder}/DEBIAN"
-    soname = version.partition(".")[0]
     documents = f"{folder}/usr/share/doc/{name}"
     licence = read("LICENSE")
     write(f"{documents}/copyright", f"The library rcu, and the program.\n\n{licence}")
@@ -79,10 +85,10 @@ def describe(fields, folder, version, time, build, sums):
     if os.path.exists(overrides):
         write(f"{folder}/usr/share/lintian/overrides/{name}", read(overrides))
     if name.startswith("librcu") and name[-1].isdigit():
-        libraries = sorted({os.path.basename(it).partition(".so.")[0] for it in files_in(folder)
-                            if re.search(rf"/librcu[\w-]*\.so\.{soname}$", it)})
+        shared = [re.search(r"/(librcu[\w-]*)\.so\.([\d.]+)$", it) for it in files_in(folder)]
+        sonames = sorted(it.groups() for it in shared if it and it[2] != version)
         write(f"{control}/shlibs",
-              "".join(f"{it} {soname} {name} (>= {version})\n" for it in libraries))
+              "".join(f"{it} {number} {name} (>= {version})\n" for it, number in sonames))
         write(f"{control}/triggers", "activate-noawait ldconfig\n")
     sums = [(f"{folder}/{it}", it) for it in files_in(folder) if not it.startswith("DEBIAN")]
     plain = [it for it in sums if not os.path.islink(it[0])]
@@ -112,7 +118,7 @@ def even(folder):
 def pack(usr, room, folder, glibc, time, build, sums):
     """Makes a package of each stanza of debian/control. Returns their paths."""
     version, taken, made = read("VERSION").strip(), set(), []
-    for fields in stanzas({"VERSION": version, "GLIBC": glibc}):
+    for fields in stanzas({"VERSION": version, "SONAME": soname_of(version), "GLIBC": glibc}):
         name = fields["Package"]
         lay(usr, fields, f"{room}/{name}", taken)
         describe(fields, f"{room}/{name}", version, time, build, sums)

@@ -1,18 +1,21 @@
-"""The calls of rcu_c as C and Rust have them, for tools/write_calls: include/rcu.h,
+"""The calls of rcu_c as C and Rust have them, for tools/write_calls: the headers of include/,
 bindings/rcu-sys/src/lib.rs, and a manual page for each call."""
 import re
 import textwrap
 
 import doc_comments as source
 import laws
-from checks import read
+from checks import headers, read
 
 WIDTH = 100
 PLAIN = {"u8": "unsigned char", "u32": "uint32_t", "u64": "uint64_t", "usize": "size_t",
          "i32": "int", "bool": "bool"}
 UNFENCED = "_unfenced"
+# The header that has a call or a type, where no doc comment names another one.
+HEADER = "include/rcu.h"
 REFUSALS = "crates/rcu_c/src/refusal.rt"
 # A function that gives each value of an enum its number in C.
+HEADER_NAMED = re.compile(r"Header: `([\w/]+\.h)`\.$")
 ENUM = r"((?:///.*\n)+)(?:pub\(crate\) )?fn (\w+)\(\w+: (\w+)\)"
 
 
@@ -34,42 +37,63 @@ def sentence(text):
     return text if text[1:2].isupper() else text[0].lower() + text[1:]
 
 
-class Library:
-    """What rcu_c exports: its calls by file, its structs, its enums and its faults."""
+class Group:
+    """The calls of a file that a header has, and the paragraphs of the file's head."""
 
-    def __init__(self, header):
+    def __init__(self, header, head, calls):
+        self.header, self.head, self.calls = header, head, calls
+
+
+class Library:
+    """What rcu_c exports: its calls by file, the structs and enums of each header, and its faults."""
+
+    def __init__(self):
         self.files = {it: read(it) for it in source.files_of("rcu_c")}
-        groups = [(source.head_of(path), self.exports(path)) for path in self.files]
-        self.groups = sorted([it for it in groups if it[1]], key=lambda it: min(
-            place_in(header, f" {call.name}(") for call in it[1]))
-        code = "".join(self.files.values())
+        code, known = "".join(self.files.values()), "".join(map(read, headers()))
         self.types = {name: kind for kind, name in re.findall(
             r"\(`(rcu_(?:\w+_)?t)`\).*\n(?:///.*\n)*(?:#.*\n)*pub (?:type|struct) (\w+)", code)}
-        self.structs = sorted(self.structs_in(code),
-                              key=lambda it: place_in(header, f"}} {it[0]};"))
-        self.enums = sorted(self.enums_in(code), key=lambda it: place_in(header, f"enum {it[0]} "))
+        groups, structs, enums = [], [], []
+        for path, text in self.files.items():
+            head = source.head_of(path)
+            of_file = named_header(head) or HEADER
+            groups += self.groups_in(path, head, of_file)
+            structs += [(of_file, it) for it in self.structs_in(text, code)]
+            enums += [(of_file, it) for it in self.enums_in(text)]
+        self.groups = sorted(groups, key=lambda it: min(
+            place_in(known, f" {call.name}(") for call in it.calls))
+        self.structs = sorted(structs, key=lambda it: place_in(known, f"}} {it[1][0]};"))
+        self.enums = sorted(enums, key=lambda it: place_in(known, f"enum {it[1][0]} "))
+
+    def groups_in(self, path, head, of_file):
+        """The calls of a file, by the headers that have them."""
+        own, head = {}, [it for it in head if not HEADER_NAMED.match(it)]
+        for call in self.exports(path):
+            header = named_header(call.paragraphs) or of_file
+            call.paragraphs = [it for it in call.paragraphs if not HEADER_NAMED.match(it)]
+            own.setdefault(header, []).append(call)
+        return [Group(header, head, calls) for header, calls in own.items()]
 
     def exports(self, path):
         names = re.findall(r"no_mangle\)\]\n(?:pub )?extern \"C\" fn (\w+)", self.files[path])
         return [it for it in source.calls_in(self.files[path]) if it.name in names]
 
     def calls(self):
-        return [call for _, group in self.groups for call in group]
+        return [call for group in self.groups for call in group.calls]
 
-    def structs_in(self, code):
+    def structs_in(self, text, code):
         """Each struct: its name in C, what it is, and its fields with their types and words."""
         shape = r"((?:///.*\n)+)(?:#.*\n)*pub (?:struct (\w+) \{|type (\w+) = (\w+);)"
-        for doc, name, alias, of in re.findall(shape, code):
+        for doc, name, alias, of in re.findall(shape, text):
             if (name or alias) in self.types:
                 body = body_of(rf"pub struct {of or name}", code)
                 fields = re.findall(r"((?: +///.*\n)*) +(?:pub )?(\w+): ([\w* ]+),\n", body)
                 yield (self.types[name or alias], re.sub(r" \(`\w+`\)", "", words_of(doc)),
                        [(at, kind, words_of(its)) for its, at, kind in fields if kind != "Global"])
 
-    def enums_in(self, code):
+    def enums_in(self, text):
         """Each enum of C: its name, its words, and the number and words of each of its values."""
-        for doc, name, kind in re.findall(ENUM, code):
-            body = body_of(rf"(?:pub\(crate\) )?fn {name}", code)
+        for doc, name, kind in re.findall(ENUM, text):
+            body = body_of(rf"(?:pub\(crate\) )?fn {name}", text)
             said = re.search(r"`(rcu_\w+)`, as `(RCU_\w+)`", words_of(doc))
             arms = re.findall(rf"{kind}::(\w+)(?:\(.*?\))? => \(?(\d+)", body)
             if said:
@@ -115,6 +139,12 @@ class Library:
                 yield "room" if "mut" in kind else "length", "usize"
 
 
+def named_header(paragraphs):
+    """The header that a paragraph names, or none."""
+    found = [it[1] for it in map(HEADER_NAMED.match, paragraphs) if it]
+    return f"include/{found[0]}" if found else None
+
+
 def body_of(head, code):
     """What stands between the braces behind a head that matches, as rt fmt lays them out."""
     return re.search(rf"{head}\b.*?\{{\n(.*?)^\}}", code, re.DOTALL | re.MULTILINE)[1]
@@ -157,6 +187,7 @@ class Fence:
                              "together")
         text = said[0] if said else ""
         self.before, self.behind = "before" in text, "behind" in text
+        self.handle = next((name for name, _ in call.parameters()), "")
         self.changed = re.search(r"if `(\w+)` changed", text)
         self.value = re.search(r"if `(\w+)` is (\d+)", text)
         self.is_true = "if it returns true" in text
@@ -166,7 +197,7 @@ class Fence:
         if self.changed:
             return f"*{self.changed[1]} != last"
         if self.value:
-            return f"result == 0 && *{self.value[1]} == {self.value[2]}"
+            return f"result == 0 && {self.value[1]}({self.handle}) == {self.value[2]}"
         return "result" if self.is_true else ""
 
 
@@ -214,18 +245,23 @@ def struct_in_c(library, name, words, fields):
     return "\n".join([note([words]), f"typedef struct {tag} {{", *rows, f"}} {name};"])
 
 
-def types_in_c(library):
-    """The part of the header above the calls."""
+def faults_in_c(library):
+    """The faults of all calls, and their sentences."""
     faults = [(name, number, words) for number, name, words in library.faults()]
     cases = [f'    case {name}: return "{words}";' for name, _, words in faults]
     text = [note(["A sentence for a fault, without a full stop. At 0 it says that there is none."]),
             "static inline const char *rcu_fault_text(uint32_t fault) {", "    switch (fault) {",
             '    case 0: return "no fault";', *cases,
             '    default: return "no fault has this number";', "    }", "}"]
+    return [enum_in_c("rcu_fault", "Why a call is refused.", faults), "\n".join(text)]
+
+
+def types_in_c(library, header):
+    """The part of a header above its calls."""
     return "\n\n".join([
-        enum_in_c("rcu_fault", "Why a call is refused.", faults), "\n".join(text),
-        *(enum_in_c(*it) for it in library.enums),
-        *(struct_in_c(library, *it) for it in library.structs)])
+        *(faults_in_c(library) if header == HEADER else ()),
+        *(enum_in_c(*it) for of, it in library.enums if of == header),
+        *(struct_in_c(library, *it) for of, it in library.structs if of == header)])
 
 
 def prototype(library, call, name, static=False):
@@ -263,7 +299,17 @@ def call_in_c(library, call):
     return "\n".join(rows)
 
 
-def group_in_c(library, head, calls):
-    title = sentence(head[0]) if head[0].count(". ") == 0 else head[0][0].lower() + head[0][1:]
-    return "\n\n".join([note([title, *head[1:]], "/* ---- "),
-                        *(call_in_c(library, it) for it in calls)])
+def group_in_c(library, group):
+    title, *more = group.head
+    title = sentence(title) if title.count(". ") == 0 else title[0].lower() + title[1:]
+    return "\n\n".join([note([title, *more], "/* ---- "),
+                        *(call_in_c(library, it) for it in group.calls)])
+
+
+def calls_in_c(library, header):
+    """The part of a header that has its calls."""
+    groups = [it for it in library.groups if it.header == header]
+    fenced = [call.name.removesuffix(UNFENCED) for it in groups for call in it.calls
+              if call.name.endswith(UNFENCED)]
+    fences = [note([f"The calls that make a full fence: {', '.join(fenced)}."])] if fenced else []
+    return "\n\n".join([*fences, *(group_in_c(library, it) for it in groups)])

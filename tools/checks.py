@@ -56,6 +56,11 @@ def files():
     return sorted(found)
 
 
+def headers():
+    """The headers of the library for C: rcu.h, and those that include it."""
+    return [it for it in files() if it.startswith("include/") and it.endswith(".h")]
+
+
 def write(path, text):
     path = os.path.join(ROOT, path)
     os.makedirs(os.path.dirname(path), exist_ok=True)

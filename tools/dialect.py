@@ -1,6 +1,6 @@
 """Sentences that an RCU engineer would not write, for tools/form.
 
-Read are the pages and the header for C, whose notes are the doc comments of rcu_c, without code. A
+Read are the pages and the headers for C, whose notes are the doc comments of rcu_c, without code. A
 file may have as many of them as tools/dialect_left says, and no more. Write those numbers anew if
 some are mended: they only go down.
 
@@ -14,7 +14,7 @@ import sys
 
 sys.dont_write_bytecode = True
 sys.path.insert(0, os.path.dirname(os.path.realpath(__file__)))
-from checks import ROOT, files, read, write
+from checks import ROOT, files, headers, read, write
 
 LEFT = "tools/dialect_left"
 FENCED = re.compile(r"(?ms)^```.*?^```$")
@@ -43,7 +43,7 @@ def prose(path):
 
 
 def is_read(path):
-    return path.endswith(".md") or path == "include/rcu.h"
+    return path.endswith(".md") or path in headers()
 
 
 def found():

@@ -10,7 +10,7 @@ import re
 import textwrap
 
 import promises
-from checks import ROOT, files, read
+from checks import ROOT, files, headers, read
 
 PAGE = promises.PAGE
 FOLDER = "crates/rcu_c/src/"  # of the laws that the calls of C keep
@@ -96,7 +96,7 @@ def note_of(call):
 
 def links_to_other_lines():
     """The links to a line of code at which the function of that name does not begin."""
-    for page in (it for it in files() if it.endswith(".md") or it == "include/rcu.h"):
+    for page in (it for it in files() if it.endswith(".md") or it in headers()):
         for found in TO_LINE.finditer(read(page)):
             name, path, line = (it for it in found.groups() if it)
             folder = FOLDER if found[5] else os.path.dirname(page)

@@ -3,8 +3,8 @@ import os
 import re
 
 import c_calls
-import doc_comments as source
 import laws
+from checks import headers, read
 
 # A function that the header alone has: its note, and its head.
 OWN = re.compile(r"/\*((?:(?!\*/).)*?)\*/\n(?:#[^\n]*\n)*"
@@ -21,19 +21,20 @@ def plain(text):
 
 def listed(library):
     """The calls as the overview lists them, under the head of each file."""
-    for head, calls in library.groups:
-        yield f".SS {plain(re.split(r'[:.]', head[0])[0])}"
-        for call in calls:
+    for group in library.groups:
+        yield f".SS {plain(re.split(r'[:.]', group.head[0])[0])}"
+        for call in group.calls:
             name = call.name.removesuffix(c_calls.UNFENCED)
             yield f".TP\n.BR {name} (3)\n{c_calls.about(call.paragraphs)}"
 
 
-def page(title, names, prototypes, paragraphs, faults):
+def page(title, header, names, prototypes, paragraphs, faults):
     """The page of a call. `faults`: the name, number and words of each that it returns."""
     refused = [it for it in paragraphs if re.match(r"Faults?\b", it)]
     rows = [f".TH {names[0]} 3 {title}", ".SH NAME",
             f"{', '.join(names)} \\- {c_calls.about(paragraphs)}",
-            ".SH SYNOPSIS", ".nf", ".B #include <rcu.h>", ".PP", *(f".B {it}" for it in prototypes),
+            ".SH SYNOPSIS", ".nf", f".B #include <{header.removeprefix('include/')}>", ".PP",
+            *(f".B {it}" for it in prototypes),
             ".fi", ".SH DESCRIPTION", 
             "\n.PP\n".join(plain(it) for it in paragraphs if it not in refused)]
     if faults:
@@ -44,34 +45,36 @@ def page(title, names, prototypes, paragraphs, faults):
     return "\n".join([*rows, ".SH SEE ALSO", ".BR rcu (3)", ""])
 
 
-def pages(library, header, overview):
-    """Each page by the name of its file."""
+def pages(library, texts, overview):
+    """Each page by the name of its file. `texts`: of each header."""
     kinds = {number: (name, number, words) for number, name, words in library.faults()}
     numbers = dict((name, number) for number, (name, _, _) in kinds.items())
     title = re.match(r"\.TH RCU 3 (.*)", overview)[1]
-    for head, calls in library.groups:
-        for call in calls:
+    for group in library.groups:
+        for call in group.calls:
             name = call.name.removesuffix(c_calls.UNFENCED)
             names = list(dict.fromkeys([name, call.name]))
             faults = c_calls.faults_of(call)
             if c_calls.returns_fault(call):
                 faults = [numbers["RCU_CLOSED"], numbers["RCU_OTHER_KIND"], *faults]
             rows = [c_calls.prototype(library, call, it).replace("\n", "\n.B ") for it in names]
-            words = [*call.paragraphs, *head, *laws.note_of(name)]
-            yield f"{name}.3", page(title, names, rows, words,
+            words = [*call.paragraphs, *group.head, *laws.note_of(name)]
+            yield f"{name}.3", page(title, group.header, names, rows, words,
                                     [kinds[it] for it in faults])
             if call.name != name:
                 yield f"{call.name}.3", f".so man3/{name}.3\n"
     fenced = {it.name.removesuffix(c_calls.UNFENCED) for it in library.calls()}
-    for note, head, name in OWN.findall(header):
+    own = [(header, *it) for header, text in texts.items() for it in OWN.findall(text)]
+    for header, note, head, name in own:
         if name not in fenced:
             text = " ".join(re.sub(r"(?m)^ \* ?", "", note).split())
-            yield f"{name}.3", page(title, [name], [" ".join(head.split()) + ";"], [text], [])
+            head = " ".join(head.split()) + ";"
+            yield f"{name}.3", page(title, header, [name], [head], [text], [])
 
 
 def lay(library, folder):
     """Writes the pages into the folder."""
-    overview = source.read("docs/rcu.3")
-    for name, text in pages(library, source.read("include/rcu.h"), overview):
+    overview = read("docs/rcu.3")
+    for name, text in pages(library, {it: read(it) for it in headers()}, overview):
         with open(os.path.join(folder, name), "w", encoding="utf-8") as file:
             file.write(text)

@@ -76,8 +76,8 @@ def fenced(library, call):
 
 def types(library):
     faults = [(name, number, words) for number, name, words in library.faults()]
-    enums = [("Why a call is refused.", faults), *(it[1:] for it in library.enums)]
-    return "\n\n".join([*(struct(library, *it) for it in library.structs),
+    enums = [("Why a call is refused.", faults), *(it[1:] for _, it in library.enums)]
+    return "\n\n".join([*(struct(library, *it) for _, it in library.structs),
                         *(constants(*it) for it in enums)])
 
 

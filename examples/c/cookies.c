@@ -53,19 +53,19 @@ static void pass_quiescent_state(uint32_t cpu) {
 }
 
 static void *read_all(void *it) {
-    uint32_t cpu = (uint32_t)(uintptr_t)it, depth;
+    uint32_t cpu = (uint32_t)(uintptr_t)it;
     uint64_t moved;
     pthread_mutex_lock(&lock);
     must("arrive", rcu_arrive(&rcu, &seats[cpu]));
     pthread_mutex_unlock(&lock);
     while (!atomic_load_explicit(&over, memory_order_acquire)) {
-        must("enter", rcu_seat_enter(&seats[cpu], &depth));
+        must("enter", rcu_seat_enter(&seats[cpu]));
         for (unsigned i = 0; i < UPDATERS; i++) {
             struct node *node = atomic_load_explicit(&slots[i].shown, memory_order_acquire);
             if (node->twice != 2 * node->value)
                 atomic_fetch_add_explicit(&wrong, 1, memory_order_relaxed);
         }
-        must("exit", rcu_seat_exit(&seats[cpu], &depth));
+        must("exit", rcu_seat_exit(&seats[cpu]));
         pass_quiescent_state(cpu);
         sched_yield();
     }

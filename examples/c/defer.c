@@ -46,14 +46,13 @@ static void read_some(uint64_t *last) {
 
 static void *renew_and_read(void *it) {
     uint64_t quiet_at = 0, last = 0;
-    uint32_t depth;
-    must("enter", rcu_seat_enter(&seats[RENEWS], &depth));
+    must("enter", rcu_seat_enter(&seats[RENEWS]));
     while (!atomic_load_explicit(&over, memory_order_relaxed)) {
         read_some(&last);
         RCU_SANITIZER_RELEASE(&seats[RENEWS]);
         must("renew", rcu_seat_renew(&seats[RENEWS], &quiet_at));
     }
-    must("exit", rcu_seat_exit(&seats[RENEWS], &depth));
+    must("exit", rcu_seat_exit(&seats[RENEWS]));
     RCU_SANITIZER_RELEASE(&seats[RENEWS]);
     must("idle", rcu_seat_idle(&seats[RENEWS]));
     return it;
@@ -61,15 +60,14 @@ static void *renew_and_read(void *it) {
 
 static void *pin_and_read(void *it) {
     uint64_t quiet_at = 0, last = 0;
-    uint32_t depth;
     while (!atomic_load_explicit(&over, memory_order_relaxed)) {
-        must("pin", rcu_seat_pin(&seats[PINS], &depth));
+        must("pin", rcu_seat_pin(&seats[PINS]));
         read_some(&last);
         RCU_SANITIZER_RELEASE(&seats[PINS]);
         must("repin", rcu_seat_repin(&seats[PINS], &quiet_at));
         read_some(&last);
         RCU_SANITIZER_RELEASE(&seats[PINS]);
-        must("unpin", rcu_seat_unpin(&seats[PINS], &depth));
+        must("unpin", rcu_seat_unpin(&seats[PINS]));
         sched_yield();
     }
     return it;

@@ -107,21 +107,20 @@ static void slept(void) {
 /* Sections of a thread that is idle between them, and sections that are renewed. */
 static void pinned(void) {
     uint64_t seen = 0;
-    uint32_t depth;
-    must("enter idle", rcu_seat_enter(&seats[1], &depth), RCU_CPU_IDLE);
+    must("enter idle", rcu_seat_enter(&seats[1]), RCU_CPU_IDLE);
     must("renew idle", rcu_seat_renew(&seats[1], &seen), RCU_CPU_IDLE);
     must("repin idle", rcu_seat_repin(&seats[1], &seen), RCU_NOT_OPEN);
-    must("unpin idle", rcu_seat_unpin(&seats[1], &depth), RCU_NOT_OPEN);
-    must("pin", rcu_seat_pin(&seats[1], &depth), 0);
-    must("pin", rcu_seat_pin(&seats[1], &depth), 0);
+    must("unpin idle", rcu_seat_unpin(&seats[1]), RCU_NOT_OPEN);
+    must("pin", rcu_seat_pin(&seats[1]), 0);
+    must("pin", rcu_seat_pin(&seats[1]), 0);
     must("repin nested", rcu_seat_repin(&seats[1], &seen), RCU_IN_SECTION);
     must("renew nested", rcu_seat_renew(&seats[1], &seen), RCU_IN_SECTION);
-    printf("pinned %" PRIu32 " deep", depth);
-    must("unpin", rcu_seat_unpin(&seats[1], &depth), 0);
+    printf("pinned %" PRIu32 " deep", rcu_seat_depth(&seats[1]));
+    must("unpin", rcu_seat_unpin(&seats[1]), 0);
     must("repin", rcu_seat_repin(&seats[1], &seen), 0);
     must("renew", rcu_seat_renew(&seats[1], &seen), 0);
     printf(", renewed at %" PRIu64, seen);
-    must("unpin", rcu_seat_unpin(&seats[1], &depth), 0);
+    must("unpin", rcu_seat_unpin(&seats[1]), 0);
     printf(", idle: %s\n", yes_or_no(rcu_seat_is_idle(&seats[1])));
     for (uint32_t cpu = 0; cpu < 2; cpu++) must("wake", rcu_seat_wake(&seats[cpu], &seen), 0);
     must("renew outside", rcu_seat_renew(&seats[1], &seen), RCU_NOT_OPEN);

@@ -32,15 +32,14 @@ static void must(const char *call, uint32_t fault) {
 /* The reader. A section needs no lock, and a quiescent state after it needs none. */
 static void *read_settings(void *last) {
     uint64_t seen, moved;
-    uint32_t depth;
     pthread_mutex_lock(&lock);
     must("arrive", rcu_arrive(&rcu, &seats[1]));
     pthread_mutex_unlock(&lock);
     while (!atomic_load_explicit(&over, memory_order_acquire)) {
-        must("enter", rcu_seat_enter(&seats[1], &depth));
+        must("enter", rcu_seat_enter(&seats[1]));
         struct setting *setting = atomic_load_explicit(&shown, memory_order_acquire);
         *(uint64_t *)last = setting->value;
-        must("exit", rcu_seat_exit(&seats[1], &depth));
+        must("exit", rcu_seat_exit(&seats[1]));
         RCU_SANITIZER_RELEASE(&quiet);
         must("quiesce", rcu_seat_quiesce(&seats[1], &seen));
     }

@@ -1,6 +1,6 @@
 /* Each call is made on handles that it does not take: on some that were never opened, on closed
  * ones, and on those of the other kind. It is refused, or says no, and nothing changes. */
-#include "rcu.h"
+#include "rcu/map.h"
 #include <inttypes.h>
 #include <stdio.h>
 #include <stdlib.h>
@@ -9,7 +9,7 @@
 /* What the calls write to: a refused one leaves it. */
 static struct {
     uint64_t number, other, values[2];
-    uint32_t found, depth, cpus[2];
+    uint32_t found, left, cpus[2];
     rcu_turn_t turn;
 } out, kept;
 
@@ -40,7 +40,7 @@ static void refuse_engine(rcu_t *none, uint32_t fault) {
     must("rcu_drive", rcu_drive(none, &out.turn), fault);
     must("rcu_drive_for", rcu_drive_for(none, 8, &out.turn), fault);
     must("rcu_wanted", rcu_wanted(none, true, &out.number), fault);
-    must("rcu_may_sleep", rcu_may_sleep(none, &out.found, &out.depth), fault);
+    must("rcu_may_sleep", rcu_may_sleep(none, &out.found, &out.left), fault);
     must("rcu_collect", rcu_collect(none, 0, &out.found), fault);
     must("rcu_collect_all", rcu_collect_all(none, &out.found), fault);
     must("rcu_arrive", rcu_arrive(none, &seat), fault);
@@ -86,13 +86,13 @@ static void refuse_seat(rcu_seat_t *none, uint32_t fault) {
     must("rcu_seat_depth", rcu_seat_depth(none), 0);
     must("rcu_seat_is_online", rcu_seat_is_online(none), false);
     must("rcu_seat_is_idle", rcu_seat_is_idle(none), false);
-    must("rcu_seat_enter", rcu_seat_enter(none, &out.depth), fault);
-    must("rcu_seat_exit", rcu_seat_exit(none, &out.depth), fault);
+    must("rcu_seat_enter", rcu_seat_enter(none), fault);
+    must("rcu_seat_exit", rcu_seat_exit(none), fault);
     must("rcu_seat_quiesce", rcu_seat_quiesce(none, &out.number), fault);
     must("rcu_seat_quiesce_since", rcu_seat_quiesce_since(none, &out.number), fault);
     must("rcu_seat_renew", rcu_seat_renew(none, &out.number), fault);
-    must("rcu_seat_pin", rcu_seat_pin(none, &out.depth), fault);
-    must("rcu_seat_unpin", rcu_seat_unpin(none, &out.depth), fault);
+    must("rcu_seat_pin", rcu_seat_pin(none), fault);
+    must("rcu_seat_unpin", rcu_seat_unpin(none), fault);
     must("rcu_seat_repin", rcu_seat_repin(none, &out.number), fault);
     must("rcu_seat_idle", rcu_seat_idle(none), fault);
     must("rcu_seat_wake", rcu_seat_wake(none, &out.number), fault);
@@ -139,10 +139,10 @@ static void tell(const char *handles) {
 /* An engine and a seat of it, both open, while a grace period runs and awaits the seat's section. */
 static void open_all(void) {
     uint64_t number;
-    uint32_t awaited, depth;
+    uint32_t awaited;
     must("rcu_open", rcu_open(2, UINT64_C(1) << 62, &rcu), 0);
     must("rcu_seat_open", rcu_seat_open(&rcu, 0, &seat), 0);
-    must("rcu_seat_enter", rcu_seat_enter(&seat, &depth), 0);
+    must("rcu_seat_enter", rcu_seat_enter(&seat), 0);
     must("rcu_begin", rcu_begin(&rcu, &number, &awaited), 0);
 }
 

@@ -51,7 +51,7 @@ static void wait_for(uint32_t cpu, sem_t *posted) {
 }
 
 static void *answer(void *it) {
-    uint32_t cpu = (uint32_t)(uintptr_t)it, depth;
+    uint32_t cpu = (uint32_t)(uintptr_t)it;
     uint64_t moved;
     pthread_mutex_lock(&lock);
     must("arrive", rcu_arrive(&rcu, &seats[cpu]), 0);
@@ -60,11 +60,11 @@ static void *answer(void *it) {
         sem_post(&answered);
         wait_for(cpu, &asked[cpu]);
         if (atomic_load_explicit(&over, memory_order_acquire)) break;
-        must("enter", rcu_seat_enter(&seats[cpu], &depth), 0);
+        must("enter", rcu_seat_enter(&seats[cpu]), 0);
         struct node *node = atomic_load_explicit(&shown, memory_order_acquire);
         if (node->twice != 2 * node->value)
             atomic_fetch_add_explicit(&wrong, 1, memory_order_relaxed);
-        must("exit", rcu_seat_exit(&seats[cpu], &depth), 0);
+        must("exit", rcu_seat_exit(&seats[cpu]), 0);
     }
     RCU_SANITIZER_RELEASE(&quiet[cpu]);
     pthread_mutex_lock(&lock);
@@ -76,20 +76,20 @@ static void *answer(void *it) {
 /* Processor 0 never departs, but may be idle: then a grace period awaits nobody. */
 static void be_idle(void) {
     uint64_t number, seen;
-    uint32_t awaited, depth;
+    uint32_t awaited;
     must("wake of one that is awake", rcu_seat_wake(&seats[0], &seen), RCU_NOT_IDLE);
     must("idle", rcu_seat_idle(&seats[0]), 0);
     must("idle again", rcu_seat_idle(&seats[0]), RCU_CPU_IDLE);
-    must("enter while idle", rcu_seat_enter(&seats[0], &depth), RCU_CPU_IDLE);
+    must("enter while idle", rcu_seat_enter(&seats[0]), RCU_CPU_IDLE);
     must("quiesce while idle", rcu_seat_quiesce(&seats[0], &seen), RCU_CPU_IDLE);
     must("begin", rcu_begin(&rcu, &number, &awaited), 0);
     printf("begun %" PRIu64 ", awaits %" PRIu32 "\n", number, awaited);
     must("end", rcu_end(&rcu, &number), 0);
     must("wake", rcu_seat_wake(&seats[0], &seen), 0);
     printf("ended %" PRIu64 ", the wake saw %" PRIu64 "\n", number, seen);
-    must("enter", rcu_seat_enter(&seats[0], &depth), 0);
+    must("enter", rcu_seat_enter(&seats[0]), 0);
     must("idle in a section", rcu_seat_idle(&seats[0]), RCU_IN_SECTION);
-    must("exit", rcu_seat_exit(&seats[0], &depth), 0);
+    must("exit", rcu_seat_exit(&seats[0]), 0);
 }
 
 /* Shows a new node. The one before becomes a callback. */

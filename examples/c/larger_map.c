@@ -2,7 +2,7 @@
  * threads read. Each reader goes over to the new one between two sections, and the old one is
  * closed when both have left it. Nothing is replaced here, so no grace period is needed. */
 #define _POSIX_C_SOURCE 200809L
-#include "rcu.h"
+#include "rcu/map.h"
 #include <inttypes.h>
 #include <pthread.h>
 #include <sched.h>
@@ -50,16 +50,15 @@ static void depart(struct table *table, uint32_t cpu) {
 
 /* A key that was in the map when the section began is found, with its value. */
 static void look_up(rcu_seat_t *seat) {
-    uint32_t depth;
     uint64_t seen;
     uint64_t entry[WORDS];
     unsigned filled = atomic_load_explicit(&entries, memory_order_acquire);
-    must("enter", rcu_seat_enter(seat, &depth));
+    must("enter", rcu_seat_enter(seat));
     for (uint64_t key = 1; key <= filled; key++) {
         must("get", rcu_map_get(seat, key, entry, WORDS));
         if (entry[KEY] != key || entry[VALUE] != 3 * key) atomic_fetch_add(&wrong, 1);
     }
-    must("exit", rcu_seat_exit(seat, &depth));
+    must("exit", rcu_seat_exit(seat));
     must("quiesce", rcu_seat_quiesce(seat, &seen));
 }
 
@@ -116,17 +115,16 @@ static uint64_t fill(struct table *table, uint64_t key) {
 
 /* Puts all entries of a map into another one, as a section comes to them. */
 static uint64_t copy(struct table *from, struct table *to) {
-    uint32_t depth;
     uint64_t copied = 0;
     uint64_t entry[WORDS] = {0};
-    must("enter", rcu_seat_enter(&from->seats[0], &depth));
+    must("enter", rcu_seat_enter(&from->seats[0]));
     for (;;) {
         must("next", rcu_map_next(&from->seats[0], entry[KEY], entry, WORDS));
         if (entry[KEY] == 0) break;
         must("insert", insert(to, entry));
         copied++;
     }
-    must("exit", rcu_seat_exit(&from->seats[0], &depth));
+    must("exit", rcu_seat_exit(&from->seats[0]));
     return copied;
 }
 

@@ -60,18 +60,18 @@ static void pass_quiescent_state(uint32_t cpu) {
 }
 
 static void *read_list(void *it) {
-    uint32_t cpu = (uint32_t)(uintptr_t)it, depth;
+    uint32_t cpu = (uint32_t)(uintptr_t)it;
     uint64_t moved;
     pthread_mutex_lock(&lock);
     must("arrive", rcu_arrive(&rcu, &seats[cpu]));
     pthread_mutex_unlock(&lock);
     while (!atomic_load_explicit(&over, memory_order_acquire)) {
-        must("enter", rcu_seat_enter(&seats[cpu], &depth));
+        must("enter", rcu_seat_enter(&seats[cpu]));
         unsigned seen = 0;
         for (struct node *node = follow(&head); node; node = follow(&node->next), seen++)
             if (node->twice != 2 * node->value) count_wrong();
         if (seen != NODES) count_wrong();
-        must("exit", rcu_seat_exit(&seats[cpu], &depth));
+        must("exit", rcu_seat_exit(&seats[cpu]));
         pass_quiescent_state(cpu);
         atomic_fetch_add_explicit(&readings[cpu], 1, memory_order_relaxed);
     }

@@ -190,14 +190,12 @@ static void reader_quiesces(void) {
 }
 
 static void reader_loads(void) {
-    uint32_t depth;
-    must("enter", rcu_seat_enter(&seats[READER], &depth));
+    must("enter", rcu_seat_enter(&seats[READER]));
     seen = load(&shared.pointer);
 }
 
 static void reader_leaves(void) {
-    uint32_t depth;
-    must("exit", rcu_seat_exit(&seats[READER], &depth));
+    must("exit", rcu_seat_exit(&seats[READER]));
 }
 
 /* Passes quiescent states until one is in the grace period of this round, and then reads. */
@@ -294,16 +292,14 @@ static void reader_wakes_after_the_begin(void) {
 /* ---- a pin after the begin */
 
 static void reader_pins_after_the_begin(void) {
-    uint32_t depth;
     wait_for_the_begin();
-    must("pin", rcu_seat_pin(&seats[READER], &depth));
+    must("pin", rcu_seat_pin(&seats[READER]));
     seen = load(&shared.pointer);
 }
 
 static void reader_unpins_and_wakes(void) {
     uint64_t number;
-    uint32_t depth;
-    must("unpin", rcu_seat_unpin(&seats[READER], &depth));
+    must("unpin", rcu_seat_unpin(&seats[READER]));
     must("wake", rcu_seat_wake(&seats[READER], &number));
 }
 
@@ -481,13 +477,12 @@ static void updater_replaces(void) {
 }
 
 static void reader_reads_until_the_end(void) {
-    uint32_t depth;
     for (unsigned spins = 0; !atomic_load(&shared.finished); turn_round(&spins)) {
-        must("enter", rcu_seat_enter(&seats[READER], &depth));
+        must("enter", rcu_seat_enter(&seats[READER]));
         atomic_ulong *node = &shared.node[load(&shared.pointer) % 2];
         idle(drawn(JITTER));
         if (!atomic_load_explicit(node, memory_order_relaxed)) seen++;
-        must("exit", rcu_seat_exit(&seats[READER], &depth));
+        must("exit", rcu_seat_exit(&seats[READER]));
         reader_quiesces();
     }
 }

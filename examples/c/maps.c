@@ -2,7 +2,7 @@
  * grace periods. An entry leads to a record, which is freed once no section can have found it. A key
  * that stays is found at each look, also while its entry is replaced, and never with the words of
  * two. Then what a map refuses. */
-#include "rcu.h"
+#include "rcu/map.h"
 #include <inttypes.h>
 #include <pthread.h>
 #include <sched.h>
@@ -83,12 +83,11 @@ static void list_all(rcu_seat_t *seat) {
 
 static void *read_table(void *it) {
     struct seat *own = it;
-    uint32_t depth;
     do {
-        must("enter", rcu_seat_enter(&own->seat, &depth));
+        must("enter", rcu_seat_enter(&own->seat));
         look_up(&own->seat);
         list_all(&own->seat);
-        must("exit", rcu_seat_exit(&own->seat, &depth));
+        must("exit", rcu_seat_exit(&own->seat));
         RCU_SANITIZER_RELEASE(own);
         must("quiesce", rcu_seat_quiesce_since(&own->seat, &own->quiet_at));
     } while (!atomic_load_explicit(&over, memory_order_acquire));
@@ -262,7 +261,6 @@ static uint32_t put_two(put_call call, rcu_t *engine, uint64_t key, uint64_t val
 /* A map with room for two entries, of two words. */
 static void fill(rcu_t *engine, rcu_seat_t *seat) {
     uint64_t old[2], cookie;
-    uint32_t depth;
     must("insert", put_two(rcu_map_insert, engine, 1, 10, old));
     must("insert", put_two(rcu_map_insert, engine, 2, 20, old));
     tell("full, an insertion", put_two(rcu_map_insert, engine, 3, 30, old));
@@ -282,7 +280,7 @@ static void fill(rcu_t *engine, rcu_seat_t *seat) {
     tell("a grace period later", put_two(rcu_map_insert, engine, 3, 30, old));
     tell("a look in no section", rcu_map_get(seat, 3, old, 2));
     tell("a next one in no section", rcu_map_next(seat, 0, old, 2));
-    must("pin", rcu_seat_pin(seat, &depth));
+    must("pin", rcu_seat_pin(seat));
     must("get", rcu_map_get(seat, 3, old, 2));
     printf("a section finds %" PRIu64 "\n", old[1]);
     must("get", rcu_map_get(seat, 2, old, 2));
@@ -293,7 +291,7 @@ static void fill(rcu_t *engine, rcu_seat_t *seat) {
     must("remove", rcu_map_remove(engine, 3, old, 2));
     for (unsigned i = 0; i < 8; i++) must("wait", rcu_map_wait(engine));
     tell("waiting beside the section", put_two(rcu_map_put, engine, 4, 40, old));
-    must("unpin", rcu_seat_unpin(seat, &depth));
+    must("unpin", rcu_seat_unpin(seat));
     unsigned steps = 0;
     while (put_two(rcu_map_put, engine, 4, 40, old) == RCU_MAP_FULL) {
         must("wait", rcu_map_wait(engine));

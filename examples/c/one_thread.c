@@ -53,8 +53,8 @@ static void tell(void) {
 
 static void a_grace_period(void) {
     uint64_t number, seen;
-    uint32_t awaited, depth, found;
-    must("enter", rcu_seat_enter(&seats[1], &depth), 0);
+    uint32_t awaited, found;
+    must("enter", rcu_seat_enter(&seats[1]), 0);
     uint64_t cookie = rcu_seat_take(&seats[0]), same = rcu_take(&rcu), later;
     tell();
     must("begin", rcu_begin(&rcu, &number, &awaited), 0);
@@ -65,7 +65,7 @@ static void a_grace_period(void) {
     must("quiet inside", rcu_seat_quiesce(&seats[1], &seen), RCU_IN_SECTION);
     must("collect", rcu_collect(&rcu, 1, &found), 0);
     printf("processor 1 reads: %s\n", found == RCU_COLLECTED_NOT_YET ? "not yet" : "?");
-    must("exit", rcu_seat_exit(&seats[1], &depth), 0);
+    must("exit", rcu_seat_exit(&seats[1]), 0);
     all_quiet();
     printf("cookie %" PRIu64 " is %s\n", cookie, rcu_seat_poll(&seats[0], cookie) ? "done" : "not done");
     must("end", rcu_end(&rcu, &number), 0);

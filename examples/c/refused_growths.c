@@ -1,6 +1,6 @@
 /* Each allocation is refused in turn: the call returns 16 and leaves what it writes to as it was,
  * and nothing is lost. The same call again, with one allocation more, does what it has to. */
-#include "rcu.h"
+#include "rcu/map.h"
 #include <inttypes.h>
 #include <stdio.h>
 #include <stdlib.h>

@@ -4,7 +4,7 @@
 #include <stdio.h>
 #include <stdlib.h>
 
-#include "rcu.h"
+#include "rcu/replica.h"
 
 #define CPUS 100
 

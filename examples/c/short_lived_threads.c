@@ -64,17 +64,16 @@ static void go(rcu_seat_t seat) {
 
 static void *visit(void *unused) {
     rcu_seat_t seat = {0};
-    uint32_t depth;
     come(&seat);
     must("depth at first", rcu_seat_depth(&seat), 0);
     must("online", rcu_seat_is_online(&seat), true);
     must("idle", rcu_seat_is_idle(&seat), false);
-    must("enter", rcu_seat_enter(&seat, &depth), 0);
+    must("enter", rcu_seat_enter(&seat), 0);
     struct node *node = atomic_load_explicit(&shown, memory_order_acquire);
     if (node->twice != 2 * node->value)
         atomic_fetch_add_explicit(&wrong, 1, memory_order_relaxed);
     must("depth inside", rcu_seat_depth(&seat), 1);
-    must("exit", rcu_seat_exit(&seat, &depth), 0);
+    must("exit", rcu_seat_exit(&seat), 0);
     go(seat);
     return unused;
 }

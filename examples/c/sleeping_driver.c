@@ -118,14 +118,13 @@ static void nap(void) {
 
 /* Each tenth section is long: the driver sleeps until it ends. */
 static void read_both(struct seat *own, unsigned round) {
-    uint32_t depth;
-    must("enter", rcu_seat_enter(&own->seat, &depth));
+    must("enter", rcu_seat_enter(&own->seat));
     for (unsigned i = 0; i < UPDATERS; i++) {
         struct node *node = atomic_load_explicit(&shown[i], memory_order_acquire);
         if (round % 10 == 5) nap();
         if (node->twice != 2 * node->value) atomic_fetch_add(&wrong, 1);
     }
-    must("exit", rcu_seat_exit(&own->seat, &depth));
+    must("exit", rcu_seat_exit(&own->seat));
 }
 
 static void be_idle(struct seat *own) {

@@ -1,6 +1,6 @@
 """Installs the library into an empty folder, and builds and runs programs over it.
 
-What packaging/install lays is compared with the list below; the shared object gives the header's
+What packaging/install lays is compared with the list below; the shared object gives the headers'
 calls alone, and a plugin with the archive in it gives none. Programs in C, C++ and Rust are built
 by what pkg-config says, and have to print what they should: that of docs/C.md by the page's own
 line, and others over the archive and over the shared object, by each compiler that is here, with
@@ -10,19 +10,20 @@ import os
 import re
 import shutil
 
-from checks import ROOT, count, count_run, lacks, read, run, write
+from checks import ROOT, count, count_run, headers, lacks, read, run, write
+from debian import soname_of
 
 VERSION = read("VERSION").strip()
-MAJOR = VERSION.partition(".")[0]
-HEADER = re.sub(r"/\*.*?\*/", "", read("include/rcu.h"), flags=re.DOTALL)
-# The calls that the library gives, and those that the header gives.
-CALLS = set(re.findall(r"^\w+ (rcu_\w+)\([^;{]*\);$", HEADER, re.MULTILINE))
-GIVEN = set(re.findall(r"^static inline [^{;]*?\b(rcu_\w+)\(", HEADER, re.MULTILINE)) | CALLS
+SONAME = soname_of(VERSION)
+HEADERS = re.sub(r"/\*.*?\*/", "", "".join(map(read, headers())), flags=re.DOTALL)
+# The calls that the library gives, and those that the headers give.
+CALLS = set(re.findall(r"^\w+ (rcu_\w+)\([^;{]*\);$", HEADERS, re.MULTILINE))
+GIVEN = set(re.findall(r"^static inline [^{;]*?\b(rcu_\w+)\(", HEADERS, re.MULTILINE)) | CALLS
 LIBRARIES = ["rcu", *(f"rcu-{it}" for it in ("bp", "memb", "mb", "qsbr"))]
-LAID = sorted(["include/rcu.h", "share/man/man3/rcu.3", "lib/cmake/rcu/rcu-config.cmake",
+LAID = sorted([*headers(), "share/man/man3/rcu.3", "lib/cmake/rcu/rcu-config.cmake",
                "lib/cmake/rcu/rcu-config-version.cmake",
                *(f"lib/lib{it}.{end}" for it in LIBRARIES
-                 for end in ("a", "so", f"so.{MAJOR}", f"so.{VERSION}")),
+                 for end in ("a", "so", f"so.{SONAME}", f"so.{VERSION}")),
                *(f"lib/pkgconfig/{it}.pc" for it in LIBRARIES),
                *(f"share/man/man3/{it}.3" for it in GIVEN)])
 NEEDED = ["cc", "as", "ld", "objcopy", "nm", "readelf", "pkg-config"]
@@ -83,7 +84,7 @@ def look_at_libraries(prefix, folder):
     shared = f"{prefix}/lib/librcu.so"
     count(names_given(shared) == CALLS, "the calls of the shared object")
     told = run(["readelf", "-d", shared]).stdout
-    count(f"soname: [librcu.so.{MAJOR}]" in told and "TEXTREL" not in told, "its soname", told)
+    count(f"soname: [librcu.so.{SONAME}]" in told and "TEXTREL" not in told, "its soname", told)
     inside = re.findall(r"(?m)^\S+ [A-TV-Z] (\w+)$", run(["nm", f"{prefix}/lib/librcu.a"]).stdout)
     count(set(inside) == CALLS, "the names of the archive")
     source, made = write(f"{folder}/plugin.c", PLUGIN), f"{folder}/plugin.so"

@@ -54,7 +54,7 @@ def look_at_machine(prefix):
     later = write(f"{prefix}/later.c", "int f(int x) { return __builtin_popcount(x); }\n")
     count_run("code for later ones", ["cc", "-O1", "-mpopcnt", "-c", "-o", f"{later}.o", later])
     count(processors(f"{later}.o") != "any of them", "it is told")
-    for header, place in (("rcu.h", ""), ("urcu.h", "/rcu-urcu")):
+    for header, place in (("rcu.h", ""), ("rcu/map.h", ""), ("urcu.h", "/rcu-urcu")):
         for other in ("-U__x86_64__", "-D__ILP32__", "-U__linux__"):
             said = run(["sh", "-c", f"echo '#include <{header}>' | cc {other} -fsyntax-only "
                         f"-I{prefix}/include{place} -x c -"])
@@ -83,16 +83,20 @@ def look_at_calls(folder):
     """The calls beside those of the last release."""
     count_run("the calls and the version", [f"{ROOT}/packaging/calls"])
     unlike = runpy.run_path(f"{ROOT}/packaging/calls")["unlike"]
-    old = ["version 1.2.0", "void rcu_a(void)", "rcu_fault: RCU_B = 1"]
-    for what, now, version, changes, wrong in (
-            ("the same", old[1:], "1.2.1", "", 0),
-            ("a new call", [*old[1:], "void rcu_c(void)"], "1.3.0", "rcu_c", 0),
-            ("a new call in the same version", [*old[1:], "void rcu_c(void)"], "1.2.1", "rcu_c", 1),
-            ("a new call that is not named", [*old[1:], "void rcu_c(void)"], "1.3.0", "rcu_cd", 1),
-            ("a call is gone", [old[2]], "1.3.0", "rcu_a", 1),
-            ("another soname", [old[2]], "2.0.0", "rcu_a", 0),
-            ("another number", [old[1], "rcu_fault: RCU_B = 2"], "1.3.0", "RCU_B", 1)):
-        found = [*unlike(old, [old[0], *now], version, changes)]
+    old = ["void rcu_a(void)", "rcu_fault: RCU_B = 1"]
+    new, other = [*old, "void rcu_c(void)"], [old[0], "rcu_fault: RCU_B = 2"]
+    for what, now, before, version, changes, wrong in (
+            ("the same", old, "1.2.0", "1.2.1", "", 0),
+            ("a new call", new, "1.2.0", "1.3.0", "rcu_c", 0),
+            ("a new call in the same version", new, "1.2.0", "1.2.1", "rcu_c", 1),
+            ("a new call that is not named", new, "1.2.0", "1.3.0", "rcu_cd", 1),
+            ("a call is gone", old[1:], "1.2.0", "1.3.0", "rcu_a", 1),
+            ("another soname", old[1:], "1.2.0", "2.0.0", "rcu_a", 0),
+            ("a call is gone below 1.0.0", old[1:], "0.2.0", "0.2.1", "rcu_a", 1),
+            ("another soname there", old[1:], "0.2.0", "0.3.0", "rcu_a", 0),
+            ("another number", other, "1.2.0", "1.3.0", "RCU_B", 1)):
+        row = f"version {before}"
+        found = [*unlike([row, *old], [row, *now], version, changes)]
         count(len(found) == wrong, what, "\n".join(found))
     told = runpy.run_path(f"{ROOT}/packaging/release")["gate_told"]
     count("another commit" in told(write(f"{folder}/other", RESULT.format("00")), "01")

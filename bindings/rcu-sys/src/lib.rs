@@ -1,5 +1,5 @@
-//! The calls of `include/rcu.h`, as they are in C. Each is unsafe: the header says what its caller
-//! owes, and nothing checks it.
+//! The calls of `include/rcu.h`, `rcu/map.h` and `rcu/replica.h`, as they are in C. Each is unsafe:
+//! `rcu.h` says what its caller owes, and nothing checks it.
 
 #![allow(non_camel_case_types)]
 #![allow(missing_docs, clippy::undocumented_unsafe_blocks)] // the head has the reason for all
@@ -50,12 +50,6 @@ pub struct rcu_turn_t {
     pub number: u64,
 }
 
-/// A replica's handle, for one thread at a time. Handles may pass between threads.
-#[repr(C)]
-pub struct rcu_replica_t {
-    pub at: *mut u8,
-}
-
 /// The sizes of the map of an engine.
 #[repr(C)]
 #[derive(Clone, Copy, Debug, Default, PartialEq, Eq)]
@@ -70,6 +64,12 @@ pub struct rcu_map_sizes_t {
     /// How many words an entry has, 2 or more, of which word 0 is its key. 0 means 2: a key and a
     /// value.
     pub words: u64,
+}
+
+/// A replica's handle, for one thread at a time. Handles may pass between threads.
+#[repr(C)]
+pub struct rcu_replica_t {
+    pub at: *mut u8,
 }
 
 // Why a call is refused.
@@ -219,19 +219,6 @@ extern "C" {
     ///
     /// Faults: 17 for no processor or more than 4,096; 19 if `last` is no such number; 16.
     pub fn rcu_open_as(cpus: u32, last: u64, identity: rcu_identity_t, rcu: *mut rcu_t) -> u32;
-    /// Opens an engine as `rcu_open_as`, with a map of these sizes, which is empty. Each of its
-    /// seats reads it. Needs: `rcu` is closed.
-    ///
-    /// Faults: 29 if there is no bucket, an entry has one word, there are fewer nodes than buckets,
-    /// or more than 2^32 words in all, an entry's and one more a node; 17 for no processor or more
-    /// than 4,096; 19 if `last` is no such number; 16.
-    pub fn rcu_open_map_as(
-        cpus: u32,
-        last: u64,
-        identity: rcu_identity_t,
-        sizes: *const rcu_map_sizes_t,
-        rcu: *mut rcu_t,
-    ) -> u32;
     /// Closes an engine, and frees all that it has; values that are still queued are not handed
     /// out. Seats that are open go on, and are closed in turn. If `rcu` is not an open engine, it
     /// does nothing. Needs: `rcu` is under the caller's lock.
@@ -404,18 +391,17 @@ extern "C" {
     pub fn rcu_seat_is_online(seat: *mut rcu_seat_t) -> bool;
     /// Returns whether the seat's processor is idle. False if `seat` is not an open seat.
     pub fn rcu_seat_is_idle(seat: *mut rcu_seat_t) -> bool;
-    /// Opens a read section by one load, or nests one deeper in the open one by none. Writes the
-    /// depth.
+    /// Opens a read section by one load, or nests one deeper in the open one by none.
     ///
     /// Faults: 2 if the processor is offline; 23 if it is idle; 6 if the depth is 65,535.
-    pub fn rcu_seat_enter(seat: *mut rcu_seat_t, depth: *mut u32) -> u32;
-    /// Leaves the innermost section. Writes the depth, which is 0 if one load closed the section.
+    pub fn rcu_seat_enter(seat: *mut rcu_seat_t) -> u32;
+    /// Leaves the innermost section. One load closes the outermost one.
     ///
     /// Neither this nor `rcu_seat_enter` orders what the thread stores: what a section did comes
     /// before the next quiescent state or departure.
     ///
     /// Fault 5: no section is open.
-    pub fn rcu_seat_exit(seat: *mut rcu_seat_t, depth: *mut u32) -> u32;
+    pub fn rcu_seat_exit(seat: *mut rcu_seat_t) -> u32;
     /// Passes a quiescent state, by one load and one store: from here on the thread uses nothing
     /// that it read before. Writes the number that it saw.
     ///
@@ -586,7 +572,7 @@ extern "C" {
     /// engine.
     pub fn rcu_start_poll(rcu: *mut rcu_t) -> u64;
     /// Opens a read section, or nests one deeper in the open one. An idle processor wakes first, by
-    /// one exchange, with no look at the number: no `rcu_seat_wake` is needed. Writes the depth.
+    /// one exchange, with no look at the number: no `rcu_seat_wake` is needed.
     ///
     /// It passes no quiescent state: a grace period that begins before the section ends awaits the
     /// processor until it unpins. Of one that found it idle, or at whose number the section began,
@@ -597,16 +583,16 @@ extern "C" {
     ///
     /// Faults: 2 if the processor is offline; 6 if the depth is 65,535.
     ///
-    /// Fence: behind if `depth` is 1.
-    pub fn rcu_seat_pin_unfenced(seat: *mut rcu_seat_t, depth: *mut u32) -> u32;
-    /// Leaves the innermost section. Writes the depth. At 0 the section closed: then the processor
-    /// is idle, as by `rcu_seat_idle`, even if it was awake before the section.
+    /// Fence: behind if `rcu_seat_depth` is 1.
+    pub fn rcu_seat_pin_unfenced(seat: *mut rcu_seat_t) -> u32;
+    /// Leaves the innermost section. If it was the outermost one, the processor is idle from then
+    /// on, as by `rcu_seat_idle`, even if it was awake before the section.
     ///
     /// All that the thread did before comes before what follows the collection or the begin that
     /// finds it idle.
     ///
     /// Faults: 2 if the processor is offline; 5 if no section is open.
-    pub fn rcu_seat_unpin(seat: *mut rcu_seat_t, depth: *mut u32) -> u32;
+    pub fn rcu_seat_unpin(seat: *mut rcu_seat_t) -> u32;
     /// Renews the section that a pin opened, as `rcu_seat_renew`: no grace period that began before
     /// waits for it any more. From here on the thread uses nothing that the section read before.
     /// Writes the number of the quiescent state.
@@ -617,60 +603,6 @@ extern "C" {
     ///
     /// Fence: behind if `number` changed.
     pub fn rcu_seat_repin_unfenced(seat: *mut rcu_seat_t, number: *mut u64) -> u32;
-    /// Opens a replica of 1 to 4,096 processors at number 0, which awaits nobody. No grace period
-    /// begins at `last`, a multiple of 4 from 4 to 2^62. Needs: `replica` is closed.
-    ///
-    /// Faults: 17 for no processor or more than 4,096; 19 if `last` is no such number; 16.
-    pub fn rcu_replica_open(cpus: u32, last: u64, replica: *mut rcu_replica_t) -> u32;
-    /// Begins a grace period that awaits the processors whose bits are set in words of 64, the
-    /// lowest first; bits of processors that there are not mean nothing. Writes its number, four
-    /// for each that ended and one more. It costs a step a processor, and takes no memory.
-    ///
-    /// Faults: 8 if one runs; 11 if the number is the last one.
-    pub fn rcu_replica_begin(
-        replica: *mut rcu_replica_t,
-        words: *const u64,
-        length: usize,
-        number: *mut u64,
-    ) -> u32;
-    /// Takes a processor's report of a quiescent state, with the number that it had noted. A report
-    /// of another number than that of the running grace period changes nothing, nor does a repeated
-    /// one. Writes an `rcu_answer`.
-    ///
-    /// Fault 1: there is no such processor.
-    pub fn rcu_replica_report(
-        replica: *mut rcu_replica_t,
-        cpu: u32,
-        number: u64,
-        answer: *mut u32,
-    ) -> u32;
-    /// Takes a processor's departure: it is awaited no more in the running grace period. Its
-    /// message has no number that is compared, so pass it on only if the processor departed in this
-    /// grace period.
-    ///
-    /// Faults: 1 if there is no such processor; 12 for processor 0.
-    pub fn rcu_replica_depart(replica: *mut rcu_replica_t, cpu: u32) -> u32;
-    /// Takes in what another replica of the same grace period has heard: the first one then awaits
-    /// the processors that both await. `other` is another handle, and stays as it is. It costs a
-    /// step a processor.
-    ///
-    /// Fault 20: number of processors, number or start set differ.
-    pub fn rcu_replica_merge(replica: *mut rcu_replica_t, other: *mut rcu_replica_t) -> u32;
-    /// Lists the processors that a replica awaits, in order, `room` at most: writes them from
-    /// `cpus` on, and how many they are; the rest of the room stays.
-    pub fn rcu_replica_awaited(
-        replica: *mut rcu_replica_t,
-        cpus: *mut u32,
-        room: usize,
-        count: *mut u32,
-    ) -> u32;
-    /// Ends the grace period. Writes the new number.
-    ///
-    /// Faults: 9 if none runs; 10 if a processor is awaited.
-    pub fn rcu_replica_end(replica: *mut rcu_replica_t, number: *mut u64) -> u32;
-    /// Closes a replica, and frees all that it has. If `replica` is not an open replica, it does
-    /// nothing.
-    pub fn rcu_replica_close(replica: *mut rcu_replica_t);
     /// The version of the library, as `RCU_VERSION` is that of its header. A program over the
     /// shared object may compare the two.
     pub fn rcu_version() -> u32;
@@ -717,6 +649,19 @@ extern "C" {
     /// no grace period runs. Writes 1 where the caller has to wake who drives, under the lock. Else
     /// 0. It costs a load.
     pub fn rcu_seat_wakes(seat: *mut rcu_seat_t, wakes: *mut u32) -> u32;
+    /// Opens an engine as `rcu_open_as`, with a map of these sizes, which is empty. Each of its
+    /// seats reads it. Needs: `rcu` is closed.
+    ///
+    /// Faults: 29 if there is no bucket, an entry has one word, there are fewer nodes than buckets,
+    /// or more than 2^32 words in all, an entry's and one more a node; 17 for no processor or more
+    /// than 4,096; 19 if `last` is no such number; 16.
+    pub fn rcu_open_map_as(
+        cpus: u32,
+        last: u64,
+        identity: rcu_identity_t,
+        sizes: *const rcu_map_sizes_t,
+        rcu: *mut rcu_t,
+    ) -> u32;
     /// Looks a key up in the open section, and writes the words of its entry, or the key 0 if it
     /// finds none: then the others stay. A key that is in the map from the section's beginning on
     /// is found, even if its entry is replaced meanwhile; what is found was there at some moment of
@@ -820,6 +765,60 @@ extern "C" {
     ///
     /// Fence: behind.
     pub fn rcu_map_wait_unfenced(rcu: *mut rcu_t) -> u32;
+    /// Opens a replica of 1 to 4,096 processors at number 0, which awaits nobody. No grace period
+    /// begins at `last`, a multiple of 4 from 4 to 2^62. Needs: `replica` is closed.
+    ///
+    /// Faults: 17 for no processor or more than 4,096; 19 if `last` is no such number; 16.
+    pub fn rcu_replica_open(cpus: u32, last: u64, replica: *mut rcu_replica_t) -> u32;
+    /// Begins a grace period that awaits the processors whose bits are set in words of 64, the
+    /// lowest first; bits of processors that there are not mean nothing. Writes its number, four
+    /// for each that ended and one more. It costs a step a processor, and takes no memory.
+    ///
+    /// Faults: 8 if one runs; 11 if the number is the last one.
+    pub fn rcu_replica_begin(
+        replica: *mut rcu_replica_t,
+        words: *const u64,
+        length: usize,
+        number: *mut u64,
+    ) -> u32;
+    /// Takes a processor's report of a quiescent state, with the number that it had noted. A report
+    /// of another number than that of the running grace period changes nothing, nor does a repeated
+    /// one. Writes an `rcu_answer`.
+    ///
+    /// Fault 1: there is no such processor.
+    pub fn rcu_replica_report(
+        replica: *mut rcu_replica_t,
+        cpu: u32,
+        number: u64,
+        answer: *mut u32,
+    ) -> u32;
+    /// Takes a processor's departure: it is awaited no more in the running grace period. Its
+    /// message has no number that is compared, so pass it on only if the processor departed in this
+    /// grace period.
+    ///
+    /// Faults: 1 if there is no such processor; 12 for processor 0.
+    pub fn rcu_replica_depart(replica: *mut rcu_replica_t, cpu: u32) -> u32;
+    /// Takes in what another replica of the same grace period has heard: the first one then awaits
+    /// the processors that both await. `other` is another handle, and stays as it is. It costs a
+    /// step a processor.
+    ///
+    /// Fault 20: number of processors, number or start set differ.
+    pub fn rcu_replica_merge(replica: *mut rcu_replica_t, other: *mut rcu_replica_t) -> u32;
+    /// Lists the processors that a replica awaits, in order, `room` at most: writes them from
+    /// `cpus` on, and how many they are; the rest of the room stays.
+    pub fn rcu_replica_awaited(
+        replica: *mut rcu_replica_t,
+        cpus: *mut u32,
+        room: usize,
+        count: *mut u32,
+    ) -> u32;
+    /// Ends the grace period. Writes the new number.
+    ///
+    /// Faults: 9 if none runs; 10 if a processor is awaited.
+    pub fn rcu_replica_end(replica: *mut rcu_replica_t, number: *mut u64) -> u32;
+    /// Closes a replica, and frees all that it has. If `replica` is not an open replica, it does
+    /// nothing.
+    pub fn rcu_replica_close(replica: *mut rcu_replica_t);
 }
 
 /// Ends the grace period. Writes the new number.
@@ -1095,7 +1094,7 @@ pub unsafe fn rcu_drive_for(rcu: *mut rcu_t, cookie: u64, turn: *mut rcu_turn_t)
 }
 
 /// Opens a read section, or nests one deeper in the open one. An idle processor wakes first, by one
-/// exchange, with no look at the number: no `rcu_seat_wake` is needed. Writes the depth.
+/// exchange, with no look at the number: no `rcu_seat_wake` is needed.
 ///
 /// It passes no quiescent state: a grace period that begins before the section ends awaits the
 /// processor until it unpins. Of one that found it idle, or at whose number the section began, the
@@ -1106,14 +1105,14 @@ pub unsafe fn rcu_drive_for(rcu: *mut rcu_t, cookie: u64, turn: *mut rcu_turn_t)
 ///
 /// Faults: 2 if the processor is offline; 6 if the depth is 65,535.
 ///
-/// Fence: behind if `depth` is 1.
+/// Fence: behind if `rcu_seat_depth` is 1.
 ///
 /// # Safety
 ///
 /// As the header says.
-pub unsafe fn rcu_seat_pin(seat: *mut rcu_seat_t, depth: *mut u32) -> u32 {
-    let result = rcu_seat_pin_unfenced(seat, depth);
-    if result == 0 && *depth == 1 {
+pub unsafe fn rcu_seat_pin(seat: *mut rcu_seat_t) -> u32 {
+    let result = rcu_seat_pin_unfenced(seat);
+    if result == 0 && rcu_seat_depth(seat) == 1 {
         fence(SeqCst);
     }
     result

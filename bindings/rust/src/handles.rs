@@ -348,19 +348,13 @@ impl SeatHandle {
     /// Opens a section, or nests one deeper.
     #[inline]
     pub fn enter(&self) {
-        let mut depth = 0;
-        must("enter", unsafe {
-            raw::rcu_seat_enter(self.raw.get(), &mut depth)
-        });
+        must("enter", unsafe { raw::rcu_seat_enter(self.raw.get()) });
     }
 
     /// Leaves the innermost section.
     #[inline]
     pub fn exit(&self) {
-        let mut depth = 0;
-        must("exit", unsafe {
-            raw::rcu_seat_exit(self.raw.get(), &mut depth)
-        });
+        must("exit", unsafe { raw::rcu_seat_exit(self.raw.get()) });
     }
 
     /// Whether a section is open.

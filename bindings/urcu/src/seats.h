@@ -12,19 +12,17 @@
 
 static inline void open_seat(struct place *place) {
     uint64_t number;
-    uint32_t depth;
     if (BY_WORD) {
-        must("pin", rcu_seat_pin_unfenced(&place->seat, &depth));
+        must("pin", rcu_seat_pin_unfenced(&place->seat));
         return;
     }
     must("wake", rcu_seat_wake_unfenced(&place->seat, &number));
-    must("enter", rcu_seat_enter(&place->seat, &depth));
+    must("enter", rcu_seat_enter(&place->seat));
 }
 
 static inline void close_seat(struct place *place) {
-    uint32_t depth;
     RCU_SANITIZER_RELEASE(place->engine);
-    must("unpin", rcu_seat_unpin(&place->seat, &depth));
+    must("unpin", rcu_seat_unpin(&place->seat));
 }
 
 #endif

@@ -98,7 +98,7 @@ stays:
     maybe ended
     goto top
 over:
-    s = swap own 9 %                      | rcu_seat_unpin(&place->seat, &depth)
+    s = swap own 9 %                      | rcu_seat_unpin(&place->seat)
     w = wished !                          | close_seat(self.place);
     unless w goto ended
     {WAKE_THE_MAKER.format(passes="")}

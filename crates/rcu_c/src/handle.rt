@@ -37,10 +37,6 @@ pub type Rcu = Handle;
 /// handles.
 pub type RcuSeat = Handle;
 
-/// A replica's handle (`rcu_replica_t`), for one thread at a time. Handles may pass between
-/// threads.
-pub type RcuReplica = Handle;
-
 impl Model for Handle {
     ghost also_owns = { λ h. handle_owns h.alloc h.at h.contents };
 }

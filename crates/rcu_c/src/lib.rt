@@ -1,6 +1,7 @@
-//! The running engine for C programs (`include/rcu.h`): each export calls a call of `rcu_live`'s
-//! engine or of a seat, and states its clauses again. No export makes a fence: round those whose
-//! names end in `_unfenced` the header does, by functions of the names without that.
+//! The running engine for C programs (`include/rcu.h` and the headers of `include/rcu`): each
+//! export calls a call of `rcu_live`'s engine or of a seat, and states its clauses again. No export
+//! makes a fence: round those whose names end in `_unfenced` the header does, by functions of the
+//! names without that.
 //!
 //! Of a handle that is closed (fault 27), or of the other kind (28), a call says so before all
 //! else, and changes nothing. One that returns no fault says what it says of no processor.
@@ -42,7 +43,7 @@ pub mod version;
 pub mod wishes;
 
 pub use contents::Contents;
-pub use handle::{Handle, Rcu, RcuReplica, RcuSeat};
+pub use handle::{Handle, Rcu, RcuSeat};
 pub use identity::Identity;
 pub use keyed_words::KeyedWords;
 pub use links::Links;
@@ -50,4 +51,5 @@ pub use map_sizes::MapSizes;
 pub use open_engine::OpenEngine;
 pub use open_replica::OpenReplica;
 pub use refusal::Refusal;
+pub use replicas::RcuReplica;
 pub use seat_parts::SeatParts;

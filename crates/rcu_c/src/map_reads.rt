@@ -1,5 +1,7 @@
 //! The map of an engine, as a seat's section reads it: with no lock, beside all calls on other
 //! handles. An entry that a section found stays as it is until the section ends.
+//!
+//! Header: `rcu/map.h`.
 ghost use Rattle.std.specs.Prelude.{◌≡◌, ◌≢◌, length};
 ghost use Rattle.rcu_c.specs.Answers.{number_in_c};
 ghost use Rattle.rcu_c.specs.Maps.{HasWalked, IsGotInC, IsNextInC, reading_refusal};

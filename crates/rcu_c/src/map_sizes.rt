@@ -1,4 +1,6 @@
 //! The sizes of the map of an engine.
+//!
+//! Header: `rcu/map.h`.
 ghost use Rattle.std.specs.Prelude.{◌≡◌, ◌<◌, ◌≤◌, IfErr, IfOk, OnErr};
 ghost use Rattle.rcu_graph.specs.declared.not_opened.NotOpened.{NotOpened};
 ghost use Rattle.rcu_map.specs.Chains.{HasSizes};

@@ -1,5 +1,7 @@
 //! Updates of the map of an engine: `rcu` is under the caller's lock. Sections read the map
 //! meanwhile, and see the entries as they were before a call or as they are after it.
+//!
+//! Header: `rcu/map.h`.
 ghost use Rattle.std.specs.Prelude.{◌≡◌, ◌≢◌, length};
 ghost use Rattle.rcu_map.specs.Entries.{entries_in};
 ghost use Rattle.rcu_map.specs.Waits.{AreAllLive};

@@ -83,6 +83,8 @@ pub extern "C" fn rcu_open_as(
 /// Faults: 29 if there is no bucket, an entry has one word, there are fewer nodes than buckets, or
 /// more than 2^32 words in all, an entry's and one more a node; 17 for no processor or more than
 /// 4,096; 19 if `last` is no such number; 16.
+///
+/// Header: `rcu/map.h`.
 #[unsafe(no_mangle)]
 pub extern "C" fn rcu_open_map_as(
     alloc: Global,

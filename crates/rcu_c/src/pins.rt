@@ -8,11 +8,11 @@ ghost use Rattle.rcu_c.specs.Refusals.{seat_number};
 ghost use Rattle.rcu_c.specs.Seats.{closing};
 ghost use Rattle.rcu_c.specs.Staying.{BothStay};
 
-use crate::codes::write_out;
+use crate::codes::{status, write_out};
 use crate::handle::RcuSeat;
 
 /// Opens a read section, or nests one deeper in the open one. An idle processor wakes first, by one
-/// exchange, with no look at the number: no `rcu_seat_wake` is needed. Writes the depth.
+/// exchange, with no look at the number: no `rcu_seat_wake` is needed.
 ///
 /// It passes no quiescent state: a grace period that begins before the section ends awaits the
 /// processor until it unpins. Of one that found it idle, or at whose number the section began, the
@@ -23,42 +23,38 @@ use crate::handle::RcuSeat;
 ///
 /// Faults: 2 if the processor is offline; 6 if the depth is 65,535.
 ///
-/// Fence: behind if `depth` is 1.
+/// Fence: behind if `rcu_seat_depth` is 1.
 #[unsafe(no_mangle)]
-pub extern "C" fn rcu_seat_pin_unfenced(seat: &mut RcuSeat, depth: &mut u32) -> u32
+pub extern "C" fn rcu_seat_pin_unfenced(seat: &mut RcuSeat) -> u32
     ensures fault { result ≡ seat_number seat.old.contents
         (number_for (pin_refusal (cpu_of seat.old.contents))) }
-    ensures depth { result ≡ 0 → depth.new ≡ (cpu_of seat.new.contents).depth }
     ensures state { result ≡ 0 → AcceptedAt after_pin seat.old.contents
         (cpu_of seat.new.contents).view.seen seat.new.contents }
-    ensures unchanged { result ≢ 0 →
-        BothStay seat.old.contents seat.new.contents depth.old depth.new }
+    ensures unchanged { result ≢ 0 → seat.new.contents ≡ seat.old.contents }
 {
     match seat.seat() {
-        Ok(seat) => write_out(seat.cpu.pin(&**seat.map.board()), depth),
+        Ok(seat) => status(seat.cpu.pin(&**seat.map.board())),
         Err(refusal) => refusal.number(),
     }
 }
 
-/// Leaves the innermost section. Writes the depth. At 0 the section closed: then the processor is
-/// idle, as by `rcu_seat_idle`, even if it was awake before the section.
+/// Leaves the innermost section. If it was the outermost one, the processor is idle from then on,
+/// as by `rcu_seat_idle`, even if it was awake before the section.
 ///
 /// All that the thread did before comes before what follows the collection or the begin that finds
 /// it idle.
 ///
 /// Faults: 2 if the processor is offline; 5 if no section is open.
 #[unsafe(no_mangle)]
-pub extern "C" fn rcu_seat_unpin(seat: &mut RcuSeat, depth: &mut u32) -> u32
+pub extern "C" fn rcu_seat_unpin(seat: &mut RcuSeat) -> u32
     ensures fault { result ≡ seat_number seat.old.contents
         (number_for (unpin_refusal (cpu_of seat.old.contents))) }
-    ensures depth { result ≡ 0 → depth.new ≡ (cpu_of seat.new.contents).depth }
     ensures state { result ≡ 0 → AcceptedAt (after_unpin closing) seat.old.contents
         (cpu_of seat.new.contents).view.seen seat.new.contents }
-    ensures unchanged { result ≢ 0 →
-        BothStay seat.old.contents seat.new.contents depth.old depth.new }
+    ensures unchanged { result ≢ 0 → seat.new.contents ≡ seat.old.contents }
 {
     match seat.seat() {
-        Ok(seat) => write_out(seat.cpu.unpin(&**seat.map.board()), depth),
+        Ok(seat) => status(seat.cpu.unpin(&**seat.map.board())),
         Err(refusal) => refusal.number(),
     }
 }

@@ -1,6 +1,8 @@
 //! Replicas of one engine on several machines: each hears of reports and departures by messages,
 //! and those that began alike and heard the same processors await the same ones, in whatever order,
 //! however often. A replica has no seats; what a call costs is what its number of processors asks.
+//!
+//! Header: `rcu/replica.h`.
 ghost use Rattle.std.specs.Prelude.{◌≡◌, ◌≢◌, IfOk, IsNone, None, Some, drop, length, take};
 ghost use Rattle.rcu_geometry.specs.Opening.{opening_refusal};
 ghost use Rattle.rcu_report.specs.Replica.{Begin, Depart, End, Merge, Report};
@@ -15,12 +17,16 @@ ghost use Rattle.rcu_c.specs.Staying.{BothStay};
 use crate::codes::{code, status, write_out};
 use crate::contents::Contents;
 use crate::driving::put_awaited;
-use crate::handle::{Handle, RcuReplica};
+use crate::handle::Handle;
 use crate::open_replica::OpenReplica;
 use crate::raw_box::RawBox;
 use rcu_node::Answer;
 use rcu_seq::Fault;
 use std::alloc::Global;
+
+/// A replica's handle (`rcu_replica_t`), for one thread at a time. Handles may pass between
+/// threads.
+pub type RcuReplica = Handle;
 
 /// A fresh replica, in a box.
 fn box_replica(alloc: Global, cpus: u32, last: u64) -> Result<Box<Contents, Global>, Fault>

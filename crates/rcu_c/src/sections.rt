@@ -68,43 +68,39 @@ pub extern "C" fn rcu_seat_is_idle(seat: &mut RcuSeat) -> bool
     }
 }
 
-/// Opens a read section by one load, or nests one deeper in the open one by none. Writes the depth.
+/// Opens a read section by one load, or nests one deeper in the open one by none.
 ///
 /// Faults: 2 if the processor is offline; 23 if it is idle; 6 if the depth is 65,535.
 #[unsafe(no_mangle)]
-pub extern "C" fn rcu_seat_enter(seat: &mut RcuSeat, depth: &mut u32) -> u32
+pub extern "C" fn rcu_seat_enter(seat: &mut RcuSeat) -> u32
     ensures fault { result ≡ seat_number seat.old.contents
         (number_for (enter_refusal (cpu_of seat.old.contents))) }
-    ensures depth { result ≡ 0 → depth.new ≡ (cpu_of seat.new.contents).depth }
     ensures state { result ≡ 0 → AcceptedAt after_enter seat.old.contents
         (cpu_of seat.new.contents).view.seen seat.new.contents }
-    ensures unchanged { result ≢ 0 →
-        BothStay seat.old.contents seat.new.contents depth.old depth.new }
+    ensures unchanged { result ≢ 0 → seat.new.contents ≡ seat.old.contents }
 {
     match seat.seat() {
-        Ok(seat) => write_out(seat.cpu.enter(&**seat.map.board()), depth),
+        Ok(seat) => status(seat.cpu.enter(&**seat.map.board())),
         Err(refusal) => refusal.number(),
     }
 }
 
-/// Leaves the innermost section. Writes the depth, which is 0 if one load closed the section.
+/// Leaves the innermost section. One load closes the outermost one.
 ///
 /// Neither this nor `rcu_seat_enter` orders what the thread stores: what a section did comes before
 /// the next quiescent state or departure.
 ///
 /// Fault 5: no section is open.
 #[unsafe(no_mangle)]
-pub extern "C" fn rcu_seat_exit(seat: &mut RcuSeat, depth: &mut u32) -> u32
+pub extern "C" fn rcu_seat_exit(seat: &mut RcuSeat) -> u32
     ensures fault { result ≡ seat_number seat.old.contents
         (number_for (exit_refusal (cpu_of seat.old.contents))) }
-    ensures depth { result ≡ 0 → depth.new ≡ (cpu_of seat.new.contents).depth }
     ensures state { result ≡ 0 → AcceptedAt (after_exit closing) seat.old.contents
         (cpu_of seat.new.contents).view.seen seat.new.contents }
-    ensures unchanged { result ≢ 0 →
-        BothStay seat.old.contents seat.new.contents depth.old depth.new }
+    ensures unchanged { result ≢ 0 → seat.new.contents ≡ seat.old.contents }
 {
     match seat.seat() {
-        Ok(seat) => write_out(seat.cpu.exit(&**seat.map.board()), depth),
+        Ok(seat) => status(seat.cpu.exit(&**seat.map.board())),
         Err(refusal) => refusal.number(),
     }
 }

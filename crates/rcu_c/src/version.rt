@@ -8,5 +8,5 @@ ghost use Rattle.rcu_c.specs.Version.{version};
 pub extern "C" fn rcu_version() -> u32
     ensures { result ≡ version }
 {
-    2000
+    3000
 }

@@ -1,7 +1,7 @@
 """A replica of the grace-period engine, by the shared object of the library for C.
 
-It rests on the contracts of `rcu_replica_open` to `rcu_replica_close` (include/rcu.h), which are
-proved. It adds their call by ctypes, and exceptions in place of the numbers of faults.
+It rests on the contracts of `rcu_replica_open` to `rcu_replica_close` (include/rcu/replica.h), which
+are proved. It adds their call by ctypes, and exceptions in place of the numbers of faults.
 """
 from __future__ import annotations
 
@@ -9,7 +9,7 @@ import ctypes
 import os
 from typing import Any, Iterable, Optional
 
-LIBRARY = "librcu.so.0"  # the variable RCU_LIBRARY has another path
+LIBRARY = "librcu.so.0.3"  # the variable RCU_LIBRARY has another path
 LAST, BAD_CPU = 1 << 62, 1
 TAKEN, LAST_ONE, REPEAT, STALE = range(4)  # what a report did: `rcu_answer`
 

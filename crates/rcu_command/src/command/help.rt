@@ -1,7 +1,7 @@
 //! What help says behind the options, and the version.
 
 /// The version of the library.
-pub const VERSION: &str = "0.2.0";
+pub const VERSION: &str = "0.3.0";
 
 /// Of the program.
 pub const PROGRAM: &str = "\
