@@ -59,6 +59,10 @@ EXCEPTIONS = {
     # Set by the header for itself, where the compiler is old enough.
     "how rcu_dereference is made": "__URCU_DEREFERENCE_USE_ATOMIC_CONSUME",
 }
+SIGN = """#if defined(caa_container_of_check_null) != defined(cds_lfht_entry)
+#error caa_container_of_check_null is there without cds_lfht_entry, or the other way round
+#endif
+"""
 LEFT_OUT = {name for names in EXCEPTIONS.values() for name in names.split()}
 # Of the C library, those that a program names.
 SYSTEM = re.compile(r'^# \d+ "/usr/include/(?:\w+-linux-gnu/)?(?!urcu)((?:sys/)?\w+\.h)"',
@@ -157,8 +161,16 @@ def compared(header, flags, theirs):
     return sorted(system | (set(asked) - brought - LEFT_OUT)), sorted(brought & LEFT_OUT)
 
 
+def signs(theirs):
+    """What is wrong with the word that programs take as the sign that liburcu-cds has another one,
+    and define both without it (BIND)."""
+    return compiler("urcu/compiler.h", f"#include <urcu/rculfhash.h>\n{SIGN}", "-fsyntax-only",
+                    f"-I{INCLUDE}", *theirs).stderr.splitlines()
+
+
 def outcomes(theirs):
     """For each header, and each way: what, and what is missing."""
+    yield "liburcu-cds", signs(theirs)
     headers = sorted(os.path.relpath(it, INCLUDE)
                      for it in glob.glob(f"{INCLUDE}/**/*.h", recursive=True))
     with concurrent.futures.ThreadPoolExecutor(os.cpu_count()) as pool:
