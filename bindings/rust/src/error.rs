@@ -27,7 +27,7 @@ pub enum Error {
     BadSizes,
 }
 
-/// Why no entry was put into a map: it has no room for one.
+/// Why a call that waits for nobody put no entry into a map: it has no room for one, or none yet.
 ///
 /// ```
 /// use rcu::{Engine, Full, MapSizes};
@@ -35,13 +35,44 @@ pub enum Error {
 /// # fn main() -> Result<(), rcu::Error> {
 /// let sizes = MapSizes { buckets: 1, entries: 1, seed: 0 };
 /// let (_, map) = Engine::with_map::<u32, u32>(1, sizes)?;
-/// assert_eq!(map.insert(1, 10), Ok(None));
-/// assert_eq!(map.insert(2, 20), Err(Full));
+/// assert_eq!(map.try_insert(1, 10), Ok(None));
+/// assert_eq!(map.try_insert(2, 20), Err(Full));
 /// # Ok(())
 /// # }
 /// ```
 #[derive(Clone, Copy, Debug, PartialEq, Eq)]
 pub struct Full;
+
+/// Why a call that may wait put no entry into a map.
+///
+/// ```
+/// use rcu::{Engine, MapSizes, NotPut};
+///
+/// # fn main() -> Result<(), rcu::Error> {
+/// let sizes = MapSizes { buckets: 1, entries: 1, seed: 0 };
+/// let (engine, map) = Engine::with_map::<u32, u32>(1, sizes)?;
+/// assert_eq!(map.insert(1, 10), Ok(None));
+/// assert_eq!(map.insert(2, 20), Err(NotPut::Full));
+/// map.remove(1);
+/// let reader = engine.reader()?;
+/// let guard = reader.enter();
+/// assert_eq!(map.insert(2, 20), Err(NotPut::InSection)); // it would wait for the guard
+/// # Ok(())
+/// # }
+/// ```
+#[derive(Clone, Copy, Debug, PartialEq, Eq)]
+pub enum NotPut {
+    /// The map has no room for an entry.
+    Full,
+    /// The thread has a section open, for whose end it would wait.
+    InSection,
+}
+
+impl From<Full> for NotPut {
+    fn from(_full: Full) -> NotPut {
+        NotPut::Full
+    }
+}
 
 impl fmt::Display for Error {
     fn fmt(&self, to: &mut fmt::Formatter<'_>) -> fmt::Result {
@@ -63,3 +94,14 @@ impl fmt::Display for Full {
 }
 
 impl std::error::Error for Full {}
+
+impl fmt::Display for NotPut {
+    fn fmt(&self, to: &mut fmt::Formatter<'_>) -> fmt::Result {
+        match self {
+            NotPut::Full => Full.fmt(to),
+            NotPut::InSection => to.write_str("the thread waits in a section of its own"),
+        }
+    }
+}
+
+impl std::error::Error for NotPut {}

@@ -1,9 +1,10 @@
 //! The engine under its lock, and how its grace periods are made.
 
 use crate::deferred::{is_performing, Deferred, Queue};
-use crate::error::Error;
+use crate::error::{Error, Full, NotPut};
 use crate::handles::{EngineHandle, Put, SeatHandle};
 use crate::map::MapSizes;
+use crate::marks::Mark;
 use crate::words::Words;
 use std::num::NonZeroU64;
 use std::sync::atomic::{AtomicU64, Ordering::Relaxed};
@@ -45,6 +46,8 @@ pub(crate) struct Locked {
 /// owns a part of this: so at the drop all seats are free.
 pub(crate) struct Inner {
     pub(crate) id: u64,
+    /// Of each processor.
+    marks: Box<[Mark]>,
     /// How many entries its map has room for.
     entries: usize,
     locked: Mutex<Locked>,
@@ -101,6 +104,7 @@ impl Inner {
         let free = free.collect::<Result<Vec<_>, _>>()?;
         Ok(Inner {
             id: IDS.fetch_add(1, Relaxed),
+            marks: (0..cpus).map(|_| Mark::default()).collect(),
             entries: map.map_or(0, |(sizes, _)| sizes.entries),
             locked: Mutex::new(Locked {
                 rcu,
@@ -116,6 +120,16 @@ impl Inner {
             ended: Condvar::new(),
             queued: Condvar::new(),
         })
+    }
+
+    #[inline]
+    pub(crate) fn mark(&self, seat: &SeatHandle) -> &Mark {
+        &self.marks[seat.cpu()]
+    }
+
+    /// Whether this thread has a section open, for which it would wait. It costs a load a reader.
+    fn is_in_own_section(&self) -> bool {
+        self.marks.iter().any(Mark::is_own)
     }
 
     pub(crate) fn lock(&self) -> MutexGuard<'_, Locked> {
@@ -225,15 +239,21 @@ impl Inner {
     }
 
     /// Puts an entry into the map. Where no node is free, but one will be, it waits for that.
-    pub(crate) fn put<W: Words>(&self, put: PutCall<W>, key: NonZeroU64, value: W) -> Put<W> {
+    pub(crate) fn put<W: Words>(
+        &self,
+        put: PutCall<W>,
+        key: NonZeroU64,
+        value: W,
+    ) -> Result<Option<W>, NotPut> {
         let mut locked = self.lock();
         loop {
             let cookie = locked.rcu.map_age();
-            let done = put(&mut locked.rcu, key, value);
-            if done.is_ok() || locked.rcu.map_len() == self.entries {
-                return done;
+            match put(&mut locked.rcu, key, value) {
+                Ok(old) => return Ok(old),
+                Err(Full) if locked.rcu.map_len() == self.entries => return Err(NotPut::Full),
+                Err(Full) if self.is_in_own_section() => return Err(NotPut::InSection),
+                Err(Full) => locked = self.wait_for(locked, cookie),
             }
-            locked = self.wait_for(locked, cookie);
         }
     }
 

@@ -56,6 +56,7 @@ mod error;
 pub mod handles;
 mod inner;
 mod map;
+mod marks;
 mod reader;
 #[allow(clippy::undocumented_unsafe_blocks)] // its head has the reason for all
 pub mod replica;
@@ -63,7 +64,7 @@ mod shared;
 mod words;
 
 pub use engine::Engine;
-pub use error::{Error, Full};
+pub use error::{Error, Full, NotPut};
 pub use map::{Entries, Map, MapSizes};
 pub use rcu_sys as raw;
 pub use reader::{Guard, Reader};

@@ -1,6 +1,6 @@
 //! The map of an engine.
 
-use crate::error::Full;
+use crate::error::{Full, NotPut};
 use crate::handles::{EngineHandle, SeatHandle};
 use crate::inner::{Inner, PutCall};
 use crate::reader::Guard;
@@ -30,9 +30,10 @@ pub struct MapSizes {
 ///
 /// Updates take the engine's lock for a moment. An entry that is put in, or replaces another one,
 /// needs free room. Where none is free, but some will be, [`Map::insert`], [`Map::replace`] and
-/// [`Map::put`] make a grace period, or wait for one. A thread that has a section open, or a
-/// reader that is not idle, waits for itself for ever: it calls them in [`Reader::while_idle`], or
-/// [`Map::try_insert`], [`Map::try_replace`] and [`Map::try_put`], which wait for nobody.
+/// [`Map::put`] make a grace period, or wait for one. A thread that has a section open is refused
+/// ([`NotPut::InSection`]), since it would wait for itself. So would one that has a reader which is
+/// not idle: it waits for ever, and calls them in [`Reader::while_idle`]. [`Map::try_insert`],
+/// [`Map::try_replace`] and [`Map::try_put`] wait for nobody.
 ///
 /// [`Reader::while_idle`]: crate::Reader::while_idle
 ///
@@ -157,7 +158,7 @@ impl<K: Key, V: Value> Map<K, V> {
 
     /// No code of a caller's runs under the lock: what a key and a value are as words is asked
     /// before.
-    fn put_by(&self, put: PutCall<V::Words>, key: K, value: V) -> Result<Option<V>, Full> {
+    fn put_by(&self, put: PutCall<V::Words>, key: K, value: V) -> Result<Option<V>, NotPut> {
         let old = self.inner.put(put, key.to_key(), value.to_words())?;
         Ok(old.map(V::of_words))
     }
@@ -171,8 +172,9 @@ impl<K: Key, V: Value> Map<K, V> {
     /// nothing happened. It may wait, as [`Map`] says.
     ///
     /// # Errors
-    /// [`Full`] where no entry has the key, and there are as many as the map has room for.
-    pub fn insert(&self, key: K, value: V) -> Result<Option<V>, Full> {
+    /// [`NotPut::Full`] where no entry has the key, and there are as many as the map has room for;
+    /// [`NotPut::InSection`] where it would wait, and the thread has a section open.
+    pub fn insert(&self, key: K, value: V) -> Result<Option<V>, NotPut> {
         self.put_by(EngineHandle::map_insert, key, value)
     }
 
@@ -180,11 +182,11 @@ impl<K: Key, V: Value> Map<K, V> {
     /// happens. It may wait, as [`Map`] says.
     ///
     /// # Errors
-    /// [`Full`] where an entry has the key, and there are as many as the map has room for: a
-    /// replacement needs room too.
+    /// [`NotPut::Full`] where an entry has the key, and there are as many as the map has room for: a
+    /// replacement needs room too. [`NotPut::InSection`] as of [`Map::insert`].
     ///
     /// ```
-    /// # use rcu::{Engine, Full, MapSizes};
+    /// # use rcu::{Engine, MapSizes, NotPut};
     /// # fn main() -> Result<(), Box<dyn std::error::Error>> {
     /// let sizes = MapSizes { buckets: 1, entries: 2, seed: 0 };
     /// let (_, map) = Engine::with_map::<u8, u8>(1, sizes)?;
@@ -193,11 +195,11 @@ impl<K: Key, V: Value> Map<K, V> {
     ///     assert_eq!(map.replace(1, value), Ok(Some(value - 1)));
     /// }
     /// map.insert(2, 20)?;
-    /// assert_eq!(map.replace(1, 100), Err(Full));
+    /// assert_eq!(map.replace(1, 100), Err(NotPut::Full));
     /// # Ok(())
     /// # }
     /// ```
-    pub fn replace(&self, key: K, value: V) -> Result<Option<V>, Full> {
+    pub fn replace(&self, key: K, value: V) -> Result<Option<V>, NotPut> {
         self.put_by(EngineHandle::map_replace, key, value)
     }
 
@@ -205,8 +207,9 @@ impl<K: Key, V: Value> Map<K, V> {
     /// value of that. It may wait, as [`Map`] says.
     ///
     /// # Errors
-    /// [`Full`] where there are as many entries as the map has room for.
-    pub fn put(&self, key: K, value: V) -> Result<Option<V>, Full> {
+    /// [`NotPut::Full`] where there are as many entries as the map has room for;
+    /// [`NotPut::InSection`] as of [`Map::insert`].
+    pub fn put(&self, key: K, value: V) -> Result<Option<V>, NotPut> {
         self.put_by(EngineHandle::map_put, key, value)
     }
 

@@ -4,6 +4,7 @@ use crate::engine::Engine;
 use crate::error::Error;
 use crate::handles::SeatHandle;
 use crate::inner::Inner;
+use crate::marks::Mark;
 use std::fmt;
 use std::mem::ManuallyDrop;
 use std::sync::Arc;
@@ -125,7 +126,14 @@ impl Reader {
     #[inline]
     pub fn enter(&self) -> Guard<'_> {
         self.seat.enter();
+        self.mark().set();
         Guard { reader: self }
+    }
+
+    /// Which thread has a section of this reader open.
+    #[inline]
+    fn mark(&self) -> &Mark {
+        self.inner.mark(&self.seat)
     }
 
     /// Calls the closure in a section, and passes a quiescent state behind it, also where the
@@ -201,6 +209,7 @@ impl Reader {
         while self.seat.is_in_section() {
             self.seat.exit();
         }
+        self.mark().clear();
     }
 }
 
@@ -241,6 +250,9 @@ impl Drop for Guard<'_> {
     #[inline]
     fn drop(&mut self) {
         self.reader.seat.exit();
+        if !self.reader.seat.is_in_section() {
+            self.reader.mark().clear();
+        }
     }
 }
 

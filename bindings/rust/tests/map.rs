@@ -2,9 +2,10 @@
 //! beside a map of std's.
 
 use rcu::handles::EngineHandle;
-use rcu::{Engine, Error, Full, Key, Map, MapSizes, Value, Word};
+use rcu::{Engine, Error, Full, Key, Map, MapSizes, NotPut, Value, Word};
 use std::collections::HashMap;
 use std::fmt::Debug;
+use std::mem;
 use std::num::NonZeroU64;
 use std::panic::{catch_unwind, AssertUnwindSafe};
 use std::sync::atomic::{AtomicBool, Ordering::SeqCst};
@@ -126,12 +127,13 @@ fn a_key_that_stays_is_found_and_listed_whole_while_others_come_and_go() {
     });
 }
 
-type Call<K, V> = fn(&Map<K, V>, K, V) -> Result<Option<V>, Full>;
+type Waits<K, V> = fn(&Map<K, V>, K, V) -> Result<Option<V>, NotPut>;
+type Tries<K, V> = fn(&Map<K, V>, K, V) -> Result<Option<V>, Full>;
 
 #[test]
 fn it_answers_as_a_map_of_std_does() {
     const ROOM: usize = 20;
-    let calls: [(Call<i32, i64>, Call<i32, i64>); 3] = [
+    let calls: [(Waits<i32, i64>, Tries<i32, i64>); 3] = [
         (Map::insert, Map::try_insert),
         (Map::replace, Map::try_replace),
         (Map::put, Map::try_put),
@@ -146,10 +148,20 @@ fn it_answers_as_a_map_of_std_does() {
             let which = draws.below(4) as usize;
             if which < 3 {
                 let wants = [there.is_none(), there.is_some(), true][which];
-                let wanted = if fits || !wants { Ok(there) } else { Err(Full) };
+                let wanted = if fits || !wants {
+                    Ok(there)
+                } else {
+                    Err(NotPut::Full)
+                };
                 let (waits, tries) = calls[which];
-                let call = if draws.below(2) == 0 { waits } else { tries };
-                assert_eq!(reader.while_idle(|| call(&map, key, value)), wanted);
+                let waits = || waits(&map, key, value);
+                let tries = || Ok(tries(&map, key, value)?);
+                let done = if draws.below(2) == 0 {
+                    reader.while_idle(waits)
+                } else {
+                    reader.while_idle(tries)
+                };
+                assert_eq!(done, wanted);
                 if wants && fits {
                     model.insert(key, value);
                 }
@@ -173,10 +185,16 @@ fn it_answers_as_a_map_of_std_does() {
 fn what_a_section_may_read_keeps_its_room() {
     let (engine, map) = Engine::with_map::<u8, u8>(1, sizes(1, 2)).unwrap();
     assert_eq!((map.insert(1, 10), map.insert(2, 20)), (Ok(None), Ok(None)));
-    for call in [Map::insert, Map::try_insert, Map::put, Map::try_put] {
+    for call in [Map::insert, Map::put] {
+        assert_eq!(call(&map, 3, 30), Err(NotPut::Full));
+    }
+    for call in [Map::try_insert, Map::try_put] {
         assert_eq!(call(&map, 3, 30), Err(Full));
     }
-    for call in [Map::replace, Map::try_replace, Map::put, Map::try_put] {
+    for call in [Map::replace, Map::put] {
+        assert_eq!(call(&map, 1, 11), Err(NotPut::Full));
+    }
+    for call in [Map::try_replace, Map::try_put] {
         assert_eq!(call(&map, 1, 11), Err(Full));
     }
     assert_eq!(
@@ -197,6 +215,45 @@ fn what_a_section_may_read_keeps_its_room() {
     drop(reader);
     assert_eq!(waiter.join().unwrap(), Ok(None));
     assert_eq!((map.len(), map.find(3)), (2, Some(30)));
+}
+
+/// Removes an entry, so that it needs none for another one but the time, and puts others in, until
+/// it is refused.
+fn uses_all_room(map: &Map<u8, u8>, call: Waits<u8, u8>) -> Option<NotPut> {
+    (1..=4).find_map(|key| {
+        map.remove(key);
+        call(map, key + 1, key).err()
+    })
+}
+
+#[test]
+fn who_has_a_section_open_does_not_wait() {
+    let (engine, map) = Engine::with_map::<u8, u8>(2, sizes(1, 1)).unwrap();
+    let (elsewhere, _) = Engine::with_map::<u8, u8>(1, sizes(1, 1)).unwrap();
+    let (mut reader, mut other) = (engine.reader().unwrap(), engine.reader().unwrap());
+    let of_elsewhere = elsewhere.reader().unwrap();
+    let _guard = of_elsewhere.enter();
+    for call in [Map::insert, Map::put] {
+        let (outer, inner) = (reader.enter(), reader.enter());
+        assert_eq!(uses_all_room(&map, call), Some(NotPut::InSection));
+        drop(outer);
+        assert_eq!(uses_all_room(&map, call), Some(NotPut::InSection));
+        drop(inner);
+        let (own, waits) = (map.clone(), move |map: Map<u8, u8>| call(&map, 9, 9));
+        let waiter = thread::spawn(move || waits(own));
+        other.quiesce();
+        assert_eq!(
+            reader
+                .while_idle(|| other.while_idle(|| waiter.join()))
+                .unwrap(),
+            Ok(None)
+        );
+        assert_eq!(map.remove(9), Some(9));
+    }
+    mem::forget(other.enter());
+    assert_eq!(uses_all_room(&map, Map::put), Some(NotPut::InSection));
+    let put = || other.while_idle(|| map.put(9, 9));
+    assert_eq!(reader.while_idle(put), Ok(None));
 }
 
 #[test]
@@ -273,7 +330,7 @@ fn a_map_keeps_its_engine() {
     own.insert(1, 10).unwrap();
     assert_eq!(own.get(&reader.enter(), 1), Some(10));
     drop(reader);
-    assert_eq!(own.replace(1, 11), Err(Full));
+    assert_eq!(own.replace(1, 11), Err(NotPut::Full));
     assert_eq!((own.remove(1), own.insert(2, 20)), (Some(10), Ok(None)));
 }
 
@@ -298,7 +355,8 @@ fn sizes_that_no_map_has_are_refused() {
     let none = Engine::with_map::<u8, [u64; 0]>(1, sizes(1, 1)).err();
     assert_eq!(none, Some(Error::BadSizes));
     let (engine, map) = Engine::with_map::<u8, u8>(1, sizes(1, 0)).unwrap();
-    assert_eq!((map.put(1, 1), map.try_put(1, 1)), (Err(Full), Err(Full)));
+    assert_eq!(map.put(1, 1), Err(NotPut::Full));
+    assert_eq!(map.try_put(1, 1), Err(Full));
     assert_eq!((map.remove(1), map.len()), (None, 0));
     let reader = engine.reader().unwrap();
     assert_eq!(map.iter(&reader.enter()).next(), None);
