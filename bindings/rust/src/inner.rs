@@ -25,11 +25,17 @@ const PANICKED: &str = "a thread panicked under the engine's lock";
 /// How an entry is put into the map.
 pub(crate) type PutCall<W> = fn(&mut EngineHandle, NonZeroU64, W) -> Put<W>;
 
+/// Why an entry was not put in: there is no room for it, or there may be once this cookie is done.
+pub(crate) enum Refused {
+    Full,
+    Until(u64),
+}
+
 /// What lies under the lock.
 pub(crate) struct Locked {
     pub(crate) rcu: EngineHandle,
     /// The seat of processor 0, which is nobody's, and idle.
-    _boot: SeatHandle,
+    boot: SeatHandle,
     /// Seats that no reader has. Their processors are offline.
     free: Vec<SeatHandle>,
     /// Whether a grace period runs.
@@ -108,7 +114,7 @@ impl Inner {
             entries: map.map_or(0, |(sizes, _)| sizes.entries),
             locked: Mutex::new(Locked {
                 rcu,
-                _boot: boot,
+                boot,
                 free,
                 runs: false,
                 making: false,
@@ -238,6 +244,33 @@ impl Inner {
         }
     }
 
+    /// Puts an entry into the map, and waits for nobody.
+    pub(crate) fn put_once<W: Words>(
+        &self,
+        put: PutCall<W>,
+        key: NonZeroU64,
+        value: W,
+    ) -> Result<Option<W>, Refused> {
+        let mut locked = self.lock();
+        let cookie = locked.rcu.map_age();
+        put(&mut locked.rcu, key, value).map_err(|Full| {
+            if locked.rcu.map_len() == self.entries {
+                Refused::Full
+            } else {
+                Refused::Until(cookie)
+            }
+        })
+    }
+
+    /// Makes grace periods until the cookie is done, if the thread has no section open.
+    pub(crate) fn wait_until(&self, cookie: u64) -> Result<(), NotPut> {
+        if self.is_in_own_section() {
+            return Err(NotPut::InSection);
+        }
+        drop(self.wait_for(self.lock(), cookie));
+        Ok(())
+    }
+
     /// Puts an entry into the map. Where no node is free, but one will be, it waits for that.
     pub(crate) fn put<W: Words>(
         &self,
@@ -245,14 +278,11 @@ impl Inner {
         key: NonZeroU64,
         value: W,
     ) -> Result<Option<W>, NotPut> {
-        let mut locked = self.lock();
         loop {
-            let cookie = locked.rcu.map_age();
-            match put(&mut locked.rcu, key, value) {
+            match self.put_once(put, key, value) {
                 Ok(old) => return Ok(old),
-                Err(Full) if locked.rcu.map_len() == self.entries => return Err(NotPut::Full),
-                Err(Full) if self.is_in_own_section() => return Err(NotPut::InSection),
-                Err(Full) => locked = self.wait_for(locked, cookie),
+                Err(Refused::Full) => return Err(NotPut::Full),
+                Err(Refused::Until(cookie)) => self.wait_until(cookie)?,
             }
         }
     }
@@ -269,6 +299,17 @@ impl Inner {
         locked.step(cookie);
         locked.rcu.map_age();
         put(&mut locked.rcu, key, value)
+    }
+
+    /// The entry of the map behind a key, as a section of processor 0 finds it.
+    pub(crate) fn next_entry<W: Words>(&self, key: u64) -> Option<(NonZeroU64, W)> {
+        let locked = self.lock();
+        locked.boot.wake();
+        locked.boot.enter();
+        let next = locked.boot.map_next(key);
+        locked.boot.exit();
+        locked.boot.idle();
+        next
     }
 
     /// A seat whose processor is online from now on.

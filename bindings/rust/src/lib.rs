@@ -27,7 +27,7 @@
 //!
 //! Who replaces and defers does now and then what is due, and waits for nobody ([`Engine::defer`]).
 //! A program with much to defer has a thread for it ([`Engine::drive`]). An engine may have a table
-//! of words, which sections read by keys ([`Map`]).
+//! of words, which sections read by keys ([`Map`]), or one of any keys and values ([`HashMap`]).
 //!
 //! **What is proved.** The engine: that a cookie is done only where each section that was open at
 //! its taking has ended. And its map. The page docs/C.md of its repository says what of it holds
@@ -54,9 +54,11 @@ mod engine;
 mod error;
 #[allow(clippy::undocumented_unsafe_blocks)] // its head has the reason for all
 pub mod handles;
+mod hash_map;
 mod inner;
 mod map;
 mod marks;
+mod pairs;
 mod reader;
 #[allow(clippy::undocumented_unsafe_blocks)] // its head has the reason for all
 pub mod replica;
@@ -65,7 +67,9 @@ mod words;
 
 pub use engine::Engine;
 pub use error::{Error, Full, NotPut};
+pub use hash_map::HashMap;
 pub use map::{Entries, Map, MapSizes};
+pub use pairs::{Pair, Pairs};
 pub use rcu_sys as raw;
 pub use reader::{Guard, Reader};
 pub use shared::Shared;

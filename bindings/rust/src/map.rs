@@ -182,8 +182,8 @@ impl<K: Key, V: Value> Map<K, V> {
     /// happens. It may wait, as [`Map`] says.
     ///
     /// # Errors
-    /// [`NotPut::Full`] where an entry has the key, and there are as many as the map has room for: a
-    /// replacement needs room too. [`NotPut::InSection`] as of [`Map::insert`].
+    /// [`NotPut::Full`] where an entry has the key, and there are as many as the map has room for:
+    /// a replacement needs room too. [`NotPut::InSection`] as of [`Map::insert`].
     ///
     /// ```
     /// # use rcu::{Engine, MapSizes, NotPut};
