@@ -71,6 +71,7 @@ static void refuse_engine(rcu_t *none, uint32_t fault) {
     must("rcu_map_len", rcu_map_len(none), 0);
     must("rcu_map_age", rcu_map_age(none, &out.number), fault);
     must("rcu_map_wait", rcu_map_wait(none), fault);
+    must("rcu_seat_map_wait", rcu_seat_map_wait(none, &seat), fault);
     rcu_close(none);
     must("rcu_close", none->at == at && !closed.at, true);
 }
@@ -111,6 +112,7 @@ static void refuse_seat(rcu_seat_t *none, uint32_t fault) {
     must("rcu_links_pop", rcu_links_pop(none, 7), false);
     must("rcu_defer_link", rcu_defer_link(none, &link), fault);
     must("rcu_defer_take", rcu_defer_take(none) != 0 || link.next != &link, false);
+    must("rcu_seat_map_wait", rcu_seat_map_wait(&rcu, none), fault);
     must("rcu_map_get", rcu_map_get(none, 7, out.values, 2), fault);
     must("rcu_map_next", rcu_map_next(none, 7, out.values, 2), fault);
     rcu_seat_close(none);

@@ -239,6 +239,7 @@ static void tell_all(const char *handles, rcu_t *engine, rcu_seat_t *seat, uint6
         rcu_map_find(engine, key, old, words),
         rcu_map_age(engine, &cookie),
         rcu_map_wait(engine),
+        rcu_seat_map_wait(engine, seat),
         rcu_map_get(seat, key, old, words),
         rcu_map_next(seat, key, old, words)};
     printf("%s:", handles);
@@ -285,16 +286,17 @@ static void fill(rcu_t *engine, rcu_seat_t *seat) {
     printf("a section finds %" PRIu64 "\n", old[1]);
     must("get", rcu_map_get(seat, 2, old, 2));
     printf("then the key %" PRIu64 ", and %" PRIu64 " stays\n", old[0], old[1]);
-    printf("insert, replace, put, remove, find, age, wait, get, next:\n");
+    printf("insert, replace, put, remove, find, age, wait, wait by the seat, get, next:\n");
     tell_all("key 0", engine, seat, 0, 2);
     tell_all("three words", engine, seat, 3, 3);
     must("remove", rcu_map_remove(engine, 3, old, 2));
     for (unsigned i = 0; i < 8; i++) must("wait", rcu_map_wait(engine));
     tell("waiting beside the section", put_two(rcu_map_put, engine, 4, 40, old));
+    tell("waiting in it", rcu_seat_map_wait(engine, seat));
     must("unpin", rcu_seat_unpin(seat));
     unsigned steps = 0;
     while (put_two(rcu_map_put, engine, 4, 40, old) == RCU_MAP_FULL) {
-        must("wait", rcu_map_wait(engine));
+        must("wait", rcu_seat_map_wait(engine, seat));
         steps++;
     }
     printf("behind it a node was free after %u steps\n", steps);
@@ -314,6 +316,11 @@ static void refuse_calls(void) {
     rcu_close(&engine);
     must("open", rcu_open(1, 8, &engine));
     tell_all("a map of no entry, a closed seat", &engine, &seat, 3, 2);
+    must("open", rcu_open(1, 8, &closed));
+    must("seat", rcu_seat_open(&closed, 0, &seat));
+    tell("a wait by a seat of another engine", rcu_seat_map_wait(&engine, &seat));
+    rcu_seat_close(&seat);
+    rcu_close(&closed);
     rcu_close(&engine);
 }
 

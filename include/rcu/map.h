@@ -30,7 +30,7 @@ typedef struct rcu_map_sizes {
 
 /* >>> calls: written by tools/write_calls from the doc comments of crates/rcu_c */
 
-/* The calls that make a full fence: rcu_map_wait. */
+/* The calls that make a full fence: rcu_map_wait, rcu_seat_map_wait. */
 
 /* ---- opening and closing */
 
@@ -151,6 +151,22 @@ uint32_t rcu_map_age(rcu_t *rcu, uint64_t *cookie);
 uint32_t rcu_map_wait_unfenced(rcu_t *rcu);
 static inline uint32_t rcu_map_wait(rcu_t *rcu) {
     uint32_t result = rcu_map_wait_unfenced(rcu);
+    rcu_fence();
+    return result;
+}
+
+/* One step of waiting for a free node, as rcu_map_wait, by the thread of a seat: in a section of
+ * its own it would wait for itself, so it is refused. (A thread that has no seat calls
+ * rcu_map_wait.) It orders what rcu_map_wait orders.
+ * Faults: 26 if the seat is of another engine; 4 if a section is open on the seat; 31 as of
+ * rcu_map_wait; 11 as of rcu_map_wait.
+ * Fence: behind.
+ * Laws in crates/rcu_c/src/: keys_that_stay_are_found (map_laws.rt#L24), found_keys_were_there
+ * (map_laws.rt#L42), found_entries_were_there (map_laws.rt#L59), no_key_that_stays_is_passed_over
+ * (map_laws.rt#L92), reads_are_between_the_moments_that_they_know (map_laws.rt#L77). */
+uint32_t rcu_seat_map_wait_unfenced(rcu_t *rcu, rcu_seat_t *seat);
+static inline uint32_t rcu_seat_map_wait(rcu_t *rcu, rcu_seat_t *seat) {
+    uint32_t result = rcu_seat_map_wait_unfenced(rcu, seat);
     rcu_fence();
     return result;
 }

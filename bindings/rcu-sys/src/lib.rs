@@ -765,6 +765,15 @@ extern "C" {
     ///
     /// Fence: behind.
     pub fn rcu_map_wait_unfenced(rcu: *mut rcu_t) -> u32;
+    /// One step of waiting for a free node, as `rcu_map_wait`, by the thread of a seat: in a
+    /// section of its own it would wait for itself, so it is refused. (A thread that has no seat
+    /// calls `rcu_map_wait`.) It orders what `rcu_map_wait` orders.
+    ///
+    /// Faults: 26 if the seat is of another engine; 4 if a section is open on the seat; 31 as of
+    /// `rcu_map_wait`; 11 as of `rcu_map_wait`.
+    ///
+    /// Fence: behind.
+    pub fn rcu_seat_map_wait_unfenced(rcu: *mut rcu_t, seat: *mut rcu_seat_t) -> u32;
     /// Opens a replica of 1 to 4,096 processors at number 0, which awaits nobody. No grace period
     /// begins at `last`, a multiple of 4 from 4 to 2^62. Needs: `replica` is closed.
     ///
@@ -1185,6 +1194,24 @@ pub unsafe fn rcu_barrier_wait(rcu: *mut rcu_t, left: *mut u64) -> u32 {
 /// As the header says.
 pub unsafe fn rcu_map_wait(rcu: *mut rcu_t) -> u32 {
     let result = rcu_map_wait_unfenced(rcu);
+    fence(SeqCst);
+    result
+}
+
+/// One step of waiting for a free node, as `rcu_map_wait`, by the thread of a seat: in a section of
+/// its own it would wait for itself, so it is refused. (A thread that has no seat calls
+/// `rcu_map_wait`.) It orders what `rcu_map_wait` orders.
+///
+/// Faults: 26 if the seat is of another engine; 4 if a section is open on the seat; 31 as of
+/// `rcu_map_wait`; 11 as of `rcu_map_wait`.
+///
+/// Fence: behind.
+///
+/// # Safety
+///
+/// As the header says.
+pub unsafe fn rcu_seat_map_wait(rcu: *mut rcu_t, seat: *mut rcu_seat_t) -> u32 {
+    let result = rcu_seat_map_wait_unfenced(rcu, seat);
     fence(SeqCst);
     result
 }

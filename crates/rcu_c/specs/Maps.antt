@@ -1,8 +1,9 @@
 -- The map of an engine, as its keeper knows it and as a seat's section reads it.
 use Rattle.std.specs.Prelude.{◌≡◌, ◌≢◌, ◌≤◌, ◌<◌, ◌==◌, ◌^◌, ℕ, if◌then◌else◌, IfNone, IsSome, List}
-use Rattle.std.specs.Prelude.{Option, Some, None, Result, Ok, Err, length}
+use Rattle.std.specs.Prelude.{Option, Some, None, Result, Ok, Err, length, nat_lt}
 use Rattle.rcu_seq.specs.Numbers.{Number, snapshot}
 use Rattle.rcu_seq.specs.declared.cookie.Cookie.{Cookie}
+use Rattle.rcu_seq.specs.declared.fault.Fault.TheVariants.{InSection}
 use Rattle.rcu_live.specs.CpuSeat.{after_word_step, exit_refusal}
 use Rattle.rcu_live.specs.Drive.{after_drive, drive_refusal, wants_for}
 use Rattle.rcu_live.specs.Engine.{latest_words}
@@ -29,7 +30,7 @@ use Rattle.rcu_c.specs.Answers.{cookie_in_c, number_for}
 use Rattle.rcu_c.specs.Holding.{cpu_of, engine_of, grace_of, keeper_of, on_cpu, on_engine}
 use Rattle.rcu_c.specs.Holding.{on_opened, seat_of}
 use Rattle.rcu_c.specs.MapEntries.{IsKeyed, told}
-use Rattle.rcu_c.specs.Refusals.{by_engine, first_of}
+use Rattle.rcu_c.specs.Refusals.{by_engine, first_of, if_own}
 use Rattle.rcu_c.specs.declared.contents.Contents.{Contents}
 use Rattle.rcu_c.specs.declared.refusal.Refusal.{Refusal}
 use Rattle.rcu_c.specs.declared.refusal.Refusal.TheVariants.{BadKey, BadWords}
@@ -137,6 +138,12 @@ pub record HasWaitedInC (h : Option Contents) (result : ℕ) (now : Option Conte
   pub look : HasAgedInC h cookie looked
   pub at_once : ¬ AreAllUsed (map_nodes looked) → (result ≡ 0) × (now ≡ looked)
   pub driven : AreAllUsed (map_nodes looked) → HasDrivenFor (cookie_in_c cookie) looked result now
+
+-- why the thread of a seat does not wait for a free node: the handles are not those of an engine
+-- and of a seat of it; a section is open on the seat, which it would wait for
+abbrev pub waiting_refusal : Option Contents → Option Contents → Option Refusal
+waiting_refusal rcu seat =
+    if_own rcu seat (if nat_lt 0 (cpu_of seat).depth then Some InSection else None)
 
 -- what the section of a seat came to
 abbrev pub known_of : Option Contents → Known

@@ -2,7 +2,7 @@
 //! meanwhile, and see the entries as they were before a call or as they are after it.
 //!
 //! Header: `rcu/map.h`.
-ghost use Rattle.std.specs.Prelude.{◌≡◌, ◌≢◌, length};
+ghost use Rattle.std.specs.Prelude.{◌≡◌, ◌≢◌, None, length};
 ghost use Rattle.rcu_map.specs.Entries.{entries_in};
 ghost use Rattle.rcu_map.specs.Waits.{AreAllLive};
 ghost use Rattle.rcu_map.specs.declared.put.Put.{Put};
@@ -10,16 +10,16 @@ ghost use Rattle.rcu_c.specs.Answers.{number_in_c};
 ghost use Rattle.rcu_c.specs.Holding.{HoldsEngine};
 ghost use Rattle.rcu_c.specs.Maps.{HasAgedInC, HasWaitedInC, IsFoundInC, IsNotPutInC, IsPutInC};
 ghost use Rattle.rcu_c.specs.Maps.{IsTakenOutInC, entry_refusal, keeper_width, map_buckets};
-ghost use Rattle.rcu_c.specs.Maps.{map_nodes, width_refusal};
+ghost use Rattle.rcu_c.specs.Maps.{map_nodes, waiting_refusal, width_refusal};
 ghost use Rattle.rcu_c.specs.Refusals.{engine_number};
 ghost use Rattle.rcu_c.specs.Staying.{BothStay};
 
 use crate::codes::code;
-use crate::handle::Rcu;
+use crate::handle::{Rcu, RcuSeat};
 use crate::keyed_words::tell;
 use crate::refusal::Refusal;
 use rcu_map::Put;
-use rcu_seq::{Cookie, Tag};
+use rcu_seq::{Cookie, Fault, Tag};
 
 /// Puts an entry of these words in so, and writes those of the one that had its key.
 fn put(rcu: &mut Rcu, how: Put, entry: &[u64], old: &mut [u64]) -> u32
@@ -239,4 +239,36 @@ pub extern "C" fn rcu_map_wait_unfenced(rcu: &mut Rcu) -> u32
         Ok(_) => 0,
         Err(fault) => code(fault),
     }
+}
+
+/// One step of waiting for a free node, as `rcu_map_wait`, by the thread of a seat: in a section of
+/// its own it would wait for itself, so it is refused. (A thread that has no seat calls
+/// `rcu_map_wait`.) It orders what `rcu_map_wait` orders.
+///
+/// Faults: 26 if the seat is of another engine; 4 if a section is open on the seat; 31 as of
+/// `rcu_map_wait`; 11 as of `rcu_map_wait`.
+///
+/// Fence: behind.
+#[unsafe(no_mangle)]
+pub extern "C" fn rcu_seat_map_wait_unfenced(rcu: &mut Rcu, seat: &mut RcuSeat) -> u32
+    ensures seat { seat.new.contents ≡ seat.old.contents }
+    ensures refused { waiting_refusal rcu.old.contents seat.old.contents ≢ None →
+        (result ≡ number_in_c (waiting_refusal rcu.old.contents seat.old.contents))
+        × (rcu.new.contents ≡ rcu.old.contents) }
+    ensures full { waiting_refusal rcu.old.contents seat.old.contents ≡ None →
+        AreAllLive (map_nodes rcu.old.contents) →
+        (result ≡ 31) × (rcu.new.contents ≡ rcu.old.contents) }
+    ensures fault { waiting_refusal rcu.old.contents seat.old.contents ≡ None →
+        result ≢ 0 → result ≢ 31 → result ≡ 11 }
+    ensures waited { waiting_refusal rcu.old.contents seat.old.contents ≡ None →
+        ¬ AreAllLive (map_nodes rcu.old.contents) →
+        HasWaitedInC rcu.old.contents result rcu.new.contents }
+{
+    if let Err(refusal) = rcu.has_dealt(seat) {
+        return refusal.number();
+    }
+    if seat.open_seat().cpu.depth() > 0 {
+        return code(Fault::InSection);
+    }
+    rcu_map_wait_unfenced(rcu)
 }
