@@ -752,14 +752,14 @@ uint64_t rcu_start_poll(rcu_t *rcu);
  * processor until it unpins. Of one that found it idle, or at whose number the section began, the
  * section sees what came before its begin, and what a thread did before it took a cookie that is
  * done at its end. Unfenced, what came before an rcu_seat_take is sure to be seen by sequentially
- * consistent loads alone: if all readers load by such, the unfenced form is enough. An inner one
- * executes no fence.
+ * consistent loads alone: if all readers load by such, the unfenced form is enough, and so it is
+ * for an inner section.
  * Faults: 2 if the processor is offline; 6 if the depth is 65,535.
- * Fence: behind if rcu_seat_depth is 1. */
+ * Fence: behind. */
 uint32_t rcu_seat_pin_unfenced(rcu_seat_t *seat);
 static inline uint32_t rcu_seat_pin(rcu_seat_t *seat) {
     uint32_t result = rcu_seat_pin_unfenced(seat);
-    if (result == 0 && rcu_seat_depth(seat) == 1) rcu_fence();
+    rcu_fence();
     return result;
 }
 

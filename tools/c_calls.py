@@ -187,17 +187,13 @@ class Fence:
                              "together")
         text = said[0] if said else ""
         self.before, self.behind = "before" in text, "behind" in text
-        self.handle = next((name for name, _ in call.parameters()), "")
         self.changed = re.search(r"if `(\w+)` changed", text)
-        self.value = re.search(r"if `(\w+)` is (\d+)", text)
         self.is_true = "if it returns true" in text
 
     def condition(self):
         """What has to hold for the fence behind, in words that are both C's and Rust's."""
         if self.changed:
             return f"*{self.changed[1]} != last"
-        if self.value:
-            return f"result == 0 && {self.value[1]}({self.handle}) == {self.value[2]}"
         return "result" if self.is_true else ""
 
 

@@ -579,11 +579,11 @@ extern "C" {
     /// the section sees what came before its begin, and what a thread did before it took a cookie
     /// that is done at its end. Unfenced, what came before an `rcu_seat_take` is sure to be seen by
     /// sequentially consistent loads alone: if all readers load by such, the unfenced form is
-    /// enough. An inner one executes no fence.
+    /// enough, and so it is for an inner section.
     ///
     /// Faults: 2 if the processor is offline; 6 if the depth is 65,535.
     ///
-    /// Fence: behind if `rcu_seat_depth` is 1.
+    /// Fence: behind.
     pub fn rcu_seat_pin_unfenced(seat: *mut rcu_seat_t) -> u32;
     /// Leaves the innermost section. If it was the outermost one, the processor is idle from then
     /// on, as by `rcu_seat_idle`, even if it was awake before the section.
@@ -1109,21 +1109,19 @@ pub unsafe fn rcu_drive_for(rcu: *mut rcu_t, cookie: u64, turn: *mut rcu_turn_t)
 /// processor until it unpins. Of one that found it idle, or at whose number the section began, the
 /// section sees what came before its begin, and what a thread did before it took a cookie that is
 /// done at its end. Unfenced, what came before an `rcu_seat_take` is sure to be seen by
-/// sequentially consistent loads alone: if all readers load by such, the unfenced form is enough.
-/// An inner one executes no fence.
+/// sequentially consistent loads alone: if all readers load by such, the unfenced form is enough,
+/// and so it is for an inner section.
 ///
 /// Faults: 2 if the processor is offline; 6 if the depth is 65,535.
 ///
-/// Fence: behind if `rcu_seat_depth` is 1.
+/// Fence: behind.
 ///
 /// # Safety
 ///
 /// As the header says.
 pub unsafe fn rcu_seat_pin(seat: *mut rcu_seat_t) -> u32 {
     let result = rcu_seat_pin_unfenced(seat);
-    if result == 0 && rcu_seat_depth(seat) == 1 {
-        fence(SeqCst);
-    }
+    fence(SeqCst);
     result
 }
 

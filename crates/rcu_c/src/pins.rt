@@ -18,12 +18,12 @@ use crate::handle::RcuSeat;
 /// processor until it unpins. Of one that found it idle, or at whose number the section began, the
 /// section sees what came before its begin, and what a thread did before it took a cookie that is
 /// done at its end. Unfenced, what came before an `rcu_seat_take` is sure to be seen by
-/// sequentially consistent loads alone: if all readers load by such, the unfenced form is enough.
-/// An inner one executes no fence.
+/// sequentially consistent loads alone: if all readers load by such, the unfenced form is enough,
+/// and so it is for an inner section.
 ///
 /// Faults: 2 if the processor is offline; 6 if the depth is 65,535.
 ///
-/// Fence: behind if `rcu_seat_depth` is 1.
+/// Fence: behind.
 #[unsafe(no_mangle)]
 pub extern "C" fn rcu_seat_pin_unfenced(seat: &mut RcuSeat) -> u32
     ensures fault { result ≡ seat_number seat.old.contents
