@@ -29,7 +29,7 @@ over:
 READER_BY_CALLS = f"""
 top:
     maybe over
-    b = by_system        | !BY_WORD || is_busy() || self.beside || !by_system;
+    b = by_system        | is_busy() || self.beside || (BY_WORD && !by_system);
     if b goto inlined
     depth = 1
     fence !              | if (__builtin_expect(!place, 0)) return urcu_cpp_read_lock();

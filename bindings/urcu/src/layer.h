@@ -55,21 +55,20 @@ struct ring;
 /* What a thread has. */
 struct reader {
     _Atomic(struct place *) shown; /* what inlined sections see of the place (show_place) */
+    unsigned long begun;           /* by state: the round of its latest quiescent state */
     struct place *place;           /* null if it is not registered */
     unsigned long beside;          /* the depth of a signal handler's sections beside the place */
     atomic_uint busy;              /* the thread is in a call, and may hold the lock */
     int thread;           /* the system's number, or 0 where it was not asked yet */
     bool online;          /* by state */
     bool has_key;         /* its end is told */
-    uint64_t cookie;      /* by state: taken before its last quiescent state */
     struct call_rcu_data *worker;
     struct ring *deferred;
     unsigned forks; /* how often liburcu's handler was called for one that is to come */
     bool was_online;
 };
-/* In the flavours whose sections may be inlined, the names of what these read stay (urcu/sections.h;
- * flavour.h of the layer under C++). */
-#if !defined(URCU_BY_SEAT) && !defined(self)
+/* The names of what inlined sections read stay (urcu/sections.h; flavour.h of the layer under C++). */
+#ifndef self
 #define MAY_INLINE_SECTIONS
 #define self CALL(reader_1)
 #define SEEN_BY_PROGRAMS __attribute__((visibility("default")))
@@ -78,6 +77,19 @@ SEEN_BY_PROGRAMS void CALL(got_quiet_1)(void);
 #define SEEN_BY_PROGRAMS
 #endif
 SEEN_BY_PROGRAMS extern __thread struct reader self __attribute__((tls_model("initial-exec")));
+
+/* By state a thread learns from one word that a round has begun. */
+#ifdef URCU_BY_STATE
+#define latest_begun CALL(begun_1)
+SEEN_BY_PROGRAMS extern atomic_ulong latest_begun;
+static inline void tell_begun(unsigned long round) {
+    atomic_store_explicit(&latest_begun, round, memory_order_release);
+}
+#else
+static inline void tell_begun(unsigned long round) {
+    (void)round;
+}
+#endif
 
 /* What all threads share. All but the atomic words is read and written under the lock. */
 struct shared {
@@ -119,7 +131,7 @@ static inline bool is_busy(void) {
 /* Inlined sections look at one word of their thread. It is null if the library's calls have to open
  * and close them. */
 static inline void show_place(void) {
-    bool by_calls = !BY_WORD || is_busy() || self.beside || !by_system;
+    bool by_calls = is_busy() || self.beside || (BY_WORD && !by_system);
     atomic_store_explicit(&self.shown, by_calls ? 0 : self.place, memory_order_relaxed);
 }
 

@@ -3,11 +3,13 @@
  * that is offline is idle.
  *
  * It rests on seats.h, and on this sentence of include/rcu.h, of rcu_seat_renew: it "closes it,
- * passes a quiescent state, and opens the next one"; and of rcu_take, that a cookie is "the number
- * at which a grace period that begins from now on has ended". Where the cookie is the one that was
- * taken before the last quiescent state, no grace period began since: the section goes on, as none
- * waits for its end. */
+ * passes a quiescent state, and opens the next one". If no round has begun since the latest one, the
+ * section goes on, as no round waits for its end. The gp_thread tells of a round after the engines
+ * began it, and a thread looks for that before it renews: so the renewal sees the begun number, and
+ * the round does not wait for another one (tests/model.py). urcu/sections.h has the look inlined. */
 #include "seats.h"
+
+atomic_ulong latest_begun;
 
 void CALL(read_lock)(void) {}
 void CALL(read_unlock)(void) {}
@@ -20,7 +22,6 @@ void CALL(thread_online)(void) {
     if (self.online || !self.place) return;
     open_seat(self.place);
     self.online = true;
-    self.cookie = 0;
 }
 
 void CALL(thread_offline)(void) {
@@ -32,15 +33,18 @@ void CALL(thread_offline)(void) {
 
 void CALL(quiescent_state)(void) {
     struct place *place = self.place;
-    uint64_t cookie, number;
-    if (unlikely(!self.online)) return;
-    cookie = rcu_seat_take_unfenced(&place->seat);
-    if (likely(cookie == self.cookie)) return;
-    self.cookie = cookie;
+    unsigned long begun = atomic_load_explicit(&latest_begun, memory_order_acquire);
+    uint64_t number;
+    if (likely(begun == self.begun) || !self.online) return;
+    self.begun = begun;
     RCU_SANITIZER_RELEASE(place->engine);
     must("renew", rcu_seat_renew_unfenced(&place->seat, &number));
     got_quiet(place);
 }
+
+#ifdef MAY_INLINE_SECTIONS
+_Static_assert(offsetof(struct reader, begun) == 8, "urcu_reader_1 of urcu/sections.h");
+#endif
 
 /* Who waits is offline meanwhile. Returns whether it was online. */
 bool leave(const char *call) {

@@ -86,6 +86,7 @@ static void make_round(void) {
     all.making = true;
     all.begun++;
     struct engine *round = begin_all();
+    tell_begun(all.begun); /* a thread that sees it sees the number of the begun grace period */
     time_round(round != 0);
     if (BY_WORD && round) fence_readers();
     for (struct engine *it = round; it; it = it->next_in_round) finish(it);

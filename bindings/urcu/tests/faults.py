@@ -21,11 +21,21 @@ FAULTS = {
         "include/urcu/sections.h", "__ATOMIC_SEQ_CST) ? URCU_LEFT_AWAITED_ : URCU_LEFT_;",
         "__ATOMIC_SEQ_CST) ? URCU_LEFT_ : URCU_LEFT_;", "memb", "waits", HANGS),
     "an inlined section is none": (
-        "include/urcu/sections.h", "__atomic_store_n(&place->depth, depth + 1, __ATOMIC_RELAXED);",
-        "__atomic_store_n(&place->depth, depth, __ATOMIC_RELAXED);", "bp", "sections", False),
+        "include/urcu/sections.h",
+        "depth + 1, __ATOMIC_RELAXED);\n    __atomic_signal_fence(__ATOMIC_SEQ_CST);\n    return true;",
+        "depth, __ATOMIC_RELAXED);\n    return true;", "bp", "sections", False),
+    "an inlined section of mb within another one does not end": (
+        "include/urcu/sections.h",
+        "    if (depth > 1) __atomic_store_n(&place->depth, depth - 1, __ATOMIC_RELAXED);\n"
+        "    return depth > 1;", "    return depth > 1;", "mb", "nests", HANGS),
+    "an inlined quiescent state is none": (
+        "include/urcu/sections.h", "    if (__builtin_expect(begun != urcu_qsbr_reader_1.begun, 0)) ",
+        "    if (begun == 0) ", "qsbr", "waits", HANGS),
+    "no thread of qsbr learns that a round began": (
+        "rounds.c", "    tell_begun(all.begun);", "", "qsbr", "waits", HANGS),
     "the inner end of an inlined section ends it": (
-        "include/urcu/sections.h", "__atomic_store_n(&place->depth, depth - 1, __ATOMIC_RELAXED);",
-        "__atomic_store_n(&place->depth, 0, __ATOMIC_RELAXED);", "memb", "nests", False),
+        "include/urcu/sections.h", "depth - 1, __ATOMIC_RELAXED);\n        return URCU_LEFT_;",
+        "0, __ATOMIC_RELAXED);\n        return URCU_LEFT_;", "memb", "nests", False),
     "a round ends while one is awaited": (
         "rounds.c", "return turn.awaited != 0;", "return turn.awaited > 1;",
         "mb", "waits", False),

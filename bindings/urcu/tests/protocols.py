@@ -81,14 +81,16 @@ over:
 
 
 # ---- the same in qsbr. The engine's words are its number, and the processor's own: the number of
-# its latest quiescent state, or 9 where it is idle.
+# its latest quiescent state, or 9 where it is idle. A thread looks which round began latest. (The
+# number is loaded where the thread renews; no step of another word stands between the two.)
 BY_STATE = f"""
 top:
     maybe over
     {SECTION}
-    n = number                            | rcu_seat_take_unfenced(&place->seat)
-    if n is last goto top                 | cookie == self.cookie
-    last = n
+    b = begun % | unsigned long begun = atomic_load_explicit(&latest_begun, memory_order_acquire);
+    n = number
+    if b is last goto top                 | if (likely(begun == self.begun) || !self.online) return;
+    last = b                              | self.begun = begun;
     s = swap own n %                      | rcu_seat_renew_unfenced(&place->seat, &number)
     {LOOK_FOR_A_WISH.replace("top", "again")}
 again:
@@ -117,11 +119,11 @@ over:
 """
 
 
-def round_by_state(number):
+def round_by_state(number, needed=""):
     return f"""
     lock
-    number = {number}
-    fence
+    m = swap number {number} {needed}            | struct engine *round = begin_all();
+    begun = {number}                      | atomic_store_explicit(&latest_begun, round
 look{number}:
     a = own
     if a is {number} goto done{number}
@@ -139,13 +141,17 @@ done{number}:
 """
 
 
-# A thread may still look for the wish of the first round while the second one waits.
-MAKER_BY_STATE = f"""
+# A thread may still look for the wish of the first round while the second one waits. In qsbr it may
+# stop once it has seen that the second one began.
+def maker_by_state(needed):
+    return f"""
     pointer = 1
     {round_by_state(1)}
     good0 = 0
-    {round_by_state(2)}
+    {round_by_state(2, needed)}
 """
+
+
 
 # ---- a signal handler, which comes at any step of a thread that takes its place, is in a section,
 # and wakes the maker.
@@ -317,13 +323,13 @@ beside:
 
 ROUND = {"depth": 0, "quiet": 0, "wished": 0, "pointer": 0, "good0": 1, "good1": 1, "other0": 1,
          "other1": 0}
-STATE = {**ROUND, "number": 0, "own": 0}
+STATE = {**ROUND, "number": 0, "own": 0, "begun": 0}
 PROTOCOLS = {
     "a section and a round, by membarrier": (ROUND, [reader(""), maker("fence all", "!")]),
     "a section and a round, by the reader's fences":
         (ROUND, [reader("fence !"), maker("fence", "")]),
-    "a section and a round, by state": (STATE, [BY_STATE, MAKER_BY_STATE]),
-    "a section and a round, by seat": ({**STATE, "own": 9}, [BY_SEAT, MAKER_BY_STATE]),
+    "a section and a round, by state": (STATE, [BY_STATE, maker_by_state("%")]),
+    "a section and a round, by seat": ({**STATE, "own": 9}, [BY_SEAT, maker_by_state("")]),
     "a signal handler, a round and a poll":
         ({**ROUND, "busy": 0, "beside": 0, "ended": 0},
          [WITH_HANDLER, MAKER_OF_HANDLED, POLLER], {0: HANDLER}),

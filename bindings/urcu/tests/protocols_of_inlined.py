@@ -1,6 +1,7 @@
 """Sections inlined by urcu/sections.h, as programs of interleavings.py. For the marks of a step see
 model.py."""
-from protocols import MAKER_OF_HANDLED, PASSES, POLLER, ROUND, SECTION, WAKE_THE_MAKER, maker
+from protocols import (BY_STATE, MAKER_OF_HANDLED, PASSES, POLLER, ROUND, SECTION, STATE,
+                       WAKE_THE_MAKER, maker, maker_by_state)
 
 WAKES = f"""
     w = wished !                          | __atomic_load_n(&place->wished, __ATOMIC_SEQ_CST)
@@ -29,7 +30,7 @@ over:
 READER_BY_CALLS = f"""
 top:
     maybe over
-    b = by_system            | !BY_WORD || is_busy() || self.beside || !by_system;
+    b = by_system            | is_busy() || self.beside || (BY_WORD && !by_system);
     if b goto inlined        | if (__builtin_expect(!place, 0)) return false;
     depth = 1
     fence !                  | if (!urcu_enters_(&urcu_##f##_reader_1)) urcu_##f##_read_lock();
@@ -102,6 +103,56 @@ call:
 over:
 """
 
+# In qsbr the library's call is made if another round has begun, and looks anew.
+BY_STATE_INLINED = BY_STATE.replace("""
+    b = begun %""", """
+    i = begun                | __atomic_load_n(&urcu_qsbr_begun_1, __ATOMIC_ACQUIRE);
+    if i is last goto top    | begun != urcu_qsbr_reader_1.begun, 0)) urcu_qsbr_quiescent_state();
+    b = begun""")
+# In mb a section within another one. A signal handler has some too, by the library's calls or
+# inlined: it leaves the depth as it finds it.
+NESTS = f"""
+    n = number
+    s = swap own n
+    depth = 1
+    {SECTION}
+    d = depth                | static inline bool urcu_nests_(struct urcu_reader_1 *reader) {{
+    unless d goto wrong      | if (depth) __atomic_store_n(&place->depth, depth + 1
+    depth = 2
+    {SECTION}
+    d = depth                | static inline bool urcu_unnests_(struct urcu_reader_1 *reader) {{
+    if d is 2 goto leaves    | if (depth > 1) __atomic_store_n(&place->depth, depth - 1
+wrong:
+    must no: an inner section finds no outer one
+leaves:
+    depth = 1
+    {SECTION}
+    depth = 0
+    s = swap own 9
+"""
+NESTS_IN_HANDLER = f"""
+    d = depth
+    unless d goto over
+    if d is 2 goto two
+    depth = 2
+    {SECTION}
+    depth = 1
+    goto over
+two:
+    depth = 3
+    {SECTION}
+    depth = 2
+over:
+"""
+ROUND_BY_SEAT = """
+    pointer = 1
+    m = swap number 1
+waits:
+    a = own
+    unless a goto waits
+    good0 = 0
+"""
+
 PROTOCOLS_OF_INLINED = {
     "an inlined section and a round": (ROUND, [READER, maker("fence all", "!")]),
     "an inlined section and a round without membarrier(2)":
@@ -109,4 +160,8 @@ PROTOCOLS_OF_INLINED = {
     "an inlined section, a signal handler and a round":
         ({**ROUND, "busy": 0, "hidden": 0, "beside": 0, "ended": 0},
          [WITH_HANDLER, MAKER_OF_HANDLED, POLLER], {0: HANDLER}),
+    "an inlined quiescent state and a round":
+        (STATE, [BY_STATE_INLINED, maker_by_state("%")]),
+    "an inlined section within another one of mb, a signal handler and a round":
+        ({**STATE, "own": 9}, [NESTS, ROUND_BY_SEAT], {0: NESTS_IN_HANDLER}),
 }

@@ -1,8 +1,10 @@
-/* Sections inlined: those of memb, signal and bp, by liburcu's switch _LGPL_SOURCE, or by
- * URCU_INLINE_SECTIONS. They repeat the steps of the layer's sections.c and readers_by_word.c, on
- * which they rest, and call the library if it shows them no place: in a thread's first section, in
- * a signal handler that comes in the midst of a call, on a system without membarrier(2). They add
- * no step of their own (tests/model.py). */
+/* Sections inlined, by liburcu's switch _LGPL_SOURCE, or by URCU_INLINE_SECTIONS: those of memb,
+ * signal and bp; in mb those within another one; and in qsbr the quiescent state if no grace period
+ * has begun since the latest one. They repeat the steps of the layer's sections.c,
+ * readers_by_word.c and readers_by_state.c, on which they rest, and call the library if it shows
+ * them no place: in a thread's first section, in a signal handler that comes in the midst of a call,
+ * on a system without membarrier(2). They add no step of their own (tests/model.py). In mb the
+ * outermost section is two calls of the proved archive, and no step of those stands here. */
 #ifndef URCU_OVER_RCU_SECTIONS_H
 #define URCU_OVER_RCU_SECTIONS_H
 #include <stdbool.h>
@@ -21,6 +23,7 @@ struct urcu_place_1 {
 };
 struct urcu_reader_1 {
     struct urcu_place_1 *shown; /* null if the library's calls open and close the sections */
+    unsigned long begun;        /* qsbr: the grace period of the latest quiescent state */
 };
 
 /* Returns false if the library's call has to open the section. */
@@ -53,9 +56,26 @@ static inline enum urcu_exit_ urcu_exits_(struct urcu_reader_1 *reader) {
     return __atomic_load_n(&place->wished, __ATOMIC_SEQ_CST) ? URCU_LEFT_AWAITED_ : URCU_LEFT_;
 }
 
-#define URCU_INLINED_OF_(f) \
+/* Enter and leave a section within another one. Return false if the library's call has to. */
+static inline bool urcu_nests_(struct urcu_reader_1 *reader) {
+    struct urcu_place_1 *place = __atomic_load_n(&reader->shown, __ATOMIC_RELAXED);
+    unsigned long depth = place ? __atomic_load_n(&place->depth, __ATOMIC_RELAXED) : 0;
+    if (depth) __atomic_store_n(&place->depth, depth + 1, __ATOMIC_RELAXED);
+    return depth != 0;
+}
+
+static inline bool urcu_unnests_(struct urcu_reader_1 *reader) {
+    struct urcu_place_1 *place = __atomic_load_n(&reader->shown, __ATOMIC_RELAXED);
+    unsigned long depth = place ? __atomic_load_n(&place->depth, __ATOMIC_RELAXED) : 0;
+    if (depth > 1) __atomic_store_n(&place->depth, depth - 1, __ATOMIC_RELAXED);
+    return depth > 1;
+}
+
+#define URCU_READER_OF_(f) \
     extern __thread struct urcu_reader_1 urcu_##f##_reader_1 \
-        __attribute__((tls_model("initial-exec"))); \
+        __attribute__((tls_model("initial-exec")))
+#define URCU_INLINED_OF_(f) \
+    URCU_READER_OF_(f); \
     void urcu_##f##_got_quiet_1(void); \
     static inline void urcu_##f##_inlined_read_lock(void) { \
         if (!urcu_enters_(&urcu_##f##_reader_1)) urcu_##f##_read_lock(); \
@@ -70,12 +90,28 @@ static inline enum urcu_exit_ urcu_exits_(struct urcu_reader_1 *reader) {
 URCU_INLINED_OF_(memb);
 URCU_INLINED_OF_(signal);
 URCU_INLINED_OF_(bp);
+URCU_READER_OF_(mb);
+static inline void urcu_mb_inlined_read_lock(void) {
+    if (!urcu_nests_(&urcu_mb_reader_1)) urcu_mb_read_lock();
+}
+static inline void urcu_mb_inlined_read_unlock(void) {
+    if (!urcu_unnests_(&urcu_mb_reader_1)) urcu_mb_read_unlock();
+}
+URCU_READER_OF_(qsbr);
+extern unsigned long urcu_qsbr_begun_1; /* the grace period that began latest */
+static inline void urcu_qsbr_inlined_quiescent_state(void) {
+    unsigned long begun = __atomic_load_n(&urcu_qsbr_begun_1, __ATOMIC_ACQUIRE);
+    if (__builtin_expect(begun != urcu_qsbr_reader_1.begun, 0)) urcu_qsbr_quiescent_state();
+}
 #define urcu_memb_read_lock urcu_memb_inlined_read_lock
 #define urcu_memb_read_unlock urcu_memb_inlined_read_unlock
 #define urcu_signal_read_lock urcu_signal_inlined_read_lock
 #define urcu_signal_read_unlock urcu_signal_inlined_read_unlock
 #define urcu_bp_read_lock urcu_bp_inlined_read_lock
 #define urcu_bp_read_unlock urcu_bp_inlined_read_unlock
+#define urcu_mb_read_lock urcu_mb_inlined_read_lock
+#define urcu_mb_read_unlock urcu_mb_inlined_read_unlock
+#define urcu_qsbr_quiescent_state urcu_qsbr_inlined_quiescent_state
 #endif
 
 #ifdef __cplusplus
