@@ -41,7 +41,7 @@ impl<T: Drop> Model for DeferList<T> {
 }
 
 impl<T: Drop> DeferList<T> {
-    /// An empty list, which takes no memory yet.
+    /// Returns an empty list, which takes no memory yet.
     pub fn new(alloc: Global) -> DeferList<T>
         ensures { result ≡ list_at_first }
     {
@@ -56,8 +56,8 @@ impl<T: Drop> DeferList<T> {
 
     /// Defers a value, behind all others. Costs a step, and one a value where the list grows.
     ///
-    /// Faults, with the value: `CallbacksFull` (15) where there were 2^62; `NoMemory` (16), only
-    /// where there is no room for it and an allocation failed.
+    /// Faults, with the value: `CallbacksFull` (15) if there were 2^62; `NoMemory` (16), only if
+    /// there is no room for it and an allocation failed.
     pub fn defer(&mut self, value: T) -> Result<(), Refused<T>>
         ensures state { OnOk result
             (self.new ≡ with_room (list_after_defer self.old value) self.new.room) }
@@ -97,7 +97,7 @@ impl<T: Drop> DeferList<T> {
         self.marks.tend(number);
     }
 
-    /// Takes out the first value, where it is done. Costs a step, however many there are.
+    /// Takes out the first value, if it is done. Costs a step, however many there are.
     pub fn take(&mut self) -> Option<T>
         ensures value { result ≡ slice_get (taken_values self.old 1) 0 }
         ensures state { self.new ≡ list_after_take self.old 1 }
@@ -108,14 +108,14 @@ impl<T: Drop> DeferList<T> {
         self.values.pop_front()
     }
 
-    /// How many values there are.
+    /// Returns how many values there are.
     pub fn count(&self) -> usize
         ensures { result ≡ length self.now.values }
     {
         self.values.len()
     }
 
-    /// How many values are done.
+    /// Returns how many values are done.
     pub fn ready(&self) -> u64
         ensures value { result ≡ ready_of self.now.marks }
         ensures inside { result ≤ length self.now.values }
@@ -123,7 +123,7 @@ impl<T: Drop> DeferList<T> {
         self.marks.ready()
     }
 
-    /// The number of the last tend, 0 before any.
+    /// Returns the number of the last tend, 0 before any.
     pub fn seen(&self) -> u64
         ensures { result ≡ self.now.marks.seen }
     {

@@ -55,8 +55,8 @@ impl<T: Drop, P: Client> Deferrer<T, P> {
 
     /// Defers a value, as [`DeferList::defer`]: no load and no store of a shared word.
     ///
-    /// Faults, with the value: `CallbacksFull` (15) where there were 2^62; `NoMemory` (16), only
-    /// where there is no room for it and an allocation failed.
+    /// Faults, with the value: `CallbacksFull` (15) if there were 2^62; `NoMemory` (16), only if
+    /// there is no room for it and an allocation failed.
     pub fn defer(&mut self, value: T) -> Result<(), Refused<T>>
         ensures state { OnOk result
             (self.new.list ≡ with_room (list_after_defer self.old.list value) self.new.list.room) }
@@ -92,7 +92,7 @@ impl<T: Drop, P: Client> Deferrer<T, P> {
         number
     }
 
-    /// Takes out the first value, where it is done, as [`DeferList::take`].
+    /// Takes out the first value, if it is done, as [`DeferList::take`].
     pub fn take(&mut self) -> Option<T>
         ensures value { result ≡ slice_get (taken_values self.old.list 1) 0 }
         ensures state { self.new.list ≡ list_after_take self.old.list 1 }
@@ -102,8 +102,8 @@ impl<T: Drop, P: Client> Deferrer<T, P> {
     }
 
     /// The cookie at which all that was deferred before the last tend is done, none where none of
-    /// it waits: whoever drives the engine for it, as [`Live::drive_for`](rcu_live::Live), drives
-    /// for all.
+    /// it waits: a driver that drives the engine for it, as by [`Live::drive_for`](rcu_live::Live),
+    /// drives for all.
     pub fn cookie(&self) -> Option<Cookie>
         ensures { result ≡ option_map (λ last. record { epoch = 0; number = last })
             (last_number self.now.list.marks.waiting) }

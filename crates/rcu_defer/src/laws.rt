@@ -72,7 +72,7 @@ pub fn no_value_is_lost<T: Drop>()
 
 /// A thread defers, tends and takes at moments of the engine, at each of which the engine's rule
 /// holds. While a section stays open, no more is done than was deferred before: so each section
-/// that was open at a deferral has ended where that is done, and where it is taken out.
+/// that was open at a deferral has ended if that is done, and if it is taken out.
 pub fn sections_end_before_deferrals_are_done<T, P: Client>()
     ensures { (plan : P.Plan) (cpus seat : ℕ) (at : Number)
         (later earlier : List (Moment P.Known T)) →

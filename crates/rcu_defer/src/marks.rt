@@ -15,7 +15,7 @@ const MOST_DEFERRED: u64 = 1 << 62;
 /// Deferrals in a row that wait for one number.
 #[derive(Clone, Copy, Debug)]
 pub(crate) struct Batch {
-    /// The number that they wait for; it means nothing where there is none of them.
+    /// The number that they wait for; it means nothing if there is none of them.
     pub(crate) until: u64,
     /// How many they are.
     pub(crate) count: u64,
@@ -59,7 +59,7 @@ impl Model for Marks {
 }
 
 impl Marks {
-    /// The marks of no deferral.
+    /// Returns the marks of no deferral.
     pub fn new() -> Marks
         ensures { result ≡ at_first }
     {
@@ -75,7 +75,7 @@ impl Marks {
 
     /// Counts a deferral more, behind all others.
     ///
-    /// Fault `CallbacksFull` (15) where there were 2^62.
+    /// Fault `CallbacksFull` (15) if there were 2^62.
     pub fn defer(&mut self) -> Result<(), Fault>
         ensures fault { result_err result ≡ defer_refusal self.old }
         ensures state { OnOk result (self.new ≡ after_defer self.old) }
@@ -147,7 +147,7 @@ impl Marks {
         }
     }
 
-    /// Takes out the first deferrals that are done, so many at most, and returns how many.
+    /// Takes out the first deferrals that are done, at most this many, and returns how many.
     pub fn take(&mut self, most: u64) -> u64
         ensures count { result ≡ min most (ready_of self.old) }
         ensures state { self.new ≡ after_take self.old most }
@@ -157,14 +157,14 @@ impl Marks {
         count
     }
 
-    /// Whether there were as many as there may be.
+    /// Returns whether there were as many as there may be.
     pub fn is_full(&self) -> bool
         ensures { result ≡ (deferred_of self.now == most_deferred) }
     {
         self.deferred == MOST_DEFERRED
     }
 
-    /// How many were not taken out yet.
+    /// Returns how many were not taken out yet.
     pub fn count(&self) -> u64
         ensures value { result ≡ count_of self.now }
         ensures few { result ≤ 2 ^ 62 }
@@ -172,14 +172,14 @@ impl Marks {
         self.deferred - self.taken
     }
 
-    /// How many are done, and were not taken out yet.
+    /// Returns how many are done, and were not taken out yet.
     pub fn ready(&self) -> u64
         ensures { result ≡ ready_of self.now }
     {
         self.done - self.taken
     }
 
-    /// The number of the last tend, 0 before any.
+    /// Returns the number of the last tend, 0 before any.
     pub fn seen(&self) -> u64
         ensures { result ≡ self.now.seen }
     {
