@@ -1,5 +1,5 @@
-//! Wishes for grace periods: a thread wishes with no lock, and who drives finds the greatest wish,
-//! or sleeps until a thread is told to wake it. So does who drives while a processor is awaited.
+//! Wishes for grace periods: a thread wishes with no lock, and the driver finds the greatest wish,
+//! or sleeps until a thread has to wake it. So does the driver while a processor is awaited.
 #![tactic(auto)]
 
 pub mod definition_laws;

@@ -1,4 +1,4 @@
-//! The rule of the words as the table takes it, and what each kind of step on them tells.
+//! The rule of the words as the table takes it, and what each kind of step on them says.
 ghost use Rattle.std.specs.Prelude.{◌≡◌};
 
 use crate::knowledge::Knowledge;
@@ -25,7 +25,7 @@ impl Play<(), Knowledge> for Raise {
     ghost then = { λ step me n now. Raised step.first me.0 n now.0 × (now.1 ≡ me.1) };
 }
 
-/// A thread's look whether the driver sleeps.
+/// Loads whether the driver sleeps, by a thread's seat.
 pub struct LookAtDriver;
 
 impl Play<(), Knowledge> for LookAtDriver {
@@ -43,7 +43,7 @@ impl Play<(), Knowledge> for Say {
     ghost then = { λ step me _ now. (now.0 ≡ after_saying me.0 step.first) × (now.1 ≡ me.1) };
 }
 
-/// The driver's look at the greatest wish.
+/// Loads the greatest wish, by the driver's seat.
 pub struct Find;
 
 impl Play<(), Knowledge> for Find {
@@ -62,7 +62,7 @@ impl Play<(), Knowledge> for NameCpu {
         (step.word ≡ cpu_index) × (now.0 ≡ knowing_cpu me.0 step.first) × (now.1 ≡ me.1) };
 }
 
-/// A thread's look for which processor the driver sleeps.
+/// Loads for which processor the driver sleeps, by a thread's seat.
 pub struct LookAtCpu;
 
 impl Play<(), Knowledge> for LookAtCpu {

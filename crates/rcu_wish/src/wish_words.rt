@@ -26,7 +26,7 @@ const COUNT: usize = 48;
 /// The wish at first: a cookie that is done at any number.
 const NO_WISH: u64 = 1;
 
-/// The words at first.
+/// Returns the words at first.
 fn first_words(alloc: Global) -> Result<Vec<u64>, AllocError>
     ensures { IfOk result (λ words. words.items ≡ first_words) }
 {
@@ -57,7 +57,7 @@ impl Model for WishWords {
 pub(crate) type WishSeat = Seat<(), Knowledge>;
 
 impl WishWords {
-    /// The words with their first seat, which is the driver's.
+    /// Returns the words with their first seat, which is the driver's.
     pub(crate) fn open(alloc: Global) -> Result<(WishWords, WishSeat), AllocError>
         ensures table { IfOk result (λ r. r.1.table_id ≡ r.0) }
         ensures driver { IfOk result (λ r. r.1.me.0 ≡ driver_at_first) }
@@ -69,7 +69,7 @@ impl WishWords {
         Ok((WishWords { table }, seat))
     }
 
-    /// A thread's seat, by a load that makes one.
+    /// Returns a thread's seat, by a load that makes one.
     pub(crate) fn deal(&self) -> WishSeat
         ensures table { result.table_id ≡ self.now }
         ensures thread { result.me.0 ≡ thread_at_first }
@@ -78,7 +78,7 @@ impl WishWords {
         seat
     }
 
-    /// Raises the greatest wish to this cookie, where that is greater. Returns what it was.
+    /// Raises the greatest wish to this cookie, if that is greater. Returns what it was.
     pub(crate) fn raise(&self, thread: &mut WishSeat, cookie: u64) -> u64
         requires table { thread.old.table_id ≡ self.now }
         requires thread { thread.old.me.0.drives ≡ false }
@@ -89,7 +89,7 @@ impl WishWords {
             .fetch_max::<Raise>(thread, GREATEST, cookie)
     }
 
-    /// A thread's look whether the driver sleeps.
+    /// Loads whether the driver sleeps, by a thread's seat.
     pub(crate) fn look_at_driver(&self, thread: &mut WishSeat) -> u64
         requires table { thread.old.table_id ≡ self.now }
         requires thread { thread.old.me.0.drives ≡ false }
@@ -109,7 +109,7 @@ impl WishWords {
         self.table.shared.store::<Say>(driver, ASLEEP, word)
     }
 
-    /// The driver's look at the greatest wish.
+    /// Loads the greatest wish, by the driver's seat.
     pub(crate) fn find(&self, driver: &mut WishSeat) -> u64
         requires table { driver.old.table_id ≡ self.now }
         requires driver { driver.old.me.0.drives ≡ true }
@@ -127,7 +127,7 @@ impl WishWords {
         self.table.shared.store::<NameCpu>(driver, CPU, word)
     }
 
-    /// A thread's look for which processor the driver sleeps.
+    /// Loads for which processor the driver sleeps, by a thread's seat.
     pub(crate) fn look_at_cpu(&self, thread: &mut WishSeat) -> u64
         requires table { thread.old.table_id ≡ self.now }
         requires thread { thread.old.me.0.drives ≡ false }

@@ -32,7 +32,7 @@ impl Model for Wisher {
 }
 
 impl Wisher {
-    /// The end of these.
+    /// Returns the end of these.
     pub(crate) fn new(words: Arc<WishWords, Global>, seat: WishSeat) -> Wisher
         requires table { seat.table_id ≡ arc_value words }
         requires thread { seat.me.0 ≡ thread_at_first }
@@ -41,8 +41,8 @@ impl Wisher {
         Wisher { words, seat }
     }
 
-    /// Wishes for the grace period of a cookie: where it is greater than each that was wished for
-    /// before, it becomes the greatest, and then one load tells whether the driver sleeps. Returns
+    /// Wishes for the grace period of a cookie: if it is greater than each that was wished for
+    /// before, it becomes the greatest, and then one load says whether the driver sleeps. Returns
     /// whether it does, so that the caller has to wake it. It waits for nobody.
     pub fn wish(&mut self, cookie: u64) -> bool
         ensures state { self.new ≡
@@ -54,8 +54,8 @@ impl Wisher {
         was < cookie && self.words.look_at_driver(&mut self.seat) == 1
     }
 
-    /// Whether the driver sleeps until this processor's quiescent state, by one load. A thread that
-    /// passed one looks so: where it is told yes, it has to wake the driver.
+    /// Returns whether the driver sleeps until this processor's quiescent state, by one load. A
+    /// thread that passed one looks so: if it is told yes, it has to wake the driver.
     pub fn is_slept_for(&mut self, cpu: u32) -> bool
         ensures state { self.new ≡ after_naming self.old self.new.knows.sleeps_for }
         ensures value { result ≡ (self.new.knows.sleeps_for == cpu_word (Some cpu)) }

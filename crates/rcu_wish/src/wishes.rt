@@ -33,7 +33,7 @@ impl Model for Wishes {
 }
 
 impl Wishes {
-    /// The driver's end, with words of its own: nobody wished yet, and it does not sleep.
+    /// Returns the driver's end, with words of its own: nobody wished yet, and it does not sleep.
     pub fn open(alloc: Global) -> Result<Wishes, AllocError>
         ensures { IfOk result (λ wishes. wishes ≡ wishes_at_first wishes.words) }
     {
@@ -42,7 +42,7 @@ impl Wishes {
         Ok(Wishes { words, seat })
     }
 
-    /// A thread's end.
+    /// Returns a thread's end.
     pub fn wisher(&self) -> Result<Wisher, AllocError>
         ensures { IfOk result (λ wisher. wisher ≡ wisher_at_first self.now.words) }
     {
@@ -52,7 +52,7 @@ impl Wishes {
     }
 
     /// Says whether the driver sleeps from now on, and then loads the greatest wish, which it
-    /// returns: 1, a cookie that is done at any number, where nobody wished.
+    /// returns: 1, a cookie that is done at any number, if nobody wished.
     pub fn find(&mut self, sleeps: bool) -> u64
         ensures state { self.new ≡ after_look self.old sleeps result }
         ensures later { IsNoLess self.old result }
