@@ -38,7 +38,7 @@ impl<F: Version<W>, const W: usize, P: Within<CellRule<F, W>>> Model for Cell<F,
 }
 
 impl<F: Version<W>, const W: usize, P: Within<CellRule<F, W>>> Cell<F, W, P> {
-    /// A cell over a graph of one root, and of one link a node.
+    /// Returns a cell over a graph of one root, and of one link a node.
     pub(crate) fn over(graph: Graph<OneLink<F, W>, P>) -> Cell<F, W, P>
         requires root { graph.plan.roots ≡ 1 }
         requires one { graph.plan.links ≡ 1 }
@@ -49,8 +49,8 @@ impl<F: Version<W>, const W: usize, P: Within<CellRule<F, W>>> Cell<F, W, P> {
         Cell { graph }
     }
 
-    /// Where the nodes' links and words stand, by constants: what waits for a load multiplies by no
-    /// other number.
+    /// Returns where the nodes' links and words are, by constants: what waits for a load multiplies
+    /// by no other number.
     fn layout(&self) -> Layout
         ensures { result ≡ layout_of self.now }
     {

@@ -20,8 +20,8 @@ use std::alloc::{AllocError, Global};
 use std::sync::Arc;
 
 impl<F: Version<W>, const W: usize, P: Within<CellRule<F, W>>> Cell<F, W, P> {
-    /// The cell at this place of an engine that was opened by this plan, and the watcher that its
-    /// keeper takes ([`Graph::join`]).
+    /// Returns the cell at this place of an engine that was opened by this plan, and the watcher
+    /// that its keeper takes ([`Graph::join`]).
     pub fn join(
         board: &Arc<Board<P::Whole>, Global>,
         own: &mut CellWatcher<F, W, P>,
@@ -48,7 +48,7 @@ impl<F: Version<W>, const W: usize, P: Within<CellRule<F, W>>> Cell<F, W, P> {
 }
 
 impl<F: Version<W>, const W: usize> Cell<F, W> {
-    /// The plan of a cell of so many slots, as one of several clients.
+    /// Returns the plan of a cell of this many slots, as one of several clients.
     ///
     /// It is `BadSizes` for fewer than two slots, no word, or more than 2^32 words in all.
     pub fn sized(slots: usize) -> Result<Plan, NotOpened>

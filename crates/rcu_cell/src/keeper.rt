@@ -80,7 +80,7 @@ impl<F: Version<W>, const W: usize, P: Within<CellRule<F, W>>> Keeper<F, W, P> {
     }
 
     /// Publishes a version: stores its words in a free slot, and shows that in place of the shown
-    /// one, by one store. It waits for nobody. `Full` tells that no slot is free, and nothing
+    /// one, by one store. It waits for nobody. `Full` means that no slot is free, and nothing
     /// changed.
     pub fn update(&mut self, words: &[u64; W]) -> Result<Retired, Full>
         requires whole { F.holds words.now }

@@ -33,16 +33,16 @@ impl<F: Version<W>, const W: usize, P: Within<CellRule<F, W>>> Keeper<F, W, P> {
         self.nodes.wait_until_free(rt, live, seat)
     }
 
-    /// Publishes a version, as [`update`](Self::update). Where no slot is free, it looks at the
-    /// number and drives the engine until one is. The caller's processor passes quiescent states
+    /// Publishes a version, as [`update`](Self::update). If no slot is free, it looks at the number
+    /// and drives the engine until one is. The caller's processor passes quiescent states
     /// meanwhile, unless it is offline or idle.
     ///
     /// No proof says that it returns. A section that stays open holds it up, and a processor whose
     /// thread passes no quiescent state and is neither idle nor offline.
     ///
-    /// Faults: `InSection` (4) where a section is open on the seat, which the caller would wait
-    /// for, and then nothing happened; `Exhausted` (11) where the last number is reached, so that
-    /// no slot becomes free any more.
+    /// Faults: `InSection` (4) if a section is open on the seat, which the caller would wait for,
+    /// and then nothing happened; `Exhausted` (11) if the last number is reached, so that no slot
+    /// becomes free any more.
     pub fn update_or_wait<const LEAF: u32, const FAN: u32, T: Drop>(
         &mut self,
         rt: &impl Wait,

@@ -20,7 +20,7 @@ use rcu_live::Live;
 use rcu_seq::Fault;
 use std::alloc::{AllocError, Global};
 
-/// The plan of a cell of so many slots, of two at least. It may be one of no graph.
+/// Returns the plan of a cell of this many slots, of two at least. It may be one of no graph.
 pub(crate) fn plan_of(width: usize, slots: usize) -> Option<Plan>
     ensures { MatchOption result (¬ HasSizes width slots)
         (λ plan. (1 < slots) × (plan ≡ plan_of_cell width slots)) }
@@ -76,12 +76,12 @@ pub struct Opened<L: Drop, F: Version<W>, const W: usize> {
 }
 
 impl<F: Version<W>, const W: usize> Cell<F, W> {
-    /// Opens a cell of so many slots that shows these words, with its engine: of `cpus` processors,
-    /// idle at number 0, processor 0 alone online.
+    /// Opens a cell of this many slots that shows these words, with its engine: of `cpus`
+    /// processors, idle at number 0, processor 0 alone online.
     ///
     /// Faults: `BadSizes` for fewer than two slots, no word, or more than 2^32 words in all;
     /// `TooManyCpus` (17) for no processor, more than 4,096, or more than four levels hold;
-    /// `BadLast` (19) where `last` is no last number; `NoMemory` (16).
+    /// `BadLast` (19) if `last` is no last number; `NoMemory` (16).
     pub fn open<const LEAF: u32, const FAN: u32, T: Drop>(
         alloc: Global,
         cpus: u32,

@@ -32,8 +32,8 @@ impl<F: Version<W>, const W: usize, P: Within<CellRule<F, W>>> Cell<F, W, P> {
         }
     }
 
-    /// All words of the version that is shown: one load, and one a word. They are of one version,
-    /// which the section reads from now on.
+    /// Returns all words of the version that is shown: one load, and one a word. They are of one
+    /// version, which the section reads from now on.
     pub fn snapshot(&self, seat: &mut CellSeat<F, W, P>) -> [u64; W]
         requires { IsWalking self.now (seat_part P.lens seat.old) }
         ensures state { ReadsOn P.lens self.now seat.old seat.new }
@@ -61,7 +61,7 @@ impl<F: Version<W>, const W: usize> Cell<F, W> {
     /// Reads the current version in a section of its own, by three loads and one a word. It takes
     /// no lock and waits for nobody.
     ///
-    /// Faults: `Offline` (2) where the processor is offline; `CpuIdle` (23) where it is idle.
+    /// Faults: `Offline` (2) if the processor is offline; `CpuIdle` (23) if it is idle.
     pub fn read_section<L: Shared<CellRule<F, W>>>(
         &self,
         live: &L,
@@ -89,7 +89,7 @@ impl<F: Value<W> + Version<W>, const W: usize> Cell<F, W> {
     /// Reads the current value in a section of its own, as [`read_section`](Self::read_section)
     /// does its words.
     ///
-    /// Faults: `Offline` (2) where the processor is offline; `CpuIdle` (23) where it is idle.
+    /// Faults: `Offline` (2) if the processor is offline; `CpuIdle` (23) if it is idle.
     pub fn value_section<L: Shared<CellRule<F, W>>>(
         &self,
         live: &L,

@@ -11,7 +11,7 @@ pub trait Version<const W: usize>: Invariant {
 
     ghost first: { List ℕ };
 
-    /// A word of it, and 0 behind them.
+    /// Returns a word of it, and 0 behind them.
     fn first_word(word: usize) -> u64
         ensures word { result ≡ slice_index first word }
         ensures sized { length first ≡ W }

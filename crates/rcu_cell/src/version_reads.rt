@@ -8,7 +8,7 @@ use rcu_graph::Value;
 use rcu_live::Within;
 
 impl<'a, F: Version<W>, const W: usize, P: Within<CellRule<F, W>>> VersionGuard<'a, F, W, P> {
-    /// A word of the version, by one load: the one that it had when it was loaded.
+    /// Returns a word of the version, by one load: the one that it had when it was loaded.
     pub fn read(&mut self, word: usize) -> u64
         requires { word < W }
         ensures unchanged { lent self.new ≡ lent self.old }
@@ -17,7 +17,7 @@ impl<'a, F: Version<W>, const W: usize, P: Within<CellRule<F, W>>> VersionGuard<
         self.cell.read(self.seat, self.slot, word)
     }
 
-    /// All words of the version, by a load each.
+    /// Returns all words of the version, by a load each.
     pub fn snapshot(&mut self) -> [u64; W]
         ensures unchanged { lent self.new ≡ lent self.old }
         ensures words { result ≡ version_lent P.lens F.first (lent self.old) }
@@ -39,7 +39,7 @@ impl<'a, F: Value<W> + Version<W>, const W: usize, P: Within<CellRule<F, W>>> Ve
     W,
     P,
 > {
-    /// The version as a value of the user's type, by a load a word.
+    /// Returns the version as a value of the user's type, by a load a word.
     pub fn value(&mut self) -> F
         requires whole { F.holds (version_lent P.lens F.first (lent self.old)) }
         ensures unchanged { lent self.new ≡ lent self.old }
