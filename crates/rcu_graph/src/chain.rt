@@ -8,7 +8,7 @@ use rcu_live::Within;
 
 impl<F: Shape, P: Within<GraphRule<F>>> Keeper<F, P> {
     /// Writes these words to a free node, which leads to the next one, leads the previous one to it
-    /// by one store, and returns it. What no live node leads to any more is left. `Full` tells that
+    /// by one store, and returns it. What no live node leads to any more is left. `Full` means that
     /// no node is free. It is for nodes with one link each.
     pub fn put(
         &mut self,

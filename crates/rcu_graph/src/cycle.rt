@@ -18,7 +18,7 @@ pub(crate) struct Cycle {
     states: Vec<NodeState>,
     /// The free nodes, the one that was freed last on top.
     free: Vec<usize>,
-    /// How high each free node stands among them.
+    /// How high each free node is among them.
     heights: Vec<usize>,
     /// The retired nodes in the order of their retiring, and behind them the left ones in the order
     /// of their leaving.
@@ -45,7 +45,7 @@ impl Model for Cycle {
     } };
 }
 
-/// So many numbers, the last one first.
+/// This many numbers, the last one first.
 fn falling(alloc: Global, count: usize) -> Result<Vec<usize>, AllocError>
     ensures many { IfOk result (λ numbers. length numbers.items ≡ count) }
     ensures each { IfOk result (λ numbers. (i : ℕ) → i < count →
@@ -76,7 +76,7 @@ impl Cycle {
         })
     }
 
-    /// The state of a node.
+    /// Returns the state of a node.
     pub(crate) fn state(&self, node: usize) -> NodeState
         requires { node < length self.now }
         ensures { result ≡ state_in self.now node }
@@ -84,8 +84,8 @@ impl Cycle {
         self.states[node]
     }
 
-    /// The free node that was freed last, where one is free: so a steady turnover uses the same few
-    /// nodes again and again, and they stay in the cache.
+    /// Returns the free node that was freed last, if one is free: so a steady turnover uses the
+    /// same few nodes again and again, and they stay in the cache.
     pub(crate) fn free_node(&self) -> Option<usize>
         ensures inside { IfSome result (λ node. node < length self.now) }
         ensures free { IfSome result (λ node. state_in self.now node ≡ Free) }
@@ -150,8 +150,8 @@ impl Cycle {
         while self.retire_next(number) {}
     }
 
-    /// Frees the node that was retired first, where that was a full grace period ago. Returns
-    /// whether it did.
+    /// Frees the node that was retired first, if that was a full grace period ago. Returns whether
+    /// it did.
     fn free_next(&mut self, number: u64) -> bool
         requires { number ≤ 2 ^ 62 }
         ensures { IsTurn (is_over number) Free self.old self.new result }
@@ -173,7 +173,7 @@ impl Cycle {
         true
     }
 
-    /// Retires the node that was left first, where one is. Returns whether it did.
+    /// Retires the node that was left first, if one is. Returns whether it did.
     fn retire_next(&mut self, number: u64) -> bool
         requires { (i : ℕ) → i < length self.old → IsBy number (state_in self.old i) }
         ensures { IsTurn is_left (Retired number) self.old self.new result }

@@ -23,8 +23,8 @@ fn store_root<F: Shape>(behind: &mut Vec<u64>, plan: Plan, root: usize, place: u
     }
 }
 
-/// The words of the nodes at first: the roots have their words, and each link and each other word
-/// is 0.
+/// Returns the words of the nodes at first: the roots have their words, and each link and each
+/// other word is 0.
 pub(crate) fn first_words<F: Shape>(alloc: Global, plan: Plan) -> Result<Vec<u64>, AllocError>
     requires { IsSized plan }
     ensures length { IfOk result (λ behind. length behind.items

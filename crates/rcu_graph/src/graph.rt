@@ -17,7 +17,7 @@ use std::alloc::{AllocError, Global};
 use std::marker::Model;
 use std::sync::Arc;
 
-/// Nodes among the shared words of a running engine, so many as its plan says. Those in use meet
+/// Nodes among the shared words of a running engine, as many as its plan says. Those in use meet
 /// `F`. The graph is the client of the engine, or one of several, at the place `P`.
 #[derive(Drop)]
 pub struct Graph<F: Shape, P: Within<GraphRule<F>> = Alone> {
@@ -53,7 +53,7 @@ impl<F: Shape, P: Within<GraphRule<F>>> Model for Graph<F, P> {
 }
 
 impl<F: Shape, P: Within<GraphRule<F>>> Graph<F, P> {
-    /// A second handle to the same nodes.
+    /// Returns a second handle to the same nodes.
     pub fn try_clone(&self) -> Result<Graph<F, P>, AllocError>
         ensures { IfOk result (λ graph. graph ≡ self.now) }
     {
@@ -64,14 +64,14 @@ impl<F: Shape, P: Within<GraphRule<F>>> Graph<F, P> {
         })
     }
 
-    /// The words of its engine, which all seats read.
+    /// Returns the words of its engine, which all seats read.
     pub fn board(&self) -> &Arc<Board<P::Whole>, Global>
         ensures { engine_part P.own_plan P.begins (arc_value result.now) ≡ self.now }
     {
         &self.board
     }
 
-    /// How large it is.
+    /// Returns how large it is.
     pub fn plan(&self) -> Plan
         ensures plan { result ≡ self.now.plan }
         ensures roots { self.now.plan.roots ≤ self.now.plan.nodes }
@@ -85,14 +85,14 @@ impl<F: Shape, P: Within<GraphRule<F>>> Graph<F, P> {
         self.plan
     }
 
-    /// Where its words begin in the table of its engine.
+    /// Returns where its words begin in the table of its engine.
     pub fn base(&self) -> usize
         ensures { result ≡ self.now.base }
     {
         self.base
     }
 
-    /// Where its nodes' links and words stand.
+    /// Returns where its nodes' links and words are.
     pub fn layout(&self) -> Layout
         ensures { result ≡ layout_of self.now }
     {
@@ -102,8 +102,8 @@ impl<F: Shape, P: Within<GraphRule<F>>> Graph<F, P> {
         }
     }
 
-    /// The place of the cell `k` of a node: its links are the first ones, and its words are behind
-    /// them.
+    /// Returns the place of the cell `k` of a node: its links are the first ones, and its words are
+    /// behind them.
     pub(crate) fn place(&self, layout: Layout, node: usize, k: usize) -> usize
         requires layout { layout ≡ layout_of self.now }
         requires node { node < self.now.plan.nodes }

@@ -93,14 +93,14 @@ impl<F: Shape, P: Within<GraphRule<F>>> Keeper<F, P> {
         self.counted.nodes.keeps(&self.graph);
     }
 
-    /// How large its graph is.
+    /// Returns how large its graph is.
     pub fn plan(&self) -> Plan
         ensures { result ≡ self.now.view.client.plan }
     {
         self.counted.nodes.mirror().plan()
     }
 
-    /// Whether a node is free.
+    /// Returns whether a node is free.
     pub fn is_free(&self, node: usize) -> bool
         requires { node < self.now.view.client.plan.nodes }
         ensures { result ≡ is_free (state_at (nodes_in self.now.view.client.known) node) }
@@ -108,7 +108,7 @@ impl<F: Shape, P: Within<GraphRule<F>>> Keeper<F, P> {
         self.counted.nodes.mirror().state(node).is_free()
     }
 
-    /// Whether a node is live.
+    /// Returns whether a node is live.
     pub fn is_live(&self, node: usize) -> bool
         requires { node < self.now.view.client.plan.nodes }
         ensures { result ≡ is_live (state_at (nodes_in self.now.view.client.known) node) }
@@ -116,7 +116,7 @@ impl<F: Shape, P: Within<GraphRule<F>>> Keeper<F, P> {
         self.counted.nodes.mirror().state(node).is_live()
     }
 
-    /// The node to which a link of a node leads.
+    /// Returns the node to which a link of a node leads.
     pub fn link_of(&self, node: usize, link: usize) -> Option<usize>
         requires node { node < self.now.view.client.plan.nodes }
         requires link { link < self.now.view.client.plan.links }
@@ -126,7 +126,7 @@ impl<F: Shape, P: Within<GraphRule<F>>> Keeper<F, P> {
         node_of(self.counted.nodes.mirror().link(node, link))
     }
 
-    /// A word of a node.
+    /// Returns a word of a node.
     pub fn word(&self, node: usize, word: usize) -> u64
         requires node { node < self.now.view.client.plan.nodes }
         requires word { word < self.now.view.client.plan.words }
@@ -136,9 +136,9 @@ impl<F: Shape, P: Within<GraphRule<F>>> Keeper<F, P> {
         self.counted.nodes.mirror().word(node, word)
     }
 
-    /// A free node, at a cost that is the same for any number of nodes: the one that was freed
-    /// last, which the cache may still have. It is free until it is published, and may be told
-    /// again. `Full` tells that none is free.
+    /// Returns a free node, at a cost that is the same for any number of nodes: the one that was
+    /// freed last, which the cache may still have. It is free until it is published, and may be
+    /// told again. `Full` means that none is free.
     pub fn free_node(&self) -> Result<usize, Full>
         ensures inside { IfOk result (λ node. node < self.now.view.client.plan.nodes) }
         ensures free { IfOk result (λ node.

@@ -12,13 +12,13 @@ use rcu_seq::{Cookie, Fault, Tag};
 use std::sync::Wait;
 
 impl<F: Shape, P: Within<GraphRule<F>>> Keeper<F, P> {
-    /// Looks at the number, and drives the engine, until a node is free, where none is. The
-    /// caller's processor passes quiescent states meanwhile, unless it is offline or idle.
+    /// Looks at the number, and drives the engine, until a node is free, if none is. The caller's
+    /// processor passes quiescent states meanwhile, unless it is offline or idle.
     ///
     /// No proof says that it returns. A section that stays open holds it up, and a processor whose
     /// thread passes no quiescent state and is neither idle nor offline.
     ///
-    /// Faults: `Exhausted` (11) where the last number is reached, so that no node becomes free any
+    /// Faults: `Exhausted` (11) if the last number is reached, so that no node becomes free any
     /// more.
     pub fn wait_until_free<const LEAF: u32, const FAN: u32, T: Drop>(
         &mut self,

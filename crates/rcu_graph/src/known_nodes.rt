@@ -55,7 +55,7 @@ impl<F: Shape, P: Within<GraphRule<F>>> Model for KnownNodes<F, P> {
 }
 
 impl<F: Shape, P: Within<GraphRule<F>>> KnownNodes<F, P> {
-    /// The seat, whose nodes are as at first.
+    /// Returns the seat, whose nodes are as at first.
     pub(crate) fn new(
         alloc: Global,
         graph: &Graph<F, P>,
@@ -82,7 +82,7 @@ impl<F: Shape, P: Within<GraphRule<F>>> KnownNodes<F, P> {
         let _ = &self.mirror;
     }
 
-    /// How large the graph is.
+    /// Returns how large the graph is.
     pub(crate) fn plan(&self, graph: &Graph<F, P>) -> Plan
         requires { IsWatcherOf graph.now self.now }
         ensures plan { result ≡ graph.now.plan }
@@ -226,7 +226,7 @@ impl<F: Shape, P: Within<GraphRule<F>>> KnownNodes<F, P> {
     }
 }
 
-/// The word of a link that leads to a node, or nowhere.
+/// Returns the word of a link that leads to a node, or nowhere.
 pub(crate) fn word_of(to: Option<usize>) -> u64
     requires { IfSome to (λ node. node < 2 ^ 64 - 1) }
     ensures { result ≡ word_to to }
@@ -237,7 +237,7 @@ pub(crate) fn word_of(to: Option<usize>) -> u64
     }
 }
 
-/// The node to which a link with this word leads.
+/// Returns the node to which a link with this word leads.
 pub(crate) fn node_of(word: u64) -> Option<usize>
     ensures { word_to result ≡ word }
 {

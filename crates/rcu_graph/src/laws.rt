@@ -1,4 +1,4 @@
-//! Where the cells of nodes stand, and what the rule says of nodes that open sections hold and of
+//! Where the cells of nodes are, and what the rule says of nodes that open sections hold and of
 //! what their hops find, over the definitions alone.
 ghost use Rattle.std.specs.Prelude.{◌≡◌, ◌≢◌, ◌<◌, ◌≤◌, ◌+◌, ◌*◌, ◌↔◌, ◌++◌, ◌∷◌, Bool};
 ghost use Rattle.std.specs.Prelude.{IsSome, IsTrue};
@@ -29,7 +29,7 @@ ghost use Rattle.rcu_graph.specs.declared.plan.Plan.{Plan};
 use crate::rule::Shape;
 
 /// Each link and each word of a node has a place of its own, among as many as all have together.
-/// The words of a node stand side by side, and so do the links of one root and of the next.
+/// The words of a node lie side by side, and so do the links of one root and of the next.
 pub fn each_cell_has_a_place_of_its_own()
     ensures own { (plan : Plan) (node other k l : ℕ) → k < plan.links + plan.words →
         l < plan.links + plan.words → place_of plan.roots plan.links plan.words node k
@@ -102,7 +102,7 @@ pub fn live_nodes_lead_to_live_nodes<F: Shape>()
 
 /// A hop tells where its link led at the load: the word that it found is that of the link, as the
 /// keeper knows the nodes then, and a node to which it came has the words that the hop has. So a
-/// lookup by one hop takes effect at its load, where it finds nothing too.
+/// lookup by one hop takes effect at its load, if it finds nothing too.
 pub fn hops_are_true_of_the_nodes<F: Shape>()
     ensures { (plan : Plan) (table : List ℕ) (xs : Views Planned)
         (keeper seat node link latest : ℕ) (who own cpu section : Option ℕ) (nodes : List Node)

@@ -44,7 +44,7 @@ impl Model for Mirror {
     } };
 }
 
-/// Where the cell `k` of a node's row stands, of rows of so many cells.
+/// Returns where the cell `k` of a node's row is, of rows of this many cells.
 fn cell_of(row: usize, count: usize, node: usize, k: usize) -> usize
     requires node { node < count }
     requires inside { k < row }
@@ -56,7 +56,7 @@ fn cell_of(row: usize, count: usize, node: usize, k: usize) -> usize
 }
 
 impl Mirror {
-    /// The nodes at first.
+    /// Returns the nodes at first.
     pub(crate) fn new<F: Shape>(alloc: Global, plan: Plan) -> Result<Self, AllocError>
         requires roots { plan.roots ≤ plan.nodes }
         requires links { plan.links * plan.nodes + 1 < 2 ^ 64 }
@@ -95,7 +95,7 @@ impl Mirror {
         })
     }
 
-    /// How large the graph is.
+    /// Returns how large the graph is.
     pub(crate) fn plan(&self) -> Plan
         ensures plan { result ≡ self.now.plan }
         ensures few { length self.now.nodes ≡ self.now.plan.nodes }
@@ -109,7 +109,7 @@ impl Mirror {
         self.plan
     }
 
-    /// The state of a node.
+    /// Returns the state of a node.
     pub(crate) fn state(&self, node: usize) -> NodeState
         requires { node < self.now.plan.nodes }
         ensures { result ≡ state_at self.now.nodes node }
@@ -117,7 +117,7 @@ impl Mirror {
         self.states.state(node)
     }
 
-    /// A free node, where there is one.
+    /// Returns a free node, if there is one.
     pub(crate) fn free_node(&self) -> Option<usize>
         ensures inside { IfSome result (λ node. node < self.now.plan.nodes) }
         ensures free { IfSome result (λ node. state_at self.now.nodes node ≡ Free) }
@@ -126,7 +126,7 @@ impl Mirror {
         self.states.free_node()
     }
 
-    /// Where a link of a node leads.
+    /// Returns where a link of a node leads.
     pub(crate) fn link(&self, node: usize, link: usize) -> u64
         requires node { node < self.now.plan.nodes }
         requires link { link < self.now.plan.links }
@@ -135,7 +135,7 @@ impl Mirror {
         self.links[cell_of(self.plan.links, self.plan.nodes, node, link)]
     }
 
-    /// A word of a node.
+    /// Returns a word of a node.
     pub(crate) fn word(&self, node: usize, word: usize) -> u64
         requires node { node < self.now.plan.nodes }
         requires word { word < self.now.plan.words }

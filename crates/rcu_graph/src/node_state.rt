@@ -18,22 +18,22 @@ pub enum NodeState {
 }
 
 impl NodeState {
-    /// Whether it is free.
+    /// Returns whether it is free.
     pub fn is_free(self) -> bool
         ensures { result ≡ is_free self }
     {
         matches!(self, NodeState::Free)
     }
 
-    /// Whether it is live.
+    /// Returns whether it is live.
     pub fn is_live(self) -> bool
         ensures { result ≡ is_live self }
     {
         matches!(self, NodeState::Live)
     }
 
-    /// The state after a look that saw this number, which is at most 2^62: what was left is retired
-    /// now, and what was retired a full grace period ago is free.
+    /// Returns the state after a look that saw this number, which is at most 2^62: what was left is
+    /// retired now, and what was retired a full grace period ago is free.
     pub fn aged(self, number: u64) -> NodeState
         requires { number ≤ 2 ^ 62 }
         ensures { result ≡ aged_state number number self }

@@ -20,7 +20,7 @@ use rcu_seq::Fault;
 use std::alloc::Global;
 use std::sync::Arc;
 
-/// How many callbacks may be queued: so many that no program queues them all.
+/// How many callbacks may be queued: more than any program queues.
 const MOST: u64 = 1 << 62;
 
 /// A graph as it is opened, with its engine.
@@ -50,9 +50,9 @@ impl<F: Shape> Graph<F> {
     /// other nodes are free, with its engine: of `cpus` processors, idle at number 0, processor 0
     /// alone online.
     ///
-    /// Faults: `BadSizes` where no graph is so large; `TooManyCpus` (17) for no processor, more
-    /// than 4,096, or more than four levels hold; `BadLast` (19) where `last` is no last number;
-    /// `NoMemory` (16).
+    /// Faults: `BadSizes` if no graph is so large; `TooManyCpus` (17) for no processor, more than
+    /// 4,096, or more than four levels hold; `BadLast` (19) if `last` is no last number; `NoMemory`
+    /// (16).
     pub fn open<const LEAF: u32, const FAN: u32, T: Drop>(
         alloc: Global,
         cpus: u32,

@@ -1,4 +1,4 @@
-//! Where the links and the words of the nodes stand.
+//! Where the links and the words of the nodes are.
 ghost use Rattle.std.specs.Prelude.{◌≡◌, ◌+◌, ◌*◌, ◌<◌, ◌≤◌, ◌^◌};
 ghost use Rattle.rcu_graph.specs.Nodes.{first_place, place_of};
 
@@ -7,8 +7,8 @@ use crate::plan::Plan;
 /// Where the links and the words of the nodes begin.
 pub const FIRST: usize = 16;
 
-/// The place of the cell `k` of a root. The links of the roots stand side by side, so that a line
-/// of a cache has those of many.
+/// Returns the place of the cell `k` of a root. The links of the roots lie side by side, so that a
+/// line of a cache has those of many.
 pub(crate) fn root_place(plan: Plan, root: usize, k: usize) -> usize
     requires root { root < plan.roots }
     requires inside { k < plan.links + plan.words }
@@ -23,7 +23,7 @@ pub(crate) fn root_place(plan: Plan, root: usize, k: usize) -> usize
     FIRST + plan.links * plan.roots + plan.words * root + (k - plan.links)
 }
 
-/// The place of the cell `k` of a node that is no root.
+/// Returns the place of the cell `k` of a node that is no root.
 pub(crate) fn row_place(plan: Plan, node: usize, k: usize) -> usize
     requires behind { plan.roots ≤ node }
     requires node { node < plan.nodes }
@@ -35,8 +35,8 @@ pub(crate) fn row_place(plan: Plan, node: usize, k: usize) -> usize
     FIRST + (plan.links + plan.words) * node + k
 }
 
-/// The place of the cell `k` of a node: its links are the first ones, and its words are behind
-/// them.
+/// Returns the place of the cell `k` of a node: its links are the first ones, and its words are
+/// behind them.
 pub fn place_of(plan: Plan, node: usize, k: usize) -> usize
     requires node { node < plan.nodes }
     requires inside { k < plan.links + plan.words }

@@ -15,7 +15,7 @@ pub struct Plan {
     pub seed: u64,
 }
 
-/// Where the links and the words of nodes stand in the table of an engine.
+/// Where the links and the words of nodes are in the table of an engine.
 #[derive(Clone, Copy, Debug, PartialEq, Eq)]
 pub struct Layout {
     /// Where the graph's words begin.
@@ -31,8 +31,8 @@ impl Plan {
     ghost use Rattle.std.specs.Prelude.{◌↔◌, IsTrue};
     ghost use Rattle.rcu_graph.specs.Opening.{IsSized};
 
-    /// Whether a graph may be as large as that: its roots are nodes, each node has a word, and all
-    /// links and words are no more than 2^32.
+    /// Returns whether a graph may be as large as that: its roots are nodes, each node has a word,
+    /// and all links and words are no more than 2^32.
     pub fn is_sized(self) -> bool
         ensures { IsTrue result ↔ IsSized self }
     {

@@ -22,7 +22,7 @@ pub trait Shape {
 
     ghost first: { Plan → ℕ → List ℕ };
 
-    /// A word of a root.
+    /// Returns a word of a root.
     fn first_word(plan: Plan, root: usize, word: usize) -> u64
         requires root { root < plan.roots }
         requires word { word < plan.words }

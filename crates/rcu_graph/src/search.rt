@@ -29,8 +29,8 @@ impl<F: Shape, P: Within<GraphRule<F>>> Graph<F, P> {
 
     /// Searches the chain of a root for a key, by a load a hop, and one a key. The section holds
     /// each node that it came to; the one that it returns has the key, and is whole. It returns
-    /// none only where a hop led nowhere, or to a greater key. The layout is as
-    /// of [`follow`](Self::follow).
+    /// none only if a hop led nowhere, or to a greater key. The layout is as of
+    /// [`follow`](Self::follow).
     pub fn find(
         &self,
         seat: &mut GraphSeat<F, P>,

@@ -1,4 +1,4 @@
-//! A graph's steps on its words, wherever it stands among the clients of its engine.
+//! A graph's steps on its words, wherever it is among the clients of its engine.
 ghost use Rattle.std.specs.Prelude.{◌≡◌, ◌<◌, ◌+◌, ◌*◌, None, Some};
 ghost use Rattle.rcu_live.specs.Client.{AllowsNumber, AllowsWord};
 ghost use Rattle.rcu_live.specs.CpuSeat as cpu_seat;

@@ -19,7 +19,7 @@ pub trait Value<const W: usize>: Invariant + Copy {
     /// The value that fitting words tell.
     ghost decode: { List ℕ → Self };
 
-    /// The words of a value of which the fact holds.
+    /// Returns the words of a value of which the fact holds.
     fn to_words(self) -> [u64; W]
         requires { valid self }
         ensures words { result ≡ in_words self }
