@@ -51,9 +51,9 @@ impl<E: Invariant, const W: usize, P: Within<MapRule<E, W>>> Map<E, W, P> {
 }
 
 impl<E: Entry<W>, const W: usize, P: Within<MapRule<E, W>>> Map<E, W, P> {
-    /// The next entry behind a key, in the order of [`entries`](Self::entries): bucket by bucket,
-    /// and in each by key. Behind the key 0 that is the first one. The key need not be in the map,
-    /// so whoever goes over the entries keeps the last key, and no cursor.
+    /// Returns the next entry behind a key, in the order of [`entries`](Self::entries): bucket by
+    /// bucket, and in each by key. Behind the key 0 that is the first one. The key need not be in
+    /// the map, so whoever goes over the entries keeps the last key, and no cursor.
     ///
     /// It takes two loads for each node of the chains from the key's bucket up to there, and one
     /// for each word of the entry but the key. It ends, whatever the keeper does meanwhile.

@@ -7,15 +7,15 @@ use rcu_graph::Plan;
 /// 2^64 times the golden ratio's share: what a map of seed 0 multiplies its keys by (Knuth).
 const GOLDEN: u64 = 0x9E37_79B9_7F4A_7C15;
 
-/// The odd number by which a map of this seed multiplies its keys.
+/// Returns the odd number by which a map of this seed multiplies its keys.
 pub(crate) fn multiplier_of(seed: u64) -> u64
     ensures { result ≡ multiplier_of seed }
 {
     GOLDEN.wrapping_add(seed.wrapping_mul(2))
 }
 
-/// The bucket of a key: the key times the map's number, as a share of 2^64 (multiplicative hashing,
-/// universal where the number is drawn at random).
+/// Returns the bucket of a key: the key times the map's number, as a share of 2^64 (multiplicative
+/// hashing, universal if the number is drawn at random).
 pub(crate) fn bucket_of(plan: Plan, key: u64) -> usize
     requires some { 0 < plan.roots }
     ensures is { result ≡ bucket_of plan.roots plan.seed key }

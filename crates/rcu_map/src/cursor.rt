@@ -1,4 +1,4 @@
-//! Where going over the entries of a map stands.
+//! How far an iteration over the entries of a map has come.
 
 /// A node of a bucket's chain, and its key. On the root of the bucket no entry of it was reached
 /// yet: the key is 0.

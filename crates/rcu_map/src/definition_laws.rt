@@ -52,8 +52,8 @@ pub fn a_change_is_one_store()
 
 /// Calls are made over moments where the keeper knows what it does between them: from the moment 0
 /// to that before the first call it knows the same, and each call is at or after the one before. So
-/// a run with no call may have any moments. A key that is there throughout was there, and where
-/// there was no call it was there at the beginning.
+/// a run with no call may have any moments. A key that is there throughout was there, and if there
+/// was no call it was there at the beginning.
 pub fn calls_are_made_over_moments<E: Entry<W>, const W: usize>()
     ensures begun { (plan : Plan) (opened t : ℕ) (moments : ℕ → Moment) (now : Watching Planned)
         (map : IsMapOf E.holds plan now) →
@@ -92,7 +92,7 @@ pub fn words_tell_themselves()
     ensures full { (full : Full) (words : List ℕ) → answered (Err full) words ≡ Err full }
 {}
 
-/// A map has sizes where there is a bucket and an entry has a word beside its key, and no others.
+/// A map has sizes if there is a bucket and an entry has a word beside its key, and no others.
 pub fn an_entry_has_a_word_beside_its_key()
     ensures least { HasSizes 1 2 1 }
     ensures key_alone { (buckets count : ℕ) → HasSizes buckets 1 count → ⊥ }

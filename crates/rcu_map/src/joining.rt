@@ -22,8 +22,8 @@ use std::alloc::{AllocError, Global};
 use std::sync::Arc;
 
 impl<E: Invariant, const W: usize, P: Within<MapRule<E, W>>> Map<E, W, P> {
-    /// The map at this place of an engine that was opened by this plan, and the watcher that its
-    /// keeper takes ([`Graph::join`]).
+    /// Returns the map at this place of an engine that was opened by this plan, and the watcher
+    /// that its keeper takes ([`Graph::join`]).
     pub fn join(
         board: &Arc<Board<P::Whole>, Global>,
         own: &mut MapWatcher<E, W, P>,
@@ -51,9 +51,10 @@ impl<E: Invariant, const W: usize, P: Within<MapRule<E, W>>> Map<E, W, P> {
 }
 
 impl<E: Entry<W>, const W: usize> Map<E, W> {
-    /// The plan of a map of so many buckets and nodes, and of this seed, as one of several clients.
+    /// Returns the plan of a map of this many buckets and nodes, and of this seed, as one of
+    /// several clients.
     ///
-    /// It is `BadSizes` where no map is so large.
+    /// It is `BadSizes` if no map is so large.
     pub fn sized(buckets: usize, nodes: usize, seed: u64) -> Result<Plan, NotOpened>
         ensures plan { IfOk result (λ plan. plan ≡ plan_of_map buckets W nodes seed) }
         ensures some { IfOk result (λ plan. 0 < plan.roots) }

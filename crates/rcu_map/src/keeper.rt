@@ -51,13 +51,13 @@ impl<E: Invariant, const W: usize, P: Within<MapRule<E, W>>> Model for MapKeeper
 pub(crate) struct Place {
     /// The last node whose key is less.
     pub(crate) previous: usize,
-    /// The node that has the key, where there is one.
+    /// The node that has the key, if there is one.
     pub(crate) node: Option<usize>,
 }
 
 impl<E: Invariant, const W: usize, P: Within<MapRule<E, W>>> MapKeeper<E, W, P> {
-    /// The keeper of a map that has no entry yet: the nodes of its graph are as at first. It takes
-    /// all the memory that it will ever have.
+    /// Returns the keeper of a map that has no entry yet: the nodes of its graph are as at first.
+    /// It takes all the memory that it will ever have.
     pub fn new(
         alloc: Global,
         map: &Map<E, W, P>,
@@ -92,15 +92,15 @@ impl<E: Invariant, const W: usize, P: Within<MapRule<E, W>>> MapKeeper<E, W, P> 
         self.nodes.plan()
     }
 
-    /// How many entries there are.
+    /// Returns how many entries there are.
     pub fn len(&self) -> usize
         ensures { result ≡ entries_in (buckets_in self.now) (nodes_in self.now.view.client.known) }
     {
         self.len
     }
 
-    /// Whether each node is live: the root of a bucket, or an entry's. Then none becomes free
-    /// before an entry is taken out.
+    /// Returns whether each node is live: the root of a bucket, or an entry's. Then none becomes
+    /// free before an entry is taken out.
     pub fn is_all_live(&self) -> bool
         ensures { IsTrue result ↔ AreAllLive (nodes_in self.now.view.client.known) }
     {
@@ -108,7 +108,7 @@ impl<E: Invariant, const W: usize, P: Within<MapRule<E, W>>> MapKeeper<E, W, P> 
         self.len + plan.roots == plan.nodes
     }
 
-    /// Whether a node is free, so that an entry can be put in.
+    /// Returns whether a node is free, so that an entry can be put in.
     pub fn has_free_node(&self) -> bool
         ensures free { result ≡ true → ¬ AreAllUsed (nodes_in self.now.view.client.known) }
         ensures used { result ≡ false → AreAllUsed (nodes_in self.now.view.client.known) }
@@ -116,7 +116,7 @@ impl<E: Invariant, const W: usize, P: Within<MapRule<E, W>>> MapKeeper<E, W, P> 
         self.nodes.free_node().is_ok()
     }
 
-    /// Where a key belongs.
+    /// Returns where a key belongs.
     pub(crate) fn place_of(&self, key: u64) -> Place
         requires { 0 < key }
         ensures place { IsPlace (buckets_in self.now) (seed_in self.now) key
@@ -154,7 +154,7 @@ impl<E: Invariant, const W: usize, P: Within<MapRule<E, W>>> MapKeeper<E, W, P> 
         }
     }
 
-    /// The node that has the entry of this key. No entry has the key 0.
+    /// Returns the node that has the entry of this key. No entry has the key 0.
     fn find(&self, key: u64) -> Option<usize>
         ensures { MatchOption result (¬ HasKey (buckets_in self.now)
             (nodes_in self.now.view.client.known) key)
@@ -200,7 +200,7 @@ impl<E: Invariant, const W: usize, P: Within<MapRule<E, W>>> MapKeeper<E, W, P> 
         true
     }
 
-    /// Whether there is an entry of this key.
+    /// Returns whether there is an entry of this key.
     pub fn contains(&self, key: u64) -> bool
         ensures { IsTrue result ↔ HasKey (buckets_in self.now) (nodes_in self.now.view.client.known)
             key }
@@ -235,8 +235,8 @@ impl<E: Entry<W>, const W: usize, P: Within<MapRule<E, W>>> MapKeeper<E, W, P> {
         let _ = &self.nodes;
     }
 
-    /// The entry of this key, if there is one: no shared word is read. No entry has the key 0.
-    /// Costs a step for each node of its bucket up to there.
+    /// Returns the entry of this key, if there is one: no shared word is read. No entry has the key
+    /// 0. Costs a step for each node of its bucket up to there.
     pub fn get(&self, key: u64) -> Option<E>
         ensures there { IsSome result ↔ HasKey (buckets_in self.now)
             (nodes_in self.now.view.client.known) key }

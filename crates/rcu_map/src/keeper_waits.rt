@@ -55,7 +55,7 @@ impl<E: Entry<W>, const W: usize, P: Within<MapRule<E, W>>> MapKeeper<E, W, P> {
         waited
     }
 
-    /// The same, where some node becomes free by that.
+    /// Does the same, if some node becomes free by that.
     fn wait_for_node<const LEAF: u32, const FAN: u32, T: Drop>(
         &mut self,
         rt: &impl Wait,
@@ -77,17 +77,17 @@ impl<E: Entry<W>, const W: usize, P: Within<MapRule<E, W>>> MapKeeper<E, W, P> {
     }
 
     /// Puts an entry in so, as [`insert`](Self::insert), [`replace`](Self::replace) or
-    /// [`upsert`](Self::upsert), and returns the one that had its key. Where it needs a node and
-    /// none is free, it looks at the number and drives the engine until one is. The caller's
-    /// processor passes quiescent states meanwhile, unless it is offline or idle. It does not wait
-    /// where each node is live: that is `Full`.
+    /// [`upsert`](Self::upsert), and returns the one that had its key. If it needs a node and none
+    /// is free, it looks at the number and drives the engine until one is. The caller's processor
+    /// passes quiescent states meanwhile, unless it is offline or idle. It does not wait if each
+    /// node is live: that is `Full`.
     ///
     /// No proof says that it returns. A section that stays open holds it up, and a processor whose
     /// thread passes no quiescent state and is neither idle nor offline.
     ///
-    /// Faults: `InSection` (4) where a section is open on the seat, which the caller would wait
-    /// for, and then nothing happened; `Exhausted` (11) where the last number is reached, so that
-    /// no node becomes free any more.
+    /// Faults: `InSection` (4) if a section is open on the seat, which the caller would wait for,
+    /// and then nothing happened; `Exhausted` (11) if the last number is reached, so that no node
+    /// becomes free any more.
     pub fn put_or_wait<const LEAF: u32, const FAN: u32, T: Drop>(
         &mut self,
         rt: &impl Wait,

@@ -19,7 +19,7 @@ use rcu_live::Within;
 
 impl<E: Invariant, const W: usize, P: Within<MapRule<E, W>>> Map<E, W, P> {
     /// Goes on from a cursor by one hop, and returns where that led: to a node, or to the root of
-    /// the next bucket, where it led nowhere.
+    /// the next bucket, if it led nowhere.
     pub(crate) fn step(&self, seat: &mut MapSeat<E, W, P>, at: Cursor) -> Cursor
         requires may { MayGoOn self.now (seat_part P.lens seat.old) at }
         requires inside { at.bucket < self.now.plan.roots }
@@ -42,7 +42,7 @@ impl<E: Invariant, const W: usize, P: Within<MapRule<E, W>>> Map<E, W, P> {
 }
 
 impl<E: Entry<W>, const W: usize, P: Within<MapRule<E, W>>> Map<E, W, P> {
-    /// The entry that a node has, by a load a word.
+    /// Returns the entry that a node has, by a load a word.
     pub(crate) fn entry_at(&self, seat: &mut MapSeat<E, W, P>, node: usize, key: u64) -> E
         requires { IsOnEntry E.holds self.now (seat_part P.lens seat.old) node key }
         ensures same { seat.new ≡ seat.old }
@@ -58,7 +58,7 @@ impl<E: Entry<W>, const W: usize, P: Within<MapRule<E, W>>> Map<E, W, P> {
         E::of_words(&words)
     }
 
-    /// Goes on from a cursor to the next entry. None tells that no bucket has a further one.
+    /// Goes on from a cursor to the next entry. `None` means that no bucket has a further one.
     fn next_entry(&self, seat: &mut MapSeat<E, W, P>, start: Cursor) -> (Cursor, Option<E>)
         requires { MayGoOn self.now (seat_part P.lens seat.old) start }
         ensures listed { HasListed E.holds E.decode E.valid E.key_of self.now
@@ -104,8 +104,8 @@ impl<'a, E: Entry<W>, const W: usize, P: Within<MapRule<E, W>>> Iterator for Ent
 
     ghost remaining = { λ s. at_most (left_from (listing s).map.plan.roots (listing s).at) };
 
-    /// The next entry, by two loads for each node of the chains from here up to there, and one for
-    /// each word of it but the key.
+    /// Returns the next entry, by two loads for each node of the chains from here up to there, and
+    /// one for each word of it but the key.
     fn next(&mut self) -> Option<E> {
         let (at, entry) = self.map.next_entry(self.seat, self.at);
         self.at = at;

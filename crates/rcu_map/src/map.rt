@@ -50,7 +50,7 @@ impl<E: Invariant, const W: usize, P: Within<MapRule<E, W>>> Model for Map<E, W,
 }
 
 impl<E: Invariant, const W: usize, P: Within<MapRule<E, W>>> Map<E, W, P> {
-    /// A map over a graph of one link a node, whose roots are those of the buckets.
+    /// Returns a map over a graph of one link a node, whose roots are those of the buckets.
     pub fn over(graph: Graph<MapShape<E, W>, P>) -> Map<E, W, P>
         requires some { 0 < graph.plan.roots }
         requires one { graph.plan.links ≡ 1 }
@@ -61,7 +61,7 @@ impl<E: Invariant, const W: usize, P: Within<MapRule<E, W>>> Map<E, W, P> {
         Map { graph }
     }
 
-    /// How large it is: it has as many buckets as roots.
+    /// Returns how large it is: it has as many buckets as roots.
     pub fn plan(&self) -> Plan
         ensures plan { result ≡ self.now.plan }
         ensures some { 0 < self.now.plan.roots }
@@ -76,7 +76,7 @@ impl<E: Invariant, const W: usize, P: Within<MapRule<E, W>>> Map<E, W, P> {
         graph.plan()
     }
 
-    /// A second handle to the same map.
+    /// Returns a second handle to the same map.
     pub fn try_clone(&self) -> Result<Map<E, W, P>, AllocError>
         ensures { IfOk result (λ map. map ≡ self.now) }
     {
@@ -87,21 +87,21 @@ impl<E: Invariant, const W: usize, P: Within<MapRule<E, W>>> Map<E, W, P> {
         })
     }
 
-    /// The words of its engine, which all seats read.
+    /// Returns the words of its engine, which all seats read.
     pub fn board(&self) -> &Arc<Board<P::Whole>, Global>
         ensures { engine_part P.own_plan P.begins (arc_value result.now) ≡ self.now }
     {
         self.graph.board()
     }
 
-    /// The nodes, for who keeps them.
+    /// Returns the nodes, for their keeper.
     pub fn graph(&self) -> &Graph<MapShape<E, W>, P>
         ensures { result.now ≡ self.now }
     {
         &self.graph
     }
 
-    /// Where the nodes' links and words stand, by constants where `W` is not 0: what waits for a
+    /// Returns where the nodes' links and words are, by constants if `W` is not 0: what waits for a
     /// load multiplies by no other number.
     pub(crate) fn layout(&self) -> Layout
         ensures { result ≡ layout_of self.now }
@@ -146,7 +146,7 @@ impl<E: Invariant, const W: usize, P: Within<MapRule<E, W>>> Map<E, W, P> {
         }
     }
 
-    /// The node that has the entry of this key. No entry has the key 0.
+    /// Returns the node that has the entry of this key. No entry has the key 0.
     fn find(&self, seat: &mut MapSeat<E, W, P>, key: u64) -> Option<usize>
         requires walking { IsWalking self.now (seat_part P.lens seat.old) }
         ensures same { seat.new ≡ after_word_step seat.old
@@ -193,7 +193,7 @@ impl<E: Invariant, const W: usize, P: Within<MapRule<E, W>>> Map<E, W, P> {
         true
     }
 
-    /// Whether the section finds an entry of this key, as [`get`](Self::get) does.
+    /// Returns whether the section finds an entry of this key, as [`get`](Self::get) does.
     pub fn contains(&self, seat: &mut MapSeat<E, W, P>, key: u64) -> bool
         requires walking { IsWalking self.now (seat_part P.lens seat.old) }
         ensures same { seat.new ≡ after_word_step seat.old
@@ -216,9 +216,9 @@ impl<E: Entry<W>, const W: usize, P: Within<MapRule<E, W>>> Map<E, W, P> {
         self.plan();
     }
 
-    /// The entry of this key, by two loads for each node of its bucket up to there, and one for
-    /// each word of it but the key. It ends, whatever the keeper does meanwhile. No entry has the
-    /// key 0.
+    /// Returns the entry of this key, by two loads for each node of its bucket up to there, and one
+    /// for each word of it but the key. It ends, whatever the keeper does meanwhile. No entry has
+    /// the key 0.
     pub fn get(&self, seat: &mut MapSeat<E, W, P>, key: u64) -> Option<E>
         requires walking { IsWalking self.now (seat_part P.lens seat.old) }
         ensures same { seat.new ≡ after_word_step seat.old

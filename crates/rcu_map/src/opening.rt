@@ -38,7 +38,7 @@ pub struct Opened<L: Drop, E: Invariant, const W: usize> {
     pub keeper: MapKeeper<E, W>,
 }
 
-/// The plan of a map of so many buckets, words an entry and nodes, and of this seed.
+/// Returns the plan of a map of this many buckets, words an entry and nodes, and of this seed.
 ///
 /// It is `BadSizes` for no bucket, or fewer than two words.
 pub fn make_plan(buckets: usize, words: usize, nodes: usize, seed: u64) -> Result<Plan, NotOpened>
@@ -111,12 +111,12 @@ impl<E: Invariant, const W: usize> Map<E, W> {
 impl<E: Entry<W>, const W: usize> Map<E, W> {
     /// Opens a map with no entry, with its engine: of `cpus` processors, idle at number 0,
     /// processor 0 alone online. So many of the nodes as there are buckets are their roots, and
-    /// each other one has room for an entry. Which bucket a key belongs to hangs on the seed: who
-    /// draws it at random keeps others from choosing keys that share a bucket.
+    /// each other one has room for an entry. Which bucket a key belongs to hangs on the seed: an
+    /// opening that draws it at random keeps others from choosing keys that share a bucket.
     ///
     /// Faults: `BadSizes` for no bucket, fewer nodes than buckets, or more than 2^32 words in all;
     /// `TooManyCpus` (17) for no processor, more than 4,096, or more than four levels hold;
-    /// `BadLast` (19) where `last` is no last number; `NoMemory` (16).
+    /// `BadLast` (19) if `last` is no last number; `NoMemory` (16).
     pub fn open<const LEAF: u32, const FAN: u32, T: Drop>(
         alloc: Global,
         cpus: u32,

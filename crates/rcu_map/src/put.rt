@@ -7,7 +7,7 @@ use rcu_seq::Fault;
 /// Where an entry may go that is put in.
 #[derive(Clone, Copy, Debug, PartialEq, Eq)]
 pub enum Put {
-    /// Beside the others, where none has its key.
+    /// Beside the others, if none has its key.
     Insert,
     /// In the place of the one that has its key.
     Replace,
@@ -16,7 +16,7 @@ pub enum Put {
 }
 
 impl Put {
-    /// Whether an entry is put in, where one has its key already or none has.
+    /// Returns whether an entry is put in, if one has its key already or none has.
     pub(crate) fn puts(self, there: bool) -> bool
         ensures { result ≡ is_put self there }
     {

@@ -16,7 +16,7 @@ impl<E: Entry<W>, const W: usize> Map<E, W> {
     /// Reads the entry of a key in a section of its own, of the map's engine. It takes no lock and
     /// waits for nobody.
     ///
-    /// Faults: `Offline` (2) where the processor is offline; `CpuIdle` (23) where it is idle.
+    /// Faults: `Offline` (2) if the processor is offline; `CpuIdle` (23) if it is idle.
     pub fn get_section<L: Shared<MapRule<E, W>>>(
         &self,
         live: &L,

@@ -39,7 +39,7 @@ impl<E: Entry<W>, const W: usize, P: Within<MapRule<E, W>>> Updater<E, W, P> {
         self.lock(rt).put(how, entry)
     }
 
-    /// Puts an entry in where none has its key, as [`MapKeeper::insert`].
+    /// Puts an entry in if none has its key, as [`MapKeeper::insert`].
     pub fn insert(&self, rt: &impl Wait, entry: E) -> Result<Option<E>, Full>
         requires { E.valid entry }
         ensures { IfOk result (λ old. IsOfKey E.valid E.key_of (E.key_of entry) old) }
@@ -77,8 +77,8 @@ impl<E: Entry<W>, const W: usize, P: Within<MapRule<E, W>>> Updater<E, W, P> {
         self.lock(rt).age()
     }
 
-    /// The entry of a key, as [`MapKeeper::get`]: no later change is missed, as it may be by a
-    /// section.
+    /// Returns the entry of a key, as [`MapKeeper::get`]: no later change is missed, as it may be
+    /// by a section.
     pub fn get(&self, rt: &impl Wait, key: u64) -> Option<E>
         ensures keyed { IfSome result (λ entry. E.key_of entry ≡ key) }
         ensures sound { IfSome result (λ entry. E.valid entry) }
@@ -86,7 +86,7 @@ impl<E: Entry<W>, const W: usize, P: Within<MapRule<E, W>>> Updater<E, W, P> {
         self.lock(rt).get(key)
     }
 
-    /// How many entries there are.
+    /// Returns how many entries there are.
     pub fn len(&self, rt: &impl Wait) -> usize {
         self.lock(rt).len()
     }

@@ -17,8 +17,8 @@ use rcu_seq::{Cookie, Tag};
 use std::sync::Wait;
 
 impl<E: Entry<W>, const W: usize, P: Within<MapRule<E, W>>> Updater<E, W, P> {
-    /// Looks at the number, and puts an entry in, if that needs no node or one is free. Where a
-    /// later number may free one, `Err` is the number.
+    /// Looks at the number, and puts an entry in, if that needs no node or one is free. If a later
+    /// number may free one, `Err` is the number.
     fn look_and_put(
         &self,
         rt: &impl Wait,
@@ -46,7 +46,7 @@ impl<E: Entry<W>, const W: usize, P: Within<MapRule<E, W>>> Updater<E, W, P> {
     ///
     /// No proof says that it returns: others may take each node that becomes free.
     ///
-    /// Faults: `InSection` (4) where a section is open on the seat; `Exhausted` (11) where the last
+    /// Faults: `InSection` (4) if a section is open on the seat; `Exhausted` (11) if the last
     /// number is reached, so that no node becomes free any more.
     pub fn put_or_wait<const LEAF: u32, const FAN: u32, T: Drop>(
         &self,

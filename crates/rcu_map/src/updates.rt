@@ -121,7 +121,7 @@ impl<E: Invariant, const W: usize, P: Within<MapRule<E, W>>> MapKeeper<E, W, P> 
 }
 
 impl<E: Entry<W>, const W: usize, P: Within<MapRule<E, W>>> MapKeeper<E, W, P> {
-    /// Puts an entry in so, by one store, and returns the one that had its key. `Full` tells that
+    /// Puts an entry in so, by one store, and returns the one that had its key. `Full` means that
     /// the entry needs a node, and that none is free. Costs a step for each node of its bucket up
     /// to there.
     pub fn put(&mut self, how: Put, entry: E) -> Result<Option<E>, Full>
@@ -137,8 +137,8 @@ impl<E: Entry<W>, const W: usize, P: Within<MapRule<E, W>>> MapKeeper<E, W, P> {
         Ok(None)
     }
 
-    /// Puts an entry in, by one store, where none has its key. Returns the one that has it: then
-    /// nothing changed. `Full` tells that none has it, and that no node is free. Costs a step for
+    /// Puts an entry in, by one store, if none has its key. Returns the one that has it: then
+    /// nothing changed. `Full` means that none has it, and that no node is free. Costs a step for
     /// each node of its bucket up to there.
     pub fn insert(&mut self, entry: E) -> Result<Option<E>, Full>
         requires sound { E.valid entry }
@@ -149,8 +149,8 @@ impl<E: Entry<W>, const W: usize, P: Within<MapRule<E, W>>> MapKeeper<E, W, P> {
     }
 
     /// Puts an entry in the place of the one that has its key, by one store, and returns that: a
-    /// section finds the old one or the new one. Where none has its key, nothing changes. `Full`
-    /// tells that one has it, and that no node is free. Costs as [`insert`](Self::insert).
+    /// section finds the old one or the new one. If none has its key, nothing changes. `Full` means
+    /// that one has it, and that no node is free. Costs as [`insert`](Self::insert).
     pub fn replace(&mut self, entry: E) -> Result<Option<E>, Full>
         requires sound { E.valid entry }
         ensures { HasAnswered E.decode E.valid E.key_of Put.Replace
@@ -160,7 +160,7 @@ impl<E: Entry<W>, const W: usize, P: Within<MapRule<E, W>>> MapKeeper<E, W, P> {
     }
 
     /// Puts an entry in, by one store, in the place of the one that has its key, and returns that
-    /// (as std's `insert` of a hash map). `Full` tells that no node is free. Costs as
+    /// (as std's `insert` of a hash map). `Full` means that no node is free. Costs as
     /// [`insert`](Self::insert).
     pub fn upsert(&mut self, entry: E) -> Result<Option<E>, Full>
         requires sound { E.valid entry }
