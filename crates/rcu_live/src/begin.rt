@@ -17,7 +17,7 @@ use crate::word_sets::WordSets;
 use rcu_node::{Awaited, CpuSet};
 use rcu_state::GpState;
 
-/// The processor is online from now on exactly where it is here. Processor 0 is.
+/// The processor is online from now on exactly if it is here. Processor 0 is.
 fn set_online<A: Awaited, T: Drop>(
     gp: &mut GpState<A, T>,
     online: &mut CpuSet,
@@ -74,8 +74,8 @@ fn set_offline<A: Awaited, T: Drop>(
     }
 }
 
-/// How many processors from this one on, in a row, have no bit in their online mask, which is given
-/// from this one's bit on.
+/// Returns how many processors from this one on, in a row, have no bit in their online mask, which
+/// is given from this one's bit on.
 fn absent_from(mask: u64, cpu: u32, cpus: u32) -> u32
     requires { cpu < cpus }
     ensures { result ≡ min (trailing_zeros w64 mask) (min (64 - cpu % 64) (cpus - cpu)) }
@@ -84,8 +84,8 @@ fn absent_from(mask: u64, cpu: u32, cpus: u32) -> u32
 }
 
 /// Learns each own word, in turn: loads it, or finds that it is 0 by a load of an online mask,
-/// which tells of the next processors in a row that have no bit in it. Online are the processors
-/// whose word is not 0: already quiescent where it is above the number, else awaited.
+/// which covers the next processors in a row that have no bit in it. Online are the processors
+/// whose word is not 0: already quiescent if it is above the number, else awaited.
 pub(crate) fn load_own_words<A: Awaited, T: Drop, P: Client>(
     board: &Board<P>,
     seat: &mut TableSeat<P>,

@@ -90,7 +90,7 @@ impl Stored {
 pub type TableSeat<P> = Seat<(), View<<P as Client>::Known>>;
 
 impl<P: Client> Board<P> {
-    /// The words with their first seat, which is the engine's and has all parts.
+    /// Returns the words with their first seat, which is the engine's and has all parts.
     pub fn open(
         alloc: Global,
         cpus: u32,
@@ -131,28 +131,28 @@ impl<P: Client> Board<P> {
         let _ = &self.table;
     }
 
-    /// Where the client's words begin in the table, behind the engine's.
+    /// Returns where the client's words begin in the table, behind the engine's.
     pub fn base(&self) -> usize
         ensures { result ≡ self.now.base }
     {
         own_word_index(self.cpus)
     }
 
-    /// The number of processors.
+    /// Returns the number of processors.
     pub fn cpus(&self) -> u32
         ensures { result ≡ self.now.cpus }
     {
         self.cpus
     }
 
-    /// The last number: no grace period begins at it.
+    /// Returns the last number: no grace period begins at it.
     pub fn last(&self) -> u64
         ensures { result ≡ self.now.last }
     {
         self.last
     }
 
-    /// How many callbacks may be queued.
+    /// Returns how many callbacks may be queued.
     pub fn most(&self) -> u64
         ensures { result ≡ self.now.most }
     {

@@ -15,7 +15,7 @@ pub struct BothPlans<A, B> {
     pub first: A,
     /// The plan of the second.
     pub second: B,
-    /// How many words the first has: those of the second stand behind them.
+    /// How many words the first has: those of the second are behind them.
     pub split: usize,
 }
 
@@ -65,7 +65,7 @@ impl<A: Client, B: Client> Client for Both<A, B> {
 }
 
 impl<A: Client, B: Client> Both<A, B> {
-    /// The plan of two clients of these plans: none where nobody can count their words.
+    /// Returns the plan of two clients of these plans: none if nobody can count their words.
     pub fn plan(first: A::Plan, second: B::Plan) -> Option<BothPlans<A::Plan, B::Plan>>
         requires first { A.suits first }
         requires second { B.suits second }

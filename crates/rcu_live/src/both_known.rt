@@ -6,6 +6,6 @@ pub struct BothKnown<C, D> {
     pub first: C,
     /// Of the second.
     pub second: D,
-    /// How many words the first has: those of the second stand behind them.
+    /// How many words the first has: those of the second are behind them.
     pub split: u64,
 }

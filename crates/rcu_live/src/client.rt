@@ -4,7 +4,7 @@ ghost use Rattle.rcu_live.specs.Client.{HasAdded, IsStable, Views};
 
 use std::alloc::{AllocError, Global};
 
-/// A client of the engine. Its words stand behind the engine's, and each seat's view has a part of
+/// A client of the engine. Its words are behind the engine's, and each seat's view has a part of
 /// the client's. What it is told once, at the opening, is its plan.
 ///
 /// One law ties it to the engine: opening and closing a section, dealing a seat and handing over
@@ -32,7 +32,7 @@ pub trait Client {
 
     ghost size: { Self.Plan → ℕ };
 
-    /// How many words it has.
+    /// Returns how many words it has.
     fn count(plan: Self::Plan) -> usize
         requires { suits plan }
         ensures { result ≡ size plan };
@@ -46,14 +46,14 @@ pub trait Client {
     ghost stable: { (plan : Self.Plan) → IsStable (holds plan) idle closed };
 }
 
-/// What a client's step on one of its words tells.
+/// What a client's step on one of its words says.
 pub trait WordStep<C> {
     // Of the word's place among the client's words, what the client knew, the word that was found
     // or stored, and what the client knows then.
     ghost then: { ℕ → C → ℕ → C → Type 0 };
 }
 
-/// What a client's look at the number tells.
+/// What a client's look at the number says.
 pub trait NumberStep<C> {
     // Of what the client knew, the number, and what the client knows then.
     ghost then: { C → ℕ → C → Type 0 };

@@ -1,4 +1,4 @@
-//! A client's steps on its own words, which stand behind the engine's.
+//! A client's steps on its own words, which are behind the engine's.
 ghost use Rattle.std.specs.Prelude.{◌≡◌, ◌<◌, Some};
 ghost use Rattle.rcu_live.specs.Client.{AllowsAt, AllowsNumber};
 ghost use Rattle.rcu_live.specs.TableSeat.{IsSplit, Stepped};

@@ -85,35 +85,35 @@ impl<P: Client> CpuSeat<P> {
         }
     }
 
-    /// The processor.
+    /// Returns the processor.
     pub fn cpu(&self) -> u32
         ensures { result ≡ self.now.cpu }
     {
         self.data.cpu()
     }
 
-    /// How deep the read sections nest, 0 to 65,535: 0 where none is open.
+    /// Returns how deep the read sections nest, 0 to 65,535: 0 if none is open.
     pub fn depth(&self) -> u32
         ensures { result ≡ self.now.depth }
     {
         self.data.depth()
     }
 
-    /// Whether the processor is online, be it awake or idle: its own word is not 0.
+    /// Returns whether the processor is online, be it awake or idle: its own word is not 0.
     pub fn is_online(&self) -> bool
         ensures { result ≡ not (self.now.view.own_word == 0) }
     {
         self.data.online()
     }
 
-    /// Whether the processor is idle: its own word is 2^63.
+    /// Returns whether the processor is idle: its own word is 2^63.
     pub fn is_idle(&self) -> bool
         ensures { result ≡ (self.now.view.own_word == idle_word) }
     {
         self.data.is_idle()
     }
 
-    /// The number at which the open section began.
+    /// Returns the number at which the open section began.
     pub(crate) fn opened(&self) -> Option<u64>
         ensures { result ≡ self.now.view.section }
     {
@@ -123,8 +123,8 @@ impl<P: Client> CpuSeat<P> {
     /// Opens a read section by one load, or nests one deeper in the open one by none, and returns
     /// the depth. It waits for nobody.
     ///
-    /// Faults: `Offline` (2) where the processor is offline; `CpuIdle` (23) where it is idle;
-    /// `NestFull` (6) where the depth is 65,535.
+    /// Faults: `Offline` (2) if the processor is offline; `CpuIdle` (23) if it is idle; `NestFull`
+    /// (6) if the depth is 65,535.
     pub fn enter<L: Shared<P>>(&mut self, live: &L) -> Result<u32, Fault>
         requires { self.old.table ≡ (L.object live.now).table }
         ensures table { self.new.table ≡ self.old.table }
@@ -164,8 +164,8 @@ impl<P: Client> CpuSeat<P> {
     /// Passes a quiescent state: loads the number, which it returns, and stores it and one more in
     /// the processor's own word.
     ///
-    /// Faults: `Offline` (2) where the processor is offline; `CpuIdle` (23) where it is idle;
-    /// `InSection` (4) where a section is open.
+    /// Faults: `Offline` (2) if the processor is offline; `CpuIdle` (23) if it is idle; `InSection`
+    /// (4) if a section is open.
     pub fn quiesce<L: Shared<P>>(&mut self, live: &L) -> Result<u64, Fault>
         requires { self.old.table ≡ (L.object live.now).table }
         ensures table { self.new.table ≡ self.old.table }
@@ -186,8 +186,8 @@ impl<P: Client> CpuSeat<P> {
     /// processor's own word is the number and one more already: then no grace period began or ended
     /// since it was stored. A thread that passes many does so by a load alone.
     ///
-    /// Faults: `Offline` (2) where the processor is offline; `CpuIdle` (23) where it is idle;
-    /// `InSection` (4) where a section is open.
+    /// Faults: `Offline` (2) if the processor is offline; `CpuIdle` (23) if it is idle; `InSection`
+    /// (4) if a section is open.
     pub fn quiesce_since<L: Shared<P>>(&mut self, live: &L) -> Result<u64, Fault>
         requires { self.old.table ≡ (L.object live.now).table }
         ensures table { self.new.table ≡ self.old.table }
@@ -212,8 +212,8 @@ impl<P: Client> CpuSeat<P> {
     /// a store where a grace period began or ended since the last quiescent state. Returns the
     /// number of the quiescent state.
     ///
-    /// Faults: `Offline` (2) where the processor is offline; `CpuIdle` (23) where it is idle;
-    /// `NotOpen` (5) where no section is open; `InSection` (4) where the open one nests.
+    /// Faults: `Offline` (2) if the processor is offline; `CpuIdle` (23) if it is idle; `NotOpen`
+    /// (5) if no section is open; `InSection` (4) if the open one nests.
     pub fn renew<L: Shared<P>>(&mut self, live: &L) -> Result<u64, Fault>
         requires { self.old.table ≡ (L.object live.now).table }
         ensures table { self.new.table ≡ self.old.table }
@@ -254,7 +254,7 @@ impl<P: Client> CpuSeat<P> {
         number
     }
 
-    /// Why no section is renewed where none is open that does not nest.
+    /// Why no section is renewed if none is open that does not nest.
     #[cold]
     fn no_outermost(&self) -> Fault
         requires { self.now.depth ≢ 1 }
@@ -270,12 +270,11 @@ impl<P: Client> CpuSeat<P> {
     }
 
     /// Opens a read section, or nests one deeper in the open one, and returns the depth, as
-    /// [`enter`](Self::enter), also where the processor is idle: then it wakes first, by one store
-    /// of 1 in its own word, with no load before it. It waits for nobody. A thread that pins and
+    /// [`enter`](Self::enter), also if the processor is idle: then it wakes first, by one store of
+    /// 1 in its own word, with no load before it. It waits for nobody. A thread that pins and
     /// unpins keeps no grace period waiting between two sections, and passes no quiescent states.
     ///
-    /// Faults: `Offline` (2) where the processor is offline; `NestFull` (6) where the depth is
-    /// 65,535.
+    /// Faults: `Offline` (2) if the processor is offline; `NestFull` (6) if the depth is 65,535.
     pub fn pin<L: Shared<P>>(&mut self, live: &L) -> Result<u32, Fault>
         requires { self.old.table ≡ (L.object live.now).table }
         ensures table { self.new.table ≡ self.old.table }
@@ -306,8 +305,7 @@ impl<P: Client> CpuSeat<P> {
     /// Leaves the innermost section, and returns the depth: at 0 one load closed the section, and
     /// the processor is idle from then on, by one store of 2^63 in its own word.
     ///
-    /// Faults: `Offline` (2) where the processor is offline; `NotOpen` (5) where no section is
-    /// open.
+    /// Faults: `Offline` (2) if the processor is offline; `NotOpen` (5) if no section is open.
     pub fn unpin<L: Shared<P>>(&mut self, live: &L) -> Result<u32, Fault>
         requires { self.old.table ≡ (L.object live.now).table }
         ensures table { self.new.table ≡ self.old.table }
@@ -337,8 +335,8 @@ impl<P: Client> CpuSeat<P> {
     /// pinned for long keeps no grace period waiting that began before this call. Returns the
     /// number of the quiescent state.
     ///
-    /// Faults: `Offline` (2) where the processor is offline; `NotOpen` (5) where no section is
-    /// open; `InSection` (4) where the open one nests.
+    /// Faults: `Offline` (2) if the processor is offline; `NotOpen` (5) if no section is open;
+    /// `InSection` (4) if the open one nests.
     pub fn repin<L: Shared<P>>(&mut self, live: &L) -> Result<u64, Fault>
         requires { self.old.table ≡ (L.object live.now).table }
         ensures table { self.new.table ≡ self.old.table }
@@ -355,8 +353,8 @@ impl<P: Client> CpuSeat<P> {
     /// The processor is idle from now on, until it wakes or departs: one store of 2^63 in its own
     /// word. It opens no section, and no grace period waits for it.
     ///
-    /// Faults: `Offline` (2) where the processor is offline; `CpuIdle` (23) where it is idle;
-    /// `InSection` (4) where a section is open.
+    /// Faults: `Offline` (2) if the processor is offline; `CpuIdle` (23) if it is idle; `InSection`
+    /// (4) if a section is open.
     pub fn idle<L: Shared<P>>(&mut self, live: &L) -> Result<(), Fault>
         requires { self.old.table ≡ (L.object live.now).table }
         ensures table { self.new.table ≡ self.old.table }
@@ -373,7 +371,7 @@ impl<P: Client> CpuSeat<P> {
     /// The processor is awake from now on: loads the number, which it returns, and stores it and
     /// one more in the processor's own word.
     ///
-    /// Faults: `Offline` (2) where the processor is offline; `NotIdle` (24) where it is awake.
+    /// Faults: `Offline` (2) if the processor is offline; `NotIdle` (24) if it is awake.
     pub fn wake<L: Shared<P>>(&mut self, live: &L) -> Result<u64, Fault>
         requires { self.old.table ≡ (L.object live.now).table }
         ensures table { self.new.table ≡ self.old.table }
@@ -390,8 +388,8 @@ impl<P: Client> CpuSeat<P> {
         Ok(seen)
     }
 
-    /// The seat's half of [`Live::online`](crate::live::Live): the processor is online from now on,
-    /// and its own word becomes the number seen, and one more.
+    /// Does the seat's half of [`Live::online`](crate::live::Live): the processor is online from
+    /// now on, and its own word becomes the number seen, and one more.
     ///
     /// Fault `AlreadyOnline` (3): the processor is online.
     pub fn arrive<L: Shared<P>>(&mut self, live: &L) -> Result<(), Fault>
@@ -412,10 +410,10 @@ impl<P: Client> CpuSeat<P> {
         Ok(())
     }
 
-    /// The seat's half of [`Live::offline`](crate::live::Live): the processor is offline from now
-    /// on, and its own word becomes 0. Returns whether it was offline before.
+    /// Does the seat's half of [`Live::offline`](crate::live::Live): the processor is offline from
+    /// now on, and its own word becomes 0. Returns whether it was offline before.
     ///
-    /// Faults: `BootStays` (12) for processor 0; `InSection` (4) where a section is open.
+    /// Faults: `BootStays` (12) for processor 0; `InSection` (4) if a section is open.
     pub fn depart<L: Shared<P>>(&mut self, live: &L) -> Result<bool, Fault>
         requires { self.old.table ≡ (L.object live.now).table }
         ensures table { self.new.table ≡ self.old.table }
@@ -463,7 +461,7 @@ impl<P: Client> CpuSeat<P> {
         self.load_at::<M>(board, board.base() + word)
     }
 
-    /// The same by the word's index in the table, wherever the seat knows the client's words.
+    /// Does the same by the word's index in the table, wherever the seat knows the client's words.
     pub(crate) fn load_at<M: WordStep<P::Known>>(&mut self, board: &Board<P>, index: usize) -> u64
         requires table { self.old.table ≡ board.now.table }
         requires inside { index < board.now.table.words }

@@ -225,7 +225,7 @@ pub fn a_wait_has_passed_a_full_grace_period()
 {}
 
 /// Over the rounds of a wait the watcher made this many looks more than the processor passed
-/// quiescent states, where it is awake and outside of sections. In a section of the caller nothing
+/// quiescent states, if it is awake and outside of sections. In a section of the caller nothing
 /// happened to its seat and its watcher.
 pub fn a_wait_looks_and_rests_by_rounds<P: Client>()
     ensures rounds { (more : ℕ) (s t : Seated P.Known) (w v : Watching P.Known) →
@@ -238,8 +238,8 @@ pub fn a_wait_looks_and_rests_by_rounds<P: Client>()
 {}
 
 /// Under the lock a departure is refused with three faults, and a queueing with three: the former
-/// where a processor is online or offline, the latter where it is offline or as many callbacks were
-/// queued as may be, and either where memory was refused.
+/// where a processor is online or offline, the latter if it is offline or as many callbacks were
+/// queued as may be, and either if memory was refused.
 pub fn a_departure_and_a_queueing_have_three_faults_each()
     ensures leave { (fault : Fault) → is_leave_fault fault ≡ true →
         (fault ≡ Fault.AlreadyOnline) ⊎ ((fault ≡ Fault.Offline) ⊎ (fault ≡ Fault.NoMemory)) }

@@ -90,14 +90,14 @@ impl<A: Awaited, T: Drop, P: Client> Engine<A, T, P> {
         }
     }
 
-    /// The number of processors.
+    /// Returns the number of processors.
     pub fn cpus(&self) -> u32
         ensures { result ≡ self.now.cpus }
     {
         self.board.cpus()
     }
 
-    /// The state of the grace periods and the callbacks, to be read.
+    /// Returns the state of the grace periods and the callbacks, to be read.
     pub fn grace(&self) -> &GpState<A, T>
         ensures value { result.now.grace ≡ self.now.grace }
         ensures cpus { cpus_of result.now.grace.processors ≡ self.now.cpus }

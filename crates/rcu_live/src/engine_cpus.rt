@@ -35,7 +35,7 @@ fn depart<A: Awaited, T: Drop>(gp: &mut GpState<A, T>, by_word: &mut WordSets, c
 }
 
 impl<A: Awaited, T: Drop, P: Client> Engine<A, T, P> {
-    /// The processor is online here too, where no begin has found it. It is awaited from the next
+    /// The processor is online here too, if no begin has found it. It is awaited from the next
     /// begin on.
     pub fn join(&mut self, cpu: u32)
         requires { cpu < self.old.cpus }
@@ -46,13 +46,13 @@ impl<A: Awaited, T: Drop, P: Client> Engine<A, T, P> {
         }
     }
 
-    /// The processor is offline here too: loads its own word, and where that is 0 the processor
+    /// The processor is offline here too: loads its own word, and if that is 0 the processor
     /// departs, unless a begin has found it gone, and its list moves to processor 0's. Returns how
-    /// many callbacks moved. `again` tells that it was offline before.
+    /// many callbacks moved. `again` says that it was offline before.
     ///
-    /// Faults: `AlreadyOnline` (3) where its word is not 0; `Offline` (2) where it was offline
-    /// before and its list is empty; `NoMemory` (16), only where its list is not empty: then it has
-    /// departed, and its list stays.
+    /// Faults: `AlreadyOnline` (3) if its word is not 0; `Offline` (2) if it was offline before and
+    /// its list is empty; `NoMemory` (16), only if its list is not empty: then it has departed, and
+    /// its list stays.
     #[tactic(auto, using(rcu_barrier::proofs::Refusals::migrate_met))]
     pub fn leave(&mut self, cpu: u32, again: bool) -> Result<u64, Fault>
         requires { cpu < self.old.cpus }

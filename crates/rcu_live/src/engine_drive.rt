@@ -37,7 +37,7 @@ impl<A: Awaited, T: Drop, P: Client> Engine<A, T, P> {
         }
     }
 
-    /// The cookie of a taking now, whose number is needed from now on (Linux's
+    /// Returns the cookie of a taking now, whose number is needed from now on (Linux's
     /// `start_poll_synchronize_rcu`): where none runs, the next step of driving or turn begins one.
     pub fn start_poll(&mut self) -> Cookie
         ensures cookie { result ≡ cookie_of self.old.grace.seq }
@@ -46,7 +46,7 @@ impl<A: Awaited, T: Drop, P: Client> Engine<A, T, P> {
         self.gp.start_poll()
     }
 
-    /// One step of driving, where a grace period is wanted or is not.
+    /// One step of driving, whether a grace period is wanted or not.
     fn step(&mut self, is_wanted: bool) -> Result<Turned, Fault>
         ensures answer { IfOk result (λ turned.
             turned ≡ drive_answer self.old is_wanted (latest_words self.new)) }
@@ -75,7 +75,7 @@ impl<A: Awaited, T: Drop, P: Client> Engine<A, T, P> {
     }
 
     /// One step of driving: while a grace period runs, it collects from each processor that is
-    /// awaited. Where none runs, one begins if callbacks need it. A grace period that awaits nobody
+    /// awaited. If none runs, one begins if callbacks need it. A grace period that awaits nobody
     /// then ends. Costs a load a processor at most, and a step.
     ///
     /// Fault `Exhausted` (11): one would begin, and the number is the last one.

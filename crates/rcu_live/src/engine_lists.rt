@@ -33,8 +33,8 @@ impl<A: Awaited, T: Drop, P: Client> Engine<A, T, P> {
     /// Queues a callback on a processor, at the number. Returns how many were queued, this one
     /// among them.
     ///
-    /// Faults, with the value: `Offline` (2) where the processor is not online here;
-    /// `CallbacksFull` (15) where as many were queued as may be; `NoMemory` (16).
+    /// Faults, with the value: `Offline` (2) if the processor is not online here; `CallbacksFull`
+    /// (15) if as many were queued as may be; `NoMemory` (16).
     pub fn queue(&mut self, cpu: u32, value: T) -> Result<u64, Refused<T>>
         requires { cpu < self.old.cpus }
         ensures count { IfOk result (λ count. count ≡ self.new.grace.lists.queued) }
@@ -77,7 +77,7 @@ impl<A: Awaited, T: Drop, P: Client> Engine<A, T, P> {
     /// Hands out the first callbacks of a processor's done part, at most `max`, with the number:
     /// only such that a full grace period has passed since their queueing.
     ///
-    /// Faults: `BadCpu` (1); `NoMemory` (16), only where it has a callback to hand out.
+    /// Faults: `BadCpu` (1); `NoMemory` (16), only if it has a callback to hand out.
     pub fn run(&mut self, cpu: u32, max: u64) -> Result<Ran<T>, Fault>
         ensures fault { tested_fault result ≡ cpu_refusal self.old cpu }
         ensures number { IfOk result (λ ran. ran.number ≡ number_of self.old.grace.seq) }
@@ -97,7 +97,8 @@ impl<A: Awaited, T: Drop, P: Client> Engine<A, T, P> {
         Ok(Ran { number, calls })
     }
 
-    /// How many callbacks the processor's done part has. Its list never begins with a marker.
+    /// Returns how many callbacks the processor's done part has. Its list never begins with a
+    /// marker.
     pub fn done_count(&self, cpu: u32) -> u64
         requires { cpu < self.now.cpus }
         ensures count { result ≡ length (callbacks (front (list_of self.now.grace.lists cpu))) }
@@ -131,8 +132,8 @@ impl<A: Awaited, T: Drop, P: Client> Engine<A, T, P> {
 
     /// The barrier visits a processor.
     ///
-    /// Faults: `BadCpu` (1); `NoBarrier` (14) where none runs; `NoMemory` (16), only where it would
-    /// put a marker.
+    /// Faults: `BadCpu` (1); `NoBarrier` (14) if none runs; `NoMemory` (16), only if it would put a
+    /// marker.
     pub fn visit(&mut self, cpu: u32) -> Result<Visit, Fault>
         ensures fault { tested_fault result ≡ visit_refusal self.old cpu }
         ensures answer { IfOk result (λ visit. visit ≡ visit_answer self.old.grace.lists cpu) }
@@ -147,7 +148,7 @@ impl<A: Awaited, T: Drop, P: Client> Engine<A, T, P> {
         self.gp.visit(cpu)
     }
 
-    /// Whether the barrier is over.
+    /// Returns whether the barrier is over.
     ///
     /// Fault `NoBarrier` (14): none runs.
     pub fn barrier_test(&mut self) -> Result<BarrierState, Fault>

@@ -14,7 +14,7 @@ use rcu_node::Awaited;
 use rcu_seq::Fault;
 use rcu_state::{CurrentAnswer, Turned};
 
-/// What a collection tells.
+/// What a collection says.
 #[derive(Clone, Copy, Debug, PartialEq, Eq)]
 pub enum Collected {
     /// No grace period runs.
@@ -44,11 +44,11 @@ impl Collected {
 
 impl<A: Awaited, T: Drop, P: Client> Engine<A, T, P> {
     /// A grace period begins: stores its number, and then finds each processor's own word once: by
-    /// a load of it, or of an online mask, which tells of the next ones in a row that are 0. Online
+    /// a load of it, or of an online mask, which covers the next ones in a row that are 0. Online
     /// are the processors whose word is not 0, and awaited those of them whose word is at most the
     /// number. Returns the number, and how many it awaits.
     ///
-    /// Faults: `Running` (8) where one runs; `Exhausted` (11) where the number is the last one.
+    /// Faults: `Running` (8) if one runs; `Exhausted` (11) if the number is the last one.
     pub fn begin(&mut self) -> Result<(u64, u32), Fault>
         ensures number { IfOk result (λ began. began.0 ≡ number_of self.new.grace.seq) }
         ensures awaited { IfOk result (λ began. began.1 ≡ grace.awaited_in self.new.grace) }
@@ -70,7 +70,7 @@ impl<A: Awaited, T: Drop, P: Client> Engine<A, T, P> {
 
     /// The grace period ends: stores the number that it leaves, and returns it.
     ///
-    /// Faults: `Idle` (9) where none runs; `Waiting` (10) where a processor is awaited.
+    /// Faults: `Idle` (9) if none runs; `Waiting` (10) if a processor is awaited.
     pub fn end(&mut self) -> Result<u64, Fault>
         ensures number { IfOk result (λ number. number ≡ number_of self.new.grace.seq) }
         ensures fault { result_err result ≡ grace.end_refusal self.old.grace }
@@ -82,8 +82,8 @@ impl<A: Awaited, T: Drop, P: Client> Engine<A, T, P> {
         Ok(number)
     }
 
-    /// The running grace period ends where nobody is awaited. Where none runs, one begins if the
-    /// needed number is above the number.
+    /// The running grace period ends if nobody is awaited. If none runs, one begins if the needed
+    /// number is above the number.
     ///
     /// Fault `Exhausted` (11): one would begin, and the number is the last one.
     pub fn turn(&mut self) -> Result<Turned, Fault>

@@ -1,5 +1,5 @@
 //! How a wait for a grace period sleeps: behind its first rounds it asks a processor to wake it,
-//! collects from that one once more, and sleeps where it has not reported.
+//! collects from that one once more, and sleeps if it has not reported.
 ghost use Rattle.std.specs.Prelude.{◌≡◌, ◌<◌, ◌+◌, ℕ, IfSome, None, if◌then◌else◌, nat_lt};
 ghost use Rattle.rcu_live.specs.Waits.{IsAskedFor};
 

@@ -39,11 +39,11 @@ impl<const LEAF: u32, const FAN: u32, T: Drop, P: Client> Live<LEAF, FAN, T, P> 
     }
 
     /// One round of a loop that waits for the cookie: a step of driving, then a quiescent state of
-    /// the caller's processor, where it is online and awake. Other threads run meanwhile where the
+    /// the caller's processor, if it is online and awake. Other threads run meanwhile where the
     /// grace period goes on.
     ///
-    /// Faults: `InSection` (4) where a section is open on the seat, which the caller would wait
-    /// for; `Exhausted` (11) where the cookie waits for more than the last number.
+    /// Faults: `InSection` (4) if a section is open on the seat, which the caller would wait for;
+    /// `Exhausted` (11) if the cookie waits for more than the last number.
     pub fn wait_once(
         &self,
         rt: &impl Wait,
@@ -72,16 +72,16 @@ impl<const LEAF: u32, const FAN: u32, T: Drop, P: Client> Live<LEAF, FAN, T, P> 
     }
 
     /// Waits until the cookie is done (Linux's `cond_synchronize_rcu`): polls it, and drives until
-    /// then. Where it is done already, that is one load. The caller's processor passes quiescent
+    /// then. If it is done already, that is one load. The caller's processor passes quiescent
     /// states meanwhile, unless it is offline or idle. After 100 rounds the thread sleeps, each
     /// time until a processor that is awaited reports.
     ///
     /// No proof says that it returns. A section that stays open holds it up, and a processor whose
     /// thread passes no quiescent state and is neither idle nor offline.
     ///
-    /// Faults: `InSection` (4) where a section is open on the seat, which the caller would wait
-    /// for, and then nothing happened; `Exhausted` (11) where the cookie waits for more than the
-    /// last number.
+    /// Faults: `InSection` (4) if a section is open on the seat, which the caller would wait for,
+    /// and then nothing happened; `Exhausted` (11) if the cookie waits for more than the last
+    /// number.
     pub fn wait_for(
         &self,
         rt: &impl Wait,

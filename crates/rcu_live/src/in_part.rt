@@ -49,7 +49,7 @@ pub struct Spot {
     pub word: usize,
 }
 
-/// The index of the word in the table.
+/// Returns the index of the word in the table.
 fn index_of<C: Client, P: Within<C>>(board: &Board<P::Whole>, spot: Spot) -> usize
     requires base { spot.base ≡ P.begins board.now.base board.now.plan }
     requires inside { HasWord (engine_part P.own_plan P.begins board.now) spot.word }

@@ -55,9 +55,9 @@ pub fn old_sections_are_awaited<T: Drop, P: Client>()
         is_in g.processors.awaited seat.cpu ≡ true }
 {}
 
-/// A section is open where a cookie is taken, and one of the same beginning where that is polled.
-/// The rule holds of the words and all views at both moments, as at each. Then the poll does not
-/// return done: where a cookie tests done, each section that was open at its taking has ended.
+/// A section is open when a cookie is taken, and one of the same beginning when that is polled. The
+/// rule holds of the words and all views at both moments, as at each. Then the poll does not return
+/// done: if a cookie tests done, each section that was open at its taking has ended.
 pub fn readers_finish_before_done<P: Client>()
     ensures { (plan : P.Plan) (cpus : ℕ) (before after : State (Unit {0}) (View P.Known)) (i j : ℕ)
         (first later : View P.Known) (at : ℕ) → IsKept (P.holds plan) cpus before →

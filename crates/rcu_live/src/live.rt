@@ -57,7 +57,7 @@ impl<const LEAF: u32, const FAN: u32, T: Drop, P: Client> Live<LEAF, FAN, T, P> 
         }
     }
 
-    /// Its words, for the clients that stand in them ([`Within`](crate::Within)).
+    /// Returns its words, for the clients that are in them ([`Within`](crate::Within)).
     pub fn words(&self) -> &Arc<Board<P>, Global>
         ensures { arc_value result.now ≡ self.now }
     {
@@ -82,8 +82,8 @@ impl<const LEAF: u32, const FAN: u32, T: Drop, P: Client> Live<LEAF, FAN, T, P> 
         self.board.meet(seat, watcher)
     }
 
-    /// The engine under its lock, for calls in a row. Until the guard is dropped, each call that
-    /// takes the lock waits; those of seats and watchers go on.
+    /// Returns the engine under its lock, for calls in a row. Until the guard is dropped, each call
+    /// that takes the lock waits; those of seats and watchers go on.
     pub fn lock(&self, rt: &impl Wait) -> MutexGuard<'_, Engine<Tree<LEAF, FAN>, T, P>> {
         self.engine.lock(rt)
     }

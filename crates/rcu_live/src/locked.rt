@@ -35,8 +35,8 @@ impl<const LEAF: u32, const FAN: u32, T: Drop, P: Client> Live<LEAF, FAN, T, P> 
         self.engine.lock(rt).turn()
     }
 
-    /// Whether the grace period that runs awaits the processor, so that a program learns whose
-    /// thread holds it up: false too where none runs, and where there is no such processor.
+    /// Returns whether the grace period that runs awaits the processor, so that a program learns
+    /// whose thread holds it up: false too if none runs, and if there is no such processor.
     pub fn awaits(&self, rt: &impl Wait, cpu: u32) -> bool {
         let engine = self.engine.lock(rt);
         cpu < engine.cpus() && engine.grace().awaited().awaits(cpu)
@@ -63,13 +63,13 @@ impl<const LEAF: u32, const FAN: u32, T: Drop, P: Client> Live<LEAF, FAN, T, P> 
         Ok(())
     }
 
-    /// Takes the processor offline: its own word becomes 0, also where it is; then, under the lock,
-    /// as [`Engine::leave`](crate::engine::Engine). Returns how many callbacks moved to processor
-    /// 0's list. After fault 16 the same call again finishes that.
+    /// Takes the processor offline: its own word becomes 0, also if it is; then, under the lock, as
+    /// [`Engine::leave`](crate::engine::Engine). Returns how many callbacks moved to processor 0's
+    /// list. After fault 16 the same call again finishes that.
     ///
-    /// Faults: `BootStays` (12) for processor 0; `InSection` (4) where a section is open; `Offline`
-    /// (2) where it was offline and its list is empty; `NoMemory` (16), where it is offline from
-    /// now on. Under the lock it passes on `AlreadyOnline` (3), which it never meets.
+    /// Faults: `BootStays` (12) for processor 0; `InSection` (4) if a section is open; `Offline`
+    /// (2) if it was offline and its list is empty; `NoMemory` (16): then it is offline from now
+    /// on. Under the lock it passes on `AlreadyOnline` (3), which it never meets.
     pub fn offline(&self, rt: &impl Wait, seat: &mut CpuSeat<P>) -> Result<u64, Fault>
         requires { seat.old.table ≡ self.now.table }
         ensures table { seat.new.table ≡ seat.old.table }

@@ -16,7 +16,7 @@ impl<const LEAF: u32, const FAN: u32, T: Drop, P: Client> Live<LEAF, FAN, T, P> 
     /// Queues a callback on the processor, as [`Engine::queue`](crate::engine::Engine). Over the
     /// engine's life at most as many are queued as its opening chose.
     ///
-    /// Faults, with the value: `Offline` (2) where the processor is not online under the lock;
+    /// Faults, with the value: `Offline` (2) if the processor is not online under the lock;
     /// `CallbacksFull` (15); `NoMemory` (16).
     pub fn queue(&self, rt: &impl Wait, seat: &mut CpuSeat<P>, value: T) -> Result<u64, Refused<T>>
         requires { seat.old.table ≡ self.now.table }
@@ -71,14 +71,14 @@ impl<const LEAF: u32, const FAN: u32, T: Drop, P: Client> Live<LEAF, FAN, T, P> 
 
     /// The barrier visits a processor, as [`Engine::visit`](crate::engine::Engine).
     ///
-    /// Faults: `BadCpu` (1); `NoBarrier` (14) where no barrier runs; `NoMemory` (16).
+    /// Faults: `BadCpu` (1); `NoBarrier` (14) if no barrier runs; `NoMemory` (16).
     pub fn visit(&self, rt: &impl Wait, cpu: u32) -> Result<Visit, Fault>
         ensures { IfErr result (λ fault. is_visit_fault fault ≡ true) }
     {
         self.engine.lock(rt).visit(cpu)
     }
 
-    /// Whether the barrier is over, as [`Engine::barrier_test`](crate::engine::Engine).
+    /// Returns whether the barrier is over, as [`Engine::barrier_test`](crate::engine::Engine).
     ///
     /// Fault `NoBarrier` (14): none runs.
     pub fn barrier_test(&self, rt: &impl Wait) -> Result<BarrierState, Fault>

@@ -1,4 +1,4 @@
-//! What a meeting of a watcher with a processor's seat tells.
+//! What a meeting of a watcher with a processor's seat says.
 ghost use Rattle.std.specs.Prelude.{◌≡◌, ℕ, IfSome, None, Some};
 ghost use Rattle.rcu_live.specs.CpuSeat.{AcceptedAt, after_look};
 ghost use Rattle.rcu_live.specs.Met.{MeetsSection, meet_answer};
@@ -10,7 +10,7 @@ use crate::client::Client;
 use crate::cpu_seat::CpuSeat;
 use crate::watcher::Watcher;
 
-/// What a meeting tells.
+/// What a meeting says.
 #[derive(Clone, Copy, Debug, PartialEq, Eq)]
 pub struct Met {
     /// The number at which the open section began; none where none is open.

@@ -8,8 +8,8 @@ use rcu_node::CpuSet;
 /// How many processors are passed over in one step.
 const WIDTH: u32 = 64;
 
-/// The first processor of a set from this one on (Linux's `cpumask_next`). Costs a test where the
-/// set is empty, two where it is this one, and else a step, and one more for every 64 processors
+/// Returns the first processor of a set from this one on (Linux's `cpumask_next`). Costs a test if
+/// the set is empty, two if it is this one, and else a step, and one more for every 64 processors
 /// that it passes over.
 pub(crate) fn next_from(set: &CpuSet, from: u32) -> Option<u32>
     ensures first { IfSome result (λ cpu. IsNextFrom set.now from cpu) }

@@ -27,12 +27,12 @@ use std::alloc::{AllocError, Global};
 use std::sync::Arc;
 
 impl<const LEAF: u32, const FAN: u32, T: Drop, P: Client> Parts<LEAF, FAN, T, P> {
-    /// The parts of an engine of `cpus` processors, idle at number 0, with processor 0 alone
-    /// online, in which `most` callbacks may be queued, from 1 to 2^62; with this plan of a
+    /// Returns the parts of an engine of `cpus` processors, idle at number 0, with processor 0
+    /// alone online, in which `most` callbacks may be queued, from 1 to 2^62; with this plan of a
     /// client. What the client knows first, its own watcher has.
     ///
     /// Faults: `TooManyCpus` (17) for no processor, more than 4,096, or more than four levels hold;
-    /// `BadLast` (19) where `last` is no last number; `NoMemory` (16).
+    /// `BadLast` (19) if `last` is no last number; `NoMemory` (16).
     pub fn open_for(
         alloc: Global,
         cpus: u32,
@@ -56,7 +56,7 @@ impl<const LEAF: u32, const FAN: u32, T: Drop, P: Client> Parts<LEAF, FAN, T, P>
         Ok(parts)
     }
 
-    /// The parts of an engine whose size was tested.
+    /// Returns the parts of an engine whose size was tested.
     fn open_tested(
         alloc: Global,
         cpus: u32,
@@ -92,11 +92,11 @@ impl<const LEAF: u32, const FAN: u32, T: Drop, P: Client> Parts<LEAF, FAN, T, P>
 }
 
 impl<const LEAF: u32, const FAN: u32, T: Drop> Parts<LEAF, FAN, T> {
-    /// The parts of an engine of `cpus` processors, as [`Live::open`] opens it, in which `most`
-    /// callbacks may be queued, from 1 to 2^62.
+    /// Returns the parts of an engine of `cpus` processors, as [`Live::open`] opens it, in which
+    /// `most` callbacks may be queued, from 1 to 2^62.
     ///
     /// Faults: `TooManyCpus` (17) for no processor, more than 4,096, or more than four levels hold;
-    /// `BadLast` (19) where `last` is no last number; `NoMemory` (16).
+    /// `BadLast` (19) if `last` is no last number; `NoMemory` (16).
     pub fn open(
         alloc: Global,
         cpus: u32,
@@ -127,7 +127,7 @@ impl<const LEAF: u32, const FAN: u32, T: Drop> Live<LEAF, FAN, T> {
     /// are queued: [`Live::open_with_most`] takes another number.
     ///
     /// Faults: `TooManyCpus` (17) for no processor, more than 4,096, or more than four levels hold;
-    /// `BadLast` (19) where `last` is no last number; `NoMemory` (16).
+    /// `BadLast` (19) if `last` is no last number; `NoMemory` (16).
     pub fn open(alloc: Global, cpus: u32, last: u64) -> Result<Dealt<LEAF, FAN, T>, Fault>
         requires { AreFanouts LEAF FAN }
         ensures fault { tested_fault result ≡ opening_refusal LEAF FAN cpus last }
@@ -140,7 +140,7 @@ impl<const LEAF: u32, const FAN: u32, T: Drop> Live<LEAF, FAN, T> {
     /// Opens an engine as [`Live::open`], in which `most` callbacks may be queued, from 1 to 2^62.
     ///
     /// Faults: `TooManyCpus` (17) for no processor, more than 4,096, or more than four levels hold;
-    /// `BadLast` (19) where `last` is no last number; `NoMemory` (16).
+    /// `BadLast` (19) if `last` is no last number; `NoMemory` (16).
     pub fn open_with_most(
         alloc: Global,
         cpus: u32,
@@ -167,11 +167,11 @@ pub type Opened<const LEAF: u32, const FAN: u32, T, P> = (
 );
 
 impl<const LEAF: u32, const FAN: u32, T: Drop, P: Client> Live<LEAF, FAN, T, P> {
-    /// Opens an engine as [`Live::open`], with this plan of a client. What the client knows
-    /// first, its own watcher has.
+    /// Opens an engine as [`Live::open`], with this plan of a client. What the client knows first,
+    /// its own watcher has.
     ///
     /// Faults: `TooManyCpus` (17) for no processor, more than 4,096, or more than four levels hold;
-    /// `BadLast` (19) where `last` is no last number; `NoMemory` (16).
+    /// `BadLast` (19) if `last` is no last number; `NoMemory` (16).
     pub fn open_for(
         alloc: Global,
         cpus: u32,
@@ -200,7 +200,7 @@ impl<const LEAF: u32, const FAN: u32, T: Drop, P: Client> Live<LEAF, FAN, T, P> 
     }
 }
 
-/// The state of the grace periods at first, and the processors by their words, in no set.
+/// Returns the state of the grace periods at first, and the processors by their words, in no set.
 fn make_state<const LEAF: u32, const FAN: u32, T: Drop>(
     alloc: Global,
     cpus: u32,

@@ -10,8 +10,8 @@ use crate::live::Live;
 use crate::watcher::Watcher;
 use rcu_seq::Fault;
 
-/// A watcher meets an open section, takes a cookie, polls it, and meets the section again. Whether
-/// the cookie tested done: it never does.
+/// A watcher meets an open section, takes a cookie, polls it, and meets the section again. Returns
+/// whether the cookie tested done: it never does.
 pub fn is_done_beside<const LEAF: u32, const FAN: u32, T: Drop, P: Client>(
     live: &Live<LEAF, FAN, T, P>,
     seat: &mut CpuSeat<P>,
@@ -36,8 +36,8 @@ pub fn is_done_beside<const LEAF: u32, const FAN: u32, T: Drop, P: Client>(
 
 /// The processor passes a quiescent state, reads beside the watcher, and passes another one.
 ///
-/// Faults: `Offline` (2) where the processor is offline; `CpuIdle` (23) where it is idle;
-/// `InSection` (4) where a section is open.
+/// Faults: `Offline` (2) if the processor is offline; `CpuIdle` (23) if it is idle; `InSection` (4)
+/// if a section is open.
 pub fn read_beside<const LEAF: u32, const FAN: u32, T: Drop, P: Client>(
     live: &Live<LEAF, FAN, T, P>,
     seat: &mut CpuSeat<P>,

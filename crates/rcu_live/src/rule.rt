@@ -1,4 +1,4 @@
-//! The rule of the shared words as the table takes it, and what each kind of step on them tells.
+//! The rule of the shared words as the table takes it, and what each kind of step on them says.
 ghost use Rattle.std.specs.Prelude.{◌≡◌};
 
 use crate::client::{Client, NumberStep, WordStep};

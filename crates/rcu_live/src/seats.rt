@@ -33,8 +33,8 @@ pub(crate) struct BoardParts<P: Client> {
     pub own: Watcher<P>,
 }
 
-/// The shared words of an engine whose size was tested, with those of a client of this plan,
-/// and all seats.
+/// Returns the shared words of an engine whose size was tested, with those of a client of this
+/// plan, and all seats.
 pub(crate) fn open_board<P: Client>(
     alloc: Global,
     cpus: u32,
@@ -65,7 +65,7 @@ pub(crate) fn open_board<P: Client>(
     })
 }
 
-/// The next processor's seat, and a watcher.
+/// Returns the next processor's seat, and a watcher.
 fn deal_next<P: Client>(
     board: &Board<P>,
     engine: &mut TableSeat<P>,
@@ -86,8 +86,8 @@ fn deal_next<P: Client>(
     (seat, Watcher::new(board.deal_watcher(engine)))
 }
 
-/// A seat and a watcher for each processor, in order, from the first seat of all. The engine's is
-/// left.
+/// Returns a seat and a watcher for each processor, in order, from the first seat of all. The
+/// engine's is left.
 fn deal<P: Client>(
     alloc: Global,
     board: &Board<P>,

@@ -13,7 +13,7 @@ pub trait Shared<P: Client> {
     /// Which engine it is, how many processors it has, and its client's plan.
     ghost object: { Self → Object P.Plan };
 
-    /// The shared words.
+    /// Returns the shared words.
     fn board(&self) -> &Board<P>
         ensures { result.now ≡ object self.now };
 

@@ -44,7 +44,7 @@ impl Sleepers {
         self.wakes.sleep(rt, unheard);
     }
 
-    /// Wakes all where this processor is asked. Costs a load where it is not.
+    /// Wakes all if this processor is asked. Costs a load if it is not.
     #[inline]
     pub(crate) fn wake_for(&self, cpu: u32) {
         if self.asked.is_asked(cpu) {

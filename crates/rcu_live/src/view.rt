@@ -16,7 +16,7 @@ pub struct View<C> {
     /// The greatest number seen; of the engine's seat the number.
     pub seen: u64,
     /// How many loads the seat made. One of an online mask counts once for each own word of which
-    /// it tells.
+    /// it says.
     pub loads: u64,
     /// How many times the seat stored its processor's own word.
     pub stores: u64,

@@ -82,7 +82,7 @@ impl WakeCount {
         }
     }
 
-    /// How often all were woken until now.
+    /// Returns how often all were woken until now.
     pub(crate) fn count(&self) -> Counted {
         Counted {
             wakes: self.word.load(Ordering::SeqCst),
@@ -104,7 +104,7 @@ impl WakeCount {
     }
 }
 
-/// The processor that is asked to wake who sleeps, and one more; 0 where none is.
+/// The processor that is asked to wake who sleeps, and one more; 0 if none is.
 #[derive(Drop)]
 pub(crate) struct AskedCpu {
     word: AtomicU64,
@@ -118,7 +118,7 @@ impl AskedCpu {
         }
     }
 
-    /// Asks this processor, once the wakes are counted. Where another one was asked, that is taken
+    /// Asks this processor, once the wakes are counted. If another one was asked, that is taken
     /// back: it may have stored, and find somebody else asked.
     pub(crate) fn ask(&self, cpu: u32, counted: Counted) -> (Asked, Option<TakenBack>)
         ensures { result.0 ≡ cpu }
@@ -133,7 +133,7 @@ impl AskedCpu {
         (Asked { cpu, counted }, other)
     }
 
-    /// Whether this processor is asked: one load.
+    /// Returns whether this processor is asked: one load.
     #[inline]
     pub(crate) fn is_asked(&self, cpu: u32) -> bool {
         self.word.load(Ordering::SeqCst) == u64::from(cpu) + 1

@@ -1,4 +1,4 @@
-//! Where a client stands in the client of an engine.
+//! Where a client is in the client of an engine.
 ghost use Rattle.std.specs.Prelude.{◌≡◌, ◌^◌, ◌+◌, ◌<◌, ◌≤◌, ℕ, List, drop, take};
 ghost use Rattle.rcu_live.specs.Several.{IsLens, IsPart, Lens, in_first, in_second, whole};
 ghost use Rattle.rcu_live.specs.SeveralLaws.{in_first_is_lens, in_first_is_part, in_second_is_lens};
@@ -8,7 +8,7 @@ use crate::both::Both;
 use crate::client::Client;
 use std::marker::PhantomData;
 
-/// Where a client stands in the client of an engine: alone, or as one of several.
+/// Where a client is in the client of an engine: alone, or as one of several.
 pub trait Within<C: Client> {
     /// The client of the engine.
     type Whole: Client;
@@ -23,11 +23,11 @@ pub trait Within<C: Client> {
 
     ghost begins: { ℕ → Self.Whole.Plan → ℕ };
 
-    /// The client's plan.
+    /// Returns the client's plan.
     fn plan(plan: <Self::Whole as Client>::Plan) -> C::Plan
         ensures { result ≡ own_plan plan };
 
-    /// Where the client's words begin among the words of all.
+    /// Returns where the client's words begin among the words of all.
     fn base(plan: <Self::Whole as Client>::Plan) -> usize
         requires { begins 0 plan < 2 ^ 64 }
         ensures { result ≡ begins 0 plan };
@@ -80,7 +80,7 @@ impl<C: Client> Within<C> for Alone {
     ghost has_room = { λ plan suits. (suits, omega arith) };
 }
 
-/// A client that stands in the first of two, at the place `P` there.
+/// A client that is in the first of two, at the place `P` there.
 pub struct First<P, B> {
     place: PhantomData<(P, B)>,
 }
@@ -118,7 +118,7 @@ impl<C: Client, P: Within<C>, B: Client> Within<C> for First<P, B> {
         let split = suits.2 in (room.0, omega (arith, room.1, split)) };
 }
 
-/// A client that stands in the second of two, at the place `P` there.
+/// A client that is in the second of two, at the place `P` there.
 pub struct Second<A, P> {
     place: PhantomData<(A, P)>,
 }

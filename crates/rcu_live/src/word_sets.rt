@@ -22,7 +22,7 @@ pub(crate) struct WordSets {
 }
 
 impl WordSets {
-    /// Empty sets of so many processors.
+    /// Empty sets of this many processors.
     pub(crate) fn new(alloc: Global, cpus: u32) -> Result<WordSets, Fault>
         ensures already_quiescent { IfOk result (λ sets. length sets.already_quiescent ≡ cpus) }
         ensures awaited { IfOk result (λ sets. sets.awaited ≡ replicate cpus false) }

@@ -1,4 +1,4 @@
-//! Where the shared words stand.
+//! Where the shared words are.
 ghost use Rattle.std.specs.Prelude.{◌≡◌, ◌<◌, ◌≤◌, IfOk};
 ghost use Rattle.rcu_live.specs.Words.{first_words, own_word_index, mask_index};
 
@@ -14,22 +14,22 @@ const LINE: u32 = 8;
 /// How many processors share an online mask.
 const MASK_BITS: u32 = 64;
 
-/// How far apart the words stand: 128 bytes, so that no two share a cache line, nor a pair of lines
+/// How far apart the words are: 128 bytes, so that no two share a cache line, nor a pair of lines
 /// that a processor fetches together. Of the words between, online masks alone are named by a step.
 const APART: usize = 16;
 
 /// The own word of processor 0 at the start: it is online, and the number is 0.
 const BOOT_WORD: u64 = 1;
 
-/// The place of a processor's own word. The place that one more processor would have is where the
-/// words behind the engine's begin.
+/// Returns the place of a processor's own word. The place that one more processor would have is
+/// where the words behind the engine's begin.
 pub fn own_word_index(cpu: u32) -> usize
     ensures { result ≡ own_word_index cpu }
 {
     APART * (cpu as usize + 1)
 }
 
-/// The place of a processor's online mask, which it shares with 63 others.
+/// Returns the place of a processor's online mask, which it shares with 63 others.
 pub fn mask_index(cpu: u32) -> usize
     ensures { result ≡ mask_index cpu }
 {
@@ -37,8 +37,8 @@ pub fn mask_index(cpu: u32) -> usize
     APART * (mask / LINE) as usize + (LINE + mask % LINE) as usize
 }
 
-/// The engine's words at the start: the number is 0, and processor 0 alone is online and has its
-/// bit in its online mask.
+/// Returns the engine's words at the start: the number is 0, and processor 0 alone is online and
+/// has its bit in its online mask.
 pub fn first_words(alloc: Global, cpus: u32) -> Result<Vec<u64>, AllocError>
     requires { 0 < cpus }
     ensures { IfOk result (λ words. words.items ≡ first_words cpus) }
