@@ -786,27 +786,27 @@ static inline uint32_t rcu_seat_repin(rcu_seat_t *seat, uint64_t *number) {
 
 /* ---- the version */
 
-/* The version of the library, as `RCU_VERSION` is that of its header. A program over the shared
- * object may compare the two. */
+/* Returns the version of the library, as `RCU_VERSION` is that of its header. A program over the
+ * shared object may compare the two. */
 uint32_t rcu_version(void);
 
 /* ---- wishes for grace periods. A thread wishes by its seat, with no lock, beside all calls on
- * other handles: in a section or not, online or not. Who drives reads the greatest wish, under the
+ * other handles: in a section or not, online or not. The driver reads the greatest wish, under the
  * caller's lock, and drives for it (rcu_drive_for).
- * No wish is slept through: whoever makes the greatest wish while who drives says that it sleeps,
+ * No wish is slept through: whoever makes the greatest wish while the driver says that it sleeps,
  * and has not found a wish as great, is told to wake it. */
 
-/* Wishes for the grace period of a cookie: where that is greater than each that was wished for
- * before, rcu_wanted finds it from then on. Writes 1 where it is, and who drives says that it
- * sleeps: then the caller wakes it, by means of the program's own. Else 0. It orders nothing else:
- * a taking does. No wish is taken back: for a cookie that no taking returned, as 2^64 - 1, who
- * drives makes grace periods without end. */
+/* Wishes for the grace period of a cookie: if that is greater than each that was wished for before,
+ * rcu_wanted finds it from then on. Writes 1 if it is, and the driver says that it sleeps: then the
+ * caller wakes it, by means of the program's own. Else 0. It orders nothing else: a taking does. No
+ * wish is taken back: for a cookie that no taking returned, as 2^64 - 1, the driver makes grace
+ * periods without end. */
 uint32_t rcu_seat_want(rcu_seat_t *seat, uint64_t cookie, uint32_t *wakes);
 
-/* Says whether who drives sleeps from now on, and then writes the greatest cookie that was wished
- * for: 1, which is done at any number, where none was. The next step is rcu_drive_for of it; or,
- * where rcu_poll says that it is done, to sleep until a thread wakes the caller, which lets go of
- * the lock and sleeps in one step, as a condition variable does. */
+/* Says whether the driver sleeps from now on, and then writes the greatest cookie that was wished
+ * for: 1, which is done at any number, if none was. The next step is rcu_drive_for of it; or, if
+ * rcu_poll says that it is done, to sleep until a thread wakes the caller, which lets go of the
+ * lock and sleeps in one step, as a condition variable does. */
 uint32_t rcu_wanted(rcu_t *rcu, bool sleeps, uint64_t *cookie);
 
 /* ---- waiting for a barrier, if the caller is the driver: `rcu` is under the caller's lock */
@@ -836,18 +836,18 @@ static inline uint32_t rcu_barrier_wait(rcu_t *rcu, uint64_t *left) {
     return result;
 }
 
-/* ---- sleeping until a processor is quiet. Who drives says once for which one it sleeps, and then
- * looks at it once more; the processor's thread gets quiet, idle or offline, and then looks if who
- * drives sleeps for it. All four steps are sequentially consistent, so one of the two sees the
+/* ---- sleeping until a processor is quiet. The driver says once for which one it sleeps, and then
+ * looks at it once more; the processor's thread gets quiet, idle or offline, and then looks whether
+ * the driver sleeps for it. All four steps are sequentially consistent, so one of the two sees the
  * other. So no quiescent state is slept through: no proof says that, but `bindings/model/sleep.py`
  * tries it, by these steps in this order. */
 
-/* Says that who drives sleeps for the first processor that is awaited, and then collects from each
- * that is, as rcu_collect_all. Writes 1 where that first one is awaited still: then the caller
- * sleeps, by means of the program's own, until a thread is told to wake it (rcu_seat_wakes). It
- * lets go of the lock and sleeps in one step, as a condition variable does. Else writes 0. Writes
- * how many are awaited still; where none is, it says that it sleeps for none. Until then call it
- * again, also where the caller woke by chance.
+/* Says that the driver sleeps for the first processor that is awaited, and then collects from each
+ * that is, as rcu_collect_all. Writes 1 if that first one is awaited still: then the caller sleeps,
+ * by means of the program's own, until a thread has to wake it (rcu_seat_wakes). It lets go of the
+ * lock and sleeps in one step, as a condition variable does. Else writes 0. Writes how many are
+ * awaited still; if none is, it says that it sleeps for none. Until then call it again, also if the
+ * caller woke by chance.
  * Laws in crates/rcu_c/src/: calls_are_steps_of_a_run (laws.rt#L140),
  * waiting_for_a_barrier_is_a_run (laws.rt#L220), a_run_goes_on_from_the_end_of_another
  * (laws.rt#L209), no_callback_runs_twice (laws.rt#L228), no_callback_is_lost (laws.rt#L237),
@@ -855,10 +855,10 @@ static inline uint32_t rcu_barrier_wait(rcu_t *rcu, uint64_t *left) {
  * (laws.rt#L262), no_callback_runs_early (laws.rt#L284). */
 uint32_t rcu_may_sleep(rcu_t *rcu, uint32_t *sleeps, uint32_t *left);
 
-/* Looks whether who drives sleeps for the seat's processor. A thread looks so after each call by
+/* Looks whether the driver sleeps for the seat's processor. A thread looks so after each call by
  * which its processor got quiet, idle or offline. After rcu_seat_quiesce_since and rcu_seat_renew
  * it need not where the number is as it was, or is a multiple of 4, at which no grace period runs.
- * Writes 1 where the caller has to wake who drives, under the lock. Else 0. It costs a load. */
+ * Writes 1 if the caller has to wake the driver, under the lock. Else 0. It costs a load. */
 uint32_t rcu_seat_wakes(rcu_seat_t *seat, uint32_t *wakes);
 
 /* <<< */

@@ -603,19 +603,19 @@ extern "C" {
     ///
     /// Fence: behind if `number` changed.
     pub fn rcu_seat_repin_unfenced(seat: *mut rcu_seat_t, number: *mut u64) -> u32;
-    /// The version of the library, as `RCU_VERSION` is that of its header. A program over the
-    /// shared object may compare the two.
+    /// Returns the version of the library, as `RCU_VERSION` is that of its header. A program over
+    /// the shared object may compare the two.
     pub fn rcu_version() -> u32;
-    /// Wishes for the grace period of a cookie: where that is greater than each that was wished for
-    /// before, `rcu_wanted` finds it from then on. Writes 1 where it is, and who drives says that
-    /// it sleeps: then the caller wakes it, by means of the program's own. Else 0. It orders
-    /// nothing else: a taking does. No wish is taken back: for a cookie that no taking returned, as
-    /// 2^64 - 1, who drives makes grace periods without end.
+    /// Wishes for the grace period of a cookie: if that is greater than each that was wished for
+    /// before, `rcu_wanted` finds it from then on. Writes 1 if it is, and the driver says that it
+    /// sleeps: then the caller wakes it, by means of the program's own. Else 0. It orders nothing
+    /// else: a taking does. No wish is taken back: for a cookie that no taking returned, as 2^64 -
+    /// 1, the driver makes grace periods without end.
     pub fn rcu_seat_want(seat: *mut rcu_seat_t, cookie: u64, wakes: *mut u32) -> u32;
-    /// Says whether who drives sleeps from now on, and then writes the greatest cookie that was
-    /// wished for: 1, which is done at any number, where none was. The next step is `rcu_drive_for`
-    /// of it; or, where `rcu_poll` says that it is done, to sleep until a thread wakes the caller,
-    /// which lets go of the lock and sleeps in one step, as a condition variable does.
+    /// Says whether the driver sleeps from now on, and then writes the greatest cookie that was
+    /// wished for: 1, which is done at any number, if none was. The next step is `rcu_drive_for` of
+    /// it; or, if `rcu_poll` says that it is done, to sleep until a thread wakes the caller, which
+    /// lets go of the lock and sleeps in one step, as a condition variable does.
     pub fn rcu_wanted(rcu: *mut rcu_t, sleeps: bool, cookie: *mut u64) -> u32;
     /// One step of waiting for a barrier, for the driver: it begins a barrier if none runs, visits
     /// each processor, tends each list, and takes a step of driving, as `rcu_drive`. Then it tests
@@ -636,18 +636,18 @@ extern "C" {
     ///
     /// Fence: behind.
     pub fn rcu_barrier_wait_unfenced(rcu: *mut rcu_t, left: *mut u64) -> u32;
-    /// Says that who drives sleeps for the first processor that is awaited, and then collects from
-    /// each that is, as `rcu_collect_all`. Writes 1 where that first one is awaited still: then the
-    /// caller sleeps, by means of the program's own, until a thread is told to wake it
+    /// Says that the driver sleeps for the first processor that is awaited, and then collects from
+    /// each that is, as `rcu_collect_all`. Writes 1 if that first one is awaited still: then the
+    /// caller sleeps, by means of the program's own, until a thread has to wake it
     /// (`rcu_seat_wakes`). It lets go of the lock and sleeps in one step, as a condition variable
-    /// does. Else writes 0. Writes how many are awaited still; where none is, it says that it
-    /// sleeps for none. Until then call it again, also where the caller woke by chance.
+    /// does. Else writes 0. Writes how many are awaited still; if none is, it says that it sleeps
+    /// for none. Until then call it again, also if the caller woke by chance.
     pub fn rcu_may_sleep(rcu: *mut rcu_t, sleeps: *mut u32, left: *mut u32) -> u32;
-    /// Looks whether who drives sleeps for the seat's processor. A thread looks so after each call
+    /// Looks whether the driver sleeps for the seat's processor. A thread looks so after each call
     /// by which its processor got quiet, idle or offline. After `rcu_seat_quiesce_since` and
     /// `rcu_seat_renew` it need not where the number is as it was, or is a multiple of 4, at which
-    /// no grace period runs. Writes 1 where the caller has to wake who drives, under the lock. Else
-    /// 0. It costs a load.
+    /// no grace period runs. Writes 1 if the caller has to wake the driver, under the lock. Else 0.
+    /// It costs a load.
     pub fn rcu_seat_wakes(seat: *mut rcu_seat_t, wakes: *mut u32) -> u32;
     /// Opens an engine as `rcu_open_as`, with a map of these sizes, which is empty. Each of its
     /// seats reads it. Needs: `rcu` is closed.

@@ -62,7 +62,7 @@ pub extern "C" fn rcu_barrier_visit(rcu: &mut Rcu, cpu: u32, did: &mut u32) -> u
     }
 }
 
-/// How much a barrier waits for, as C sees it.
+/// Returns how much a barrier waits for, as C sees it.
 pub(crate) fn left_in_c(found: BarrierState) -> u64
     ensures { result ≡ left_of found }
 {

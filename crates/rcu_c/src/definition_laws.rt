@@ -86,7 +86,7 @@ pub fn accepted_calls_saw_no_less()
         (watcher_of seat).view.seen ≤ n }
 {}
 
-/// Who drives sleeps for the first processor that was awaited, where one is awaited still, and may
+/// The driver sleeps for the first processor that was awaited, if one is awaited still, and may
 /// sleep where that first one is; else it sleeps for none, and may not.
 pub fn who_drives_sleeps_for_the_first_that_is_awaited()
     ensures first { (e now : Locked Planned ℕ) (word : ℕ) (sleeps : Bool) →

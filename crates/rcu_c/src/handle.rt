@@ -20,7 +20,7 @@ use std::alloc::Global;
 use std::marker::Model;
 use std::{mem, ptr};
 
-/// A handle: a pointer, behind which an open one has what it holds, and null where it is closed. C
+/// A handle: a pointer, behind which an open one has what it holds, and null if it is closed. C
 /// keeps it, and reads nothing of it.
 #[repr(C)]
 pub struct Handle {
@@ -46,7 +46,7 @@ impl Handle {
     ghost use Rattle.rcu_c.specs.Lending.{lends_seat, lends_seat_if_ok};
     ghost use Rattle.rcu_c.specs.Lending.{lends_replica, lends_replica_if_ok};
 
-    /// A handle of what lies in a box.
+    /// Returns a handle of what lies in a box.
     pub(crate) fn of(contents: RawBox<Contents, Global>) -> Handle
         ensures { result.contents ≡ Some contents.value }
     {
@@ -57,7 +57,7 @@ impl Handle {
         }
     }
 
-    /// A closed handle: it points nowhere.
+    /// Returns a closed handle: it points nowhere.
     pub(crate) fn closed(alloc: Global) -> Handle
         ensures { IsNone result.contents }
     {
@@ -67,7 +67,7 @@ impl Handle {
         }
     }
 
-    /// Whether the handle is open.
+    /// Returns whether the handle is open.
     pub(crate) fn is_open(&mut self) -> bool
         ensures value { result ≡ is_some self.old.contents }
         ensures unchanged { self.new ≡ self.old }
@@ -84,7 +84,7 @@ impl Handle {
         unsafe { &mut *(self.at as *mut Contents) }
     }
 
-    /// Whether the handle is an open engine's.
+    /// Returns whether the handle is an open engine's.
     pub(crate) fn holds_engine(&mut self) -> bool
         ensures value { result ≡ is_none (engine_refusal self.old.contents) }
         ensures unchanged { self.new ≡ self.old }
@@ -92,7 +92,7 @@ impl Handle {
         self.is_open() && matches!(self.contents(), Contents::Engine(_))
     }
 
-    /// Whether the handle is an open seat's.
+    /// Returns whether the handle is an open seat's.
     pub(crate) fn holds_seat(&mut self) -> bool
         ensures value { result ≡ is_none (seat_refusal self.old.contents) }
         ensures unchanged { self.new ≡ self.old }
@@ -100,7 +100,7 @@ impl Handle {
         self.is_open() && matches!(self.contents(), Contents::Seat(_))
     }
 
-    /// Whether the handle is an open replica's.
+    /// Returns whether the handle is an open replica's.
     pub(crate) fn holds_replica(&mut self) -> bool
         ensures value { result ≡ is_none (replica_refusal self.old.contents) }
         ensures unchanged { self.new ≡ self.old }
@@ -109,7 +109,7 @@ impl Handle {
     }
 
     /// Why the handle is not taken, which is not of the kind that is wanted. (Out of the way of the
-    /// calls that take it: a section costs a quarter more where this stands among them.)
+    /// calls that take it: a section costs a quarter more where this is among them.)
     #[cold]
     #[inline(never)]
     fn refusal(&mut self) -> Refusal
@@ -124,7 +124,7 @@ impl Handle {
         }
     }
 
-    /// The engine of an engine's handle.
+    /// Returns the engine of an engine's handle.
     pub(crate) fn open_engine(&mut self) -> &mut OpenEngine
         requires { HoldsEngine self.old.contents }
         ensures* writes_back { sem 𝓛 (lends_engine self.entry result) }
@@ -136,7 +136,7 @@ impl Handle {
         }
     }
 
-    /// The seat of a seat's handle.
+    /// Returns the seat of a seat's handle.
     pub(crate) fn open_seat(&mut self) -> &mut SeatParts
         requires { HoldsSeat self.old.contents }
         ensures* writes_back { sem 𝓛 (lends_seat self.entry result) }
@@ -148,7 +148,7 @@ impl Handle {
         }
     }
 
-    /// The replica of a replica's handle.
+    /// Returns the replica of a replica's handle.
     fn open_replica(&mut self) -> &mut OpenReplica
         requires { HoldsReplica self.old.contents }
         ensures* writes_back { sem 𝓛 (lends_replica self.entry result) }
@@ -160,7 +160,7 @@ impl Handle {
         }
     }
 
-    /// The engine, or why the handle is not taken for an engine's.
+    /// Returns the engine, or why the handle is not taken for an engine's.
     pub(crate) fn engine(&mut self) -> Result<&mut OpenEngine, Refusal>
         ensures* writes_back { sem 𝓛 (lends_engine_if_ok self.entry result) }
         ensures value { IfOk result (λ engine.
@@ -174,7 +174,7 @@ impl Handle {
         }
     }
 
-    /// The seat, or why the handle is not taken for a seat's.
+    /// Returns the seat, or why the handle is not taken for a seat's.
     pub(crate) fn seat(&mut self) -> Result<&mut SeatParts, Refusal>
         ensures* writes_back { sem 𝓛 (lends_seat_if_ok self.entry result) }
         ensures value { IfOk result (λ seat. self.old.contents ≡ Some (Contents.Seat seat.now)) }
@@ -187,8 +187,8 @@ impl Handle {
         }
     }
 
-    /// Whether this is the handle of an open engine, and the other one that of an open seat of
-    /// it; or why not.
+    /// Returns whether this is the handle of an open engine, and the other one that of an open seat
+    /// of it; or why not.
     pub(crate) fn has_dealt(&mut self, seat: &mut RcuSeat) -> Result<(), Refusal>
         ensures fault { result_err result ≡ return_refusal self.old.contents seat.old.contents }
         ensures engine { IsOk result → HoldsEngine self.old.contents }
@@ -205,7 +205,7 @@ impl Handle {
         }
     }
 
-    /// The replica, or why the handle is not taken for a replica's.
+    /// Returns the replica, or why the handle is not taken for a replica's.
     pub(crate) fn replica(&mut self) -> Result<&mut OpenReplica, Refusal>
         ensures* writes_back { sem 𝓛 (lends_replica_if_ok self.entry result) }
         ensures value { IfOk result (λ replica.

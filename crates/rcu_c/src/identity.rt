@@ -14,7 +14,7 @@ pub struct Identity {
 }
 
 impl Identity {
-    /// Whether it is this one.
+    /// Returns whether it is this one.
     pub(crate) fn is(self, other: Identity) -> bool
         ensures { result ≡ is_same self other }
     {

@@ -15,7 +15,7 @@ impl Invariant for KeyedWords {
     ghost holds = { IsKeyed };
 }
 
-/// Tells C of the key 0, where no entry was written.
+/// Tells C of the key 0, if no entry was written.
 pub(crate) fn tell(there: bool, entry: &mut [u64])
     requires { 0 < length entry.old }
     ensures { entry.new ≡ told entry.old (words_if there entry.old) }

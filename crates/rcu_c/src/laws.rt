@@ -215,8 +215,8 @@ pub fn a_run_goes_on_from_the_end_of_another()
     definition_laws::a_run_goes_on_from_the_end_of_another::<u64, Rule>();
 }
 
-/// A step of waiting for a barrier is a run of calls: whole, up to its step of driving where that
-/// is refused, and as far as it visited where memory was refused.
+/// A step of waiting for a barrier is a run of calls: whole, up to its step of driving if that is
+/// refused, and as far as it visited if memory was refused.
 pub fn waiting_for_a_barrier_is_a_run()
     ensures whole { (e : Locked Planned ℕ) (word : ℕ → ℕ) → IsRun e (whole_step e word) }
     ensures ready { (e : Locked Planned ℕ) → IsRun e (before_drive e) }

@@ -23,7 +23,7 @@ use rcu_seq::Fault;
 pub struct Links {
     /// What they wait for.
     pub(crate) marks: Marks,
-    /// The first one that was not taken out; it means nothing where there is none.
+    /// The first one that was not taken out; it means nothing if there is none.
     pub(crate) first: u64,
     /// The last one that was deferred, 0 before any.
     pub(crate) last: u64,
@@ -41,9 +41,9 @@ impl Links {
         }
     }
 
-    /// Puts a link behind all others, and returns the one before it, 0 where there is none.
+    /// Puts a link behind all others, and returns the one before it, 0 if there is none.
     ///
-    /// Fault `CallbacksFull` (15) where 2^62 were deferred.
+    /// Fault `CallbacksFull` (15) if 2^62 were deferred.
     fn push(&mut self, link: u64) -> Result<u64, Fault>
         ensures fault { result_err result ≡ defer_refusal self.old.marks }
         ensures last { IfOk result (λ last. last ≡ last_link self.old) }
@@ -61,7 +61,7 @@ impl Links {
         Ok(before)
     }
 
-    /// The first link where it is done, else 0.
+    /// Returns the first link if it is done, else 0.
     fn ready(&self) -> u64
         ensures { result ≡ ready_link self.now }
     {

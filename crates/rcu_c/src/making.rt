@@ -22,7 +22,7 @@ use rcu_seq::Fault;
 use rcu_wish::Wishes;
 use std::alloc::{AllocError, Global};
 
-/// The seats of all processors, in order.
+/// Returns the seats of all processors, in order.
 fn make_seats(
     alloc: Global,
     shared: &SharedParts,
@@ -54,7 +54,7 @@ fn make_seats(
     Ok(made)
 }
 
-/// The engine, with a map of these sizes, and a seat for each processor.
+/// Returns the engine, with a map of these sizes, and a seat for each processor.
 pub(crate) fn make_engine(
     alloc: Global,
     cpus: u32,

@@ -38,7 +38,7 @@ impl MapSizes {
         }
     }
 
-    /// The plan of a map of these sizes.
+    /// Returns the plan of a map of these sizes.
     ///
     /// Fault: `BadSizes` for no bucket, or one word.
     pub(crate) fn plan(self) -> Result<Plan, NotOpened>

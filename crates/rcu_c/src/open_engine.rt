@@ -44,8 +44,8 @@ impl Model for OpenEngine {
 }
 
 impl OpenEngine {
-    /// The engine with the seats of its processors, its end of the wishes, and the keeper of its
-    /// map.
+    /// Returns the engine with the seats of its processors, its end of the wishes, and the keeper
+    /// of its map.
     pub(crate) fn new(
         inner: TreeEngine,
         seats: Vec<Option<SeatParts>>,
@@ -70,21 +70,21 @@ impl OpenEngine {
         }
     }
 
-    /// The number of processors.
+    /// Returns the number of processors.
     pub(crate) fn cpus(&self) -> u32
         ensures { result ≡ self.now.engine.cpus }
     {
         self.inner.cpus()
     }
 
-    /// Whether it dealt the seat.
+    /// Returns whether it dealt the seat.
     pub(crate) fn owns(&self, seat: &SeatParts) -> bool
         ensures { result ≡ is_own self.now seat.now }
     {
         self.identity.is(seat.identity) && seat.cpu.cpu() < self.cpus()
     }
 
-    /// Whether the processor's seat is not dealt yet.
+    /// Returns whether the processor's seat is not dealt yet.
     pub(crate) fn has_seat(&self, cpu: u32) -> bool
         ensures { result ≡ is_some (seat_at self.now cpu) }
     {
@@ -94,7 +94,7 @@ impl OpenEngine {
         }
     }
 
-    /// The processor's seat, where it is not dealt yet.
+    /// Returns the processor's seat, if it is not dealt yet.
     pub(crate) fn deal(&mut self, cpu: u32) -> Option<SeatParts>
         ensures seat { result ≡ seat_at self.old cpu }
         ensures state { self.new ≡ without_seat self.old cpu }

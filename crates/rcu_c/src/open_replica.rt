@@ -37,7 +37,7 @@ impl Model for OpenReplica {
 }
 
 impl OpenReplica {
-    /// A fresh replica.
+    /// Returns a fresh replica.
     pub(crate) fn new(alloc: Global, cpus: u32, last: u64) -> Result<OpenReplica, Fault>
         ensures state { IfOk result (λ made. made ≡ at_first cpus last) }
         ensures fault { tested_fault result ≡ opening_refusal 16 64 cpus last }
@@ -46,7 +46,7 @@ impl OpenReplica {
         OpenReplica::make(alloc, cpus, last)
     }
 
-    /// A fresh replica, of which only memory can be wanting.
+    /// Returns a fresh replica, of which only memory can be wanting.
     fn make(alloc: Global, cpus: u32, last: u64) -> Result<OpenReplica, Fault>
         requires { opening_refusal 16 64 cpus last ≡ None }
         ensures state { IfOk result (λ made. made ≡ at_first cpus last) }
@@ -109,7 +109,7 @@ impl OpenReplica {
         self.inner.merge_from(&other.inner)
     }
 
-    /// The awaited set.
+    /// Returns the awaited set.
     pub(crate) fn awaited(&self) -> &Tree<16, 64>
         ensures { ⟦<Tree<16, 64> as Awaited>⟧.awaited result.now ≡ self.now.awaited }
     {
@@ -131,7 +131,7 @@ fn fill(set: &mut CpuSet, words: &[u64])
     }
 }
 
-/// Whether the processor's bit is set in words of 64; in words that are not there none is.
+/// Returns whether the processor's bit is set in words of 64; in words that are not there none is.
 fn has(words: &[u64], cpu: u32) -> bool
     ensures { result ≡ has_bit (slice_index words.now (cpu / 64)) (cpu % 64) }
 {

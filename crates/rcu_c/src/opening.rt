@@ -23,7 +23,7 @@ use crate::seat_parts::SeatParts;
 use rcu_seq::Fault;
 use std::alloc::Global;
 
-/// The engine, with a map of these sizes, and a seat for each processor, in a box.
+/// Returns the engine, with a map of these sizes, and a seat for each processor, in a box.
 fn box_engine(
     alloc: Global,
     cpus: u32,

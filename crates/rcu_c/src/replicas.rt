@@ -28,7 +28,7 @@ use std::alloc::Global;
 /// threads.
 pub type RcuReplica = Handle;
 
-/// A fresh replica, in a box.
+/// Returns a fresh replica, in a box.
 fn box_replica(alloc: Global, cpus: u32, last: u64) -> Result<Box<Contents, Global>, Fault>
     ensures open { IfOk result (λ contents. HoldsReplica (Some contents.value)) }
     ensures state { IfOk result (λ contents.

@@ -90,7 +90,7 @@ impl Model for SeatParts {
 }
 
 impl SeatParts {
-    /// The seat of a processor, by which nothing was deferred yet.
+    /// Returns the seat of a processor, by which nothing was deferred yet.
     pub(crate) fn new(
         alloc: Global,
         shared: &SharedParts,

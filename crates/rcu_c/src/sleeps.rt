@@ -1,8 +1,8 @@
-//! Sleeping until a processor is quiet. Who drives says once for which one it sleeps, and then
-//! looks at it once more; the processor's thread gets quiet, idle or offline, and then looks if who
-//! drives sleeps for it. All four steps are sequentially consistent, so one of the two sees the
-//! other. So no quiescent state is slept through: no proof says that, but `bindings/model/sleep.py`
-//! tries it, by these steps in this order.
+//! Sleeping until a processor is quiet. The driver says once for which one it sleeps, and then
+//! looks at it once more; the processor's thread gets quiet, idle or offline, and then looks
+//! whether the driver sleeps for it. All four steps are sequentially consistent, so one of the two
+//! sees the other. So no quiescent state is slept through: no proof says that, but
+//! `bindings/model/sleep.py` tries it, by these steps in this order.
 ghost use Rattle.std.specs.Prelude.{◌≡◌, ◌≢◌, ◌==◌, Bool, Some};
 ghost use Rattle.rcu_live.specs.Engine.{latest_words};
 ghost use Rattle.rcu_state.specs.GpState.{awaited_in};
@@ -19,8 +19,8 @@ use crate::handle::{Rcu, RcuSeat};
 use crate::open_engine::OpenEngine;
 use rcu_node::Awaited;
 
-/// Says that who drives sleeps for the first processor that is awaited, and then collects from each
-/// that is. Where none is awaited then, it says that it sleeps for none. Returns whether that first
+/// Says that the driver sleeps for the first processor that is awaited, and then collects from each
+/// that is. If none is awaited then, it says that it sleeps for none. Returns whether that first
 /// one is awaited still.
 fn sleep_for_first(opened: &mut OpenEngine) -> bool
     ensures state { opened.new ≡ after_saying opened.old opened.new.wishes.knows.sleeps_for
@@ -42,12 +42,12 @@ fn sleep_for_first(opened: &mut OpenEngine) -> bool
     }
 }
 
-/// Says that who drives sleeps for the first processor that is awaited, and then collects from each
-/// that is, as `rcu_collect_all`. Writes 1 where that first one is awaited still: then the caller
-/// sleeps, by means of the program's own, until a thread is told to wake it (`rcu_seat_wakes`). It
-/// lets go of the lock and sleeps in one step, as a condition variable does. Else writes 0. Writes
-/// how many are awaited still; where none is, it says that it sleeps for none. Until then call it
-/// again, also where the caller woke by chance.
+/// Says that the driver sleeps for the first processor that is awaited, and then collects from each
+/// that is, as `rcu_collect_all`. Writes 1 if that first one is awaited still: then the caller
+/// sleeps, by means of the program's own, until a thread has to wake it (`rcu_seat_wakes`). It lets
+/// go of the lock and sleeps in one step, as a condition variable does. Else writes 0. Writes how
+/// many are awaited still; if none is, it says that it sleeps for none. Until then call it again,
+/// also if the caller woke by chance.
 #[unsafe(no_mangle)]
 pub extern "C" fn rcu_may_sleep(rcu: &mut Rcu, sleeps: &mut u32, left: &mut u32) -> u32
     ensures open { HoldsEngine rcu.old.contents → HoldsEngine rcu.new.contents }
@@ -71,10 +71,10 @@ pub extern "C" fn rcu_may_sleep(rcu: &mut Rcu, sleeps: &mut u32, left: &mut u32)
     0
 }
 
-/// Looks whether who drives sleeps for the seat's processor. A thread looks so after each call by
+/// Looks whether the driver sleeps for the seat's processor. A thread looks so after each call by
 /// which its processor got quiet, idle or offline. After `rcu_seat_quiesce_since` and
 /// `rcu_seat_renew` it need not where the number is as it was, or is a multiple of 4, at which no
-/// grace period runs. Writes 1 where the caller has to wake who drives, under the lock. Else 0. It
+/// grace period runs. Writes 1 if the caller has to wake the driver, under the lock. Else 0. It
 /// costs a load.
 #[unsafe(no_mangle)]
 pub extern "C" fn rcu_seat_wakes(seat: &mut RcuSeat, wakes: &mut u32) -> u32

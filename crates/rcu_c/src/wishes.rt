@@ -1,8 +1,8 @@
 //! Wishes for grace periods. A thread wishes by its seat, with no lock, beside all calls on other
-//! handles: in a section or not, online or not. Who drives reads the greatest wish, under the
+//! handles: in a section or not, online or not. The driver reads the greatest wish, under the
 //! caller's lock, and drives for it (`rcu_drive_for`).
 //!
-//! No wish is slept through: whoever makes the greatest wish while who drives says that it sleeps,
+//! No wish is slept through: whoever makes the greatest wish while the driver says that it sleeps,
 //! and has not found a wish as great, is told to wake it.
 ghost use Rattle.std.specs.Prelude.{◌≡◌, ◌≢◌, ◌&&◌, nat_lt};
 ghost use Rattle.rcu_wish.specs.Wishes.{IsNoLess, after_look, after_wish};
@@ -13,11 +13,11 @@ ghost use Rattle.rcu_c.specs.Staying.{BothStay};
 
 use crate::handle::{Rcu, RcuSeat};
 
-/// Wishes for the grace period of a cookie: where that is greater than each that was wished for
-/// before, `rcu_wanted` finds it from then on. Writes 1 where it is, and who drives says that it
+/// Wishes for the grace period of a cookie: if that is greater than each that was wished for
+/// before, `rcu_wanted` finds it from then on. Writes 1 if it is, and the driver says that it
 /// sleeps: then the caller wakes it, by means of the program's own. Else 0. It orders nothing else:
-/// a taking does. No wish is taken back: for a cookie that no taking returned, as 2^64 - 1, who
-/// drives makes grace periods without end.
+/// a taking does. No wish is taken back: for a cookie that no taking returned, as 2^64 - 1, the
+/// driver makes grace periods without end.
 #[unsafe(no_mangle)]
 pub extern "C" fn rcu_seat_want(seat: &mut RcuSeat, cookie: u64, wakes: &mut u32) -> u32
     ensures fault { result ≡ seat_number seat.old.contents 0 }
@@ -41,10 +41,10 @@ pub extern "C" fn rcu_seat_want(seat: &mut RcuSeat, cookie: u64, wakes: &mut u32
     }
 }
 
-/// Says whether who drives sleeps from now on, and then writes the greatest cookie that was wished
-/// for: 1, which is done at any number, where none was. The next step is `rcu_drive_for` of it; or,
-/// where `rcu_poll` says that it is done, to sleep until a thread wakes the caller, which lets go
-/// of the lock and sleeps in one step, as a condition variable does.
+/// Says whether the driver sleeps from now on, and then writes the greatest cookie that was wished
+/// for: 1, which is done at any number, if none was. The next step is `rcu_drive_for` of it; or, if
+/// `rcu_poll` says that it is done, to sleep until a thread wakes the caller, which lets go of the
+/// lock and sleeps in one step, as a condition variable does.
 #[unsafe(no_mangle)]
 pub extern "C" fn rcu_wanted(rcu: &mut Rcu, sleeps: bool, cookie: &mut u64) -> u32
     ensures open { HoldsEngine rcu.old.contents → HoldsEngine rcu.new.contents }
