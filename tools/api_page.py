@@ -1,10 +1,10 @@
-"""The lists of docs/API.md, for tools/write_calls: of each public call of the crates that the mark
-of a list names what it does in a few words, and its faults.
+"""The page calls.md of a release, for tools/write_calls: of each public call of the crates that a
+program in Rattle uses what it does in a few words, and its faults.
 
-The words are the first sentence of the doc comment, up to its first colon. The names alone stand of
-questions, which take nothing and have no fault, and of calls whose doc comment names the call of
-another type that does the same. Laws are left out, and the modules that the page's last section
-names.
+The words are the first sentence of the doc comment, up to its first colon. A list has only the names
+of questions, which take nothing and have no fault, and of calls whose doc comment names the call of
+another type that does the same. It has no laws, and no calls of modules that are public for the
+crates above, for tests or for proofs (UNLISTED).
 """
 import os
 import re
@@ -13,33 +13,25 @@ import textwrap
 import doc_comments as source
 from checks import read
 
-PAGE = "docs/API.md"
-UNLISTED = "## Not listed"
+PAGE = "calls.md"
+CRATES = "rcu_state rcu_core rcu_live rcu_defer rcu_wish rcu_cell rcu_graph rcu_map".split()
+UNLISTED = {"rcu_live": "board client client_words in_part parts reading shared within words".split(),
+            "rcu_graph": ["known", "places"]}
 WIDTH = 100
-LIST = re.compile(r"(?ms)(^<!-- >>> ((?:rcu_\w+ ?)+): [^\n]*\n).*?(^<!-- <<<)")
+HEAD = """# Calls of the crates
+
+For those who write Rattle. Each public call: the faults in parentheses, in the order in which they
+are tested, and what the call does. [RATTLE.md](RATTLE.md) has programs, and what holds of all calls.
+Signatures, ranges and costs are in `crates/NAME/src`, each call beside its proved contract.
+"""
 
 
-def unlisted():
-    """The modules of each crate that the page leaves out."""
-    rows = [re.findall(r"`(\w+)`", it) for it in
-            re.findall(r"(?m)^- .*(?:\n  .*)*", read(PAGE).split(UNLISTED)[1])]
-    return {row[0]: row[1:] for row in rows}
-
-
-def listed(crate, without):
+def listed(crate):
     """The calls of a crate that the page has."""
     for path in source.files_of(crate):
         module = os.path.basename(path).removesuffix(".rt")
-        if not module.endswith("laws") and module not in without:
+        if not module.endswith("laws") and module not in UNLISTED.get(crate, ()):
             yield from source.calls_in(read(path))
-
-
-def lists(page):
-    """The mark of each list of the page, or of a part of it, with the calls that the list has."""
-    without = unlisted()
-    for found in LIST.finditer(page):
-        yield found, [it for crate in found[2].split()
-                      for it in listed(crate, without.get(crate, ()))]
 
 
 def name_of(call):
@@ -96,10 +88,11 @@ def rows(own):
             yield filled(f"- `{kind.split()[-1]}`, {what}: {', '.join(names)}.")
 
 
-def written(page):
-    """The page with its lists written anew."""
-    text, at = "", 0
-    for found, own in lists(page):
-        text += f"{page[at : found.end(1)]}\n{''.join(rows(own))}\n"
-        at = found.start(3)
-    return text + page[at:]
+def parts():
+    """Each crate of the page, with its list."""
+    return {it: "".join(rows(list(listed(it)))) for it in CRATES}
+
+
+def written():
+    """The page."""
+    return HEAD + "".join(f"\n## `{crate}`\n\n{its}" for crate, its in parts().items())

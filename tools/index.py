@@ -1,8 +1,8 @@
-"""The index of names in docs/README.md, for tools/write_calls: each call of C, type, law and fault,
-with its page.
+"""The page names.md of a release, for tools/write_calls: each call of C, type, law and fault, with a
+link to its page. It lies beside the pages of docs/.
 
-Names of C are those of include/*.h; types of Rattle those of docs/API.md, which has their calls;
-laws those of crates/*/src, as docs/PROMISES.md has them; faults those of docs/RULES.md.
+Names of C are those of include/*.h; types of Rattle those that calls.md has (api_page.py); laws
+those of crates/*/src, as docs/PROMISES.md has them; faults those of docs/RULES.md.
 """
 import os
 import re
@@ -12,7 +12,8 @@ import api_page
 import links
 from checks import files, read
 
-MARK = "<!-- What follows is written by tools/write_calls. -->"
+PAGE = "names.md"
+HEAD = "# Names\n\nEach call of C, law, type of Rattle and fault, with a link to the page that says more.\n"
 C_CALL = re.compile(r"(?m)^(?:static inline )?[\w ]+?\*?\b(rcu_\w+)\([^;{]*[;{]")
 
 
@@ -33,13 +34,12 @@ def names_of_c():
                 yield name, f"../{path}"
 
 
-def names_of_rattle(api):
-    for place, part in parts(api_page.PAGE, api):
-        for found, _ in api_page.lists(part):
-            code = "".join(sources(rf"crates/(?:{found[2].strip().replace(' ', '|')})/src/.*\.rt"))
-            for name in re.findall(r"(?m)^pub (?:struct|enum|trait) (\w+)", code):
-                if re.search(rf"\b{name}\b", part):
-                    yield name, place
+def names_of_rattle():
+    for crate, its in api_page.parts().items():
+        code = "".join(sources(rf"crates/{crate}/src/.*\.rt"))
+        for name in re.findall(r"(?m)^pub (?:struct|enum|trait) (\w+)", code):
+            if re.search(rf"\b{name}\b", its):
+                yield name, f"{api_page.PAGE}#{crate}"
 
 
 def laws():
@@ -51,12 +51,12 @@ def laws():
             yield name, (said or own)[0][0]
 
 
-def written(api):
-    """The page as it should be, where that of the calls of Rattle is this."""
-    text, places = f"{read(links.INDEX).partition(MARK)[0]}{MARK}\n", {}
+def written():
+    """The page."""
+    text, places = HEAD, {}
     faults = re.findall(r"(?m)^- \*\*(\d+)\*\*, (\w+):", read("docs/RULES.md"))
     groups = {"Calls of C": names_of_c(), "Laws": laws(),
-              "Types of Rattle": names_of_rattle(api)}
+              "Types of Rattle": names_of_rattle()}
     rows = [(title, sorted(set(its), key=lambda it: (it[0].lower(), it)))
             for title, its in groups.items()]
     rows.append(("Faults", [(" ".join(it), "RULES.md#faults") for it in faults]))
