@@ -13,6 +13,12 @@ static void pass_marker(struct rcu_head *head) {
     let_go();
 }
 
+/* In the child of a fork without liburcu's handlers: a barrier of another thread left some. */
+void forget_markers(void) {
+    markers_left = 0;
+    pthread_cond_init(&barrier_over, 0);
+}
+
 /* A worker with a marker does not rest before it runs it. */
 static void mark(struct call_rcu_data *worker) {
     worker->marker.func = pass_marker;

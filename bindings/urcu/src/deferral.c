@@ -171,3 +171,13 @@ void renew_deferral(void) {
     pthread_mutex_init(&draining, 0);
     pthread_mutex_init(&barriers, 0);
 }
+
+/* In the child of a fork without liburcu's handlers: no callback of a ring is queued there, and the
+ * rings of the other threads are free. */
+void forget_deferred_calls(void) {
+    for (struct ring *it = rings; it; it = it->next) {
+        atomic_store(&it->made, atomic_load(&it->added));
+        atomic_store(&it->queued, false);
+        it->taken = it == self.deferred;
+    }
+}

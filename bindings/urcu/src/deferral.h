@@ -3,6 +3,7 @@
 #define URCU_DEFERRAL_H
 #pragma GCC visibility push(hidden)
 void renew_deferral(void);
+void forget_deferred_calls(void);
 void give_back_ring(void);
 #pragma GCC visibility pop
 #endif

@@ -1,8 +1,9 @@
 /* fork. The child has one thread: it opens engines of its own, in room of its own, and takes a
  * place there if it had one. So it does not matter in the midst of what the other threads were. By
  * liburcu's three handlers the workers pause, none is added meanwhile, and the default worker goes
- * on in the child with all callbacks that waited. Without them the child may read, wait for rounds,
- * and exec; its callbacks do not run.
+ * on in the child with all callbacks that waited. Without them the callbacks that waited, and the
+ * deferred calls, are the parent's alone: a worker may have been in the midst of any. The child
+ * begins with none, and its first callback makes a worker anew.
  *
  * Who forks does not hold the lock: the C library takes the locks of malloc then, of which one may
  * be held by a thread whose signal handler waits for the layer's.
@@ -20,7 +21,21 @@ static pid_t owner; /* the child that has all of its own, where this is one */
 
 /* ---- what each fork does */
 
-static void renew(void) {
+/* The parent's workers are threads that the child does not have. What they hold stays as it is, as
+ * it may be half changed. */
+static void start_without_workers(void) {
+    pthread_mutex_init(&visits, 0);
+    pthread_mutex_init(&making_default, 0);
+    workers = 0;
+    atomic_store(&main_worker, 0);
+    self.worker = 0;
+    forget_workers_of_cpus();
+    forget_markers();
+    renew_deferral();
+    forget_deferred_calls();
+}
+
+static void renew(bool keeps_workers) {
     struct place *old = self.place;
     pthread_mutex_init(&all.lock, 0);
     make_condition(&all.quiet);
@@ -41,13 +56,14 @@ static void renew(void) {
         take_place(old->registered_at);
         stay_as_in(old);
     }
+    if (!keeps_workers) start_without_workers();
     owner = getpid();
 }
 
 /* The child of a signal handler that forked in the midst of a call may exec, and no more. Liburcu's
- * handler may have run before this one. */
+ * handler may have run before this one, or is to come. */
 static void in_any_child(void) {
-    if (!is_busy() && !self.beside && owner != getpid()) renew();
+    if (!is_busy() && !self.beside && owner != getpid()) renew(self.forks != 0);
 }
 
 void set_up_forks(void) {
@@ -116,7 +132,7 @@ static void go_on_with_default_worker(void) {
 
 void CALL(call_rcu_after_fork_child)(void) {
     if (--self.forks) return;
-    if (owner != getpid()) renew();
+    if (owner != getpid()) renew(true);
     pthread_mutex_init(&visits, 0);
     pthread_mutex_init(&making_default, 0);
     renew_deferral();

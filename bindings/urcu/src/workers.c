@@ -132,15 +132,16 @@ int CALL(create_all_cpu_call_rcu_data)(unsigned long flags) {
     return 0;
 }
 
-/* In the child of a fork, where their threads are gone. */
-void forget_workers_of_cpus(void) {
-    worker_of_cpu *each = atomic_load(&of_cpus);
-    for (long cpu = 0; each && cpu < machine_cpus; cpu++) atomic_store(&each[cpu], 0);
-}
-
 /* ---- the end of one */
 
 static pthread_cond_t worker_over = PTHREAD_COND_INITIALIZER;
+
+/* In the child of a fork, where their threads are gone, and those that waited for an end. */
+void forget_workers_of_cpus(void) {
+    worker_of_cpu *each = atomic_load(&of_cpus);
+    for (long cpu = 0; each && cpu < machine_cpus; cpu++) atomic_store(&each[cpu], 0);
+    pthread_cond_init(&worker_over, 0);
+}
 
 /* The worker's thread says so, and does nothing more with the worker. */
 void tell_over(struct call_rcu_data *worker) {

@@ -36,6 +36,9 @@ void push(struct call_rcu_data *worker, struct rcu_head *head);
 void push_all(struct call_rcu_data *worker, struct rcu_head *last);
 void *work(void *it);
 
+/* barriers.c */
+void forget_markers(void);
+
 /* workers.c */
 struct call_rcu_data *default_worker(void);
 void start_worker(struct call_rcu_data *worker);

@@ -86,6 +86,21 @@ FAULTS = {
         "fork.c", "    all.engines = 0;\n", "", "qsbr", "forks", HANGS),
     "the child of a fork in a section is in none": (
         "fork.c", "        stay_as_in(old);\n", "", "memb", "forks_in_sections", False),
+    "the child of a bare fork keeps the parent's worker": (
+        "fork.c", "    workers = 0;\n    atomic_store(&main_worker, 0);\n", "",
+        "memb", "bare_callbacks", HANGS),
+    "the child of a bare fork waits for the parent's markers": (
+        "barriers.c", "    markers_left = 0;\n    pthread_cond_init", "    pthread_cond_init",
+        "bp", "bare_callbacks", HANGS),
+    "the child of a bare fork finds the parent's barrier": (
+        "fork.c", "static void start_without_workers(void) {\n    pthread_mutex_init(&visits, 0);\n",
+        "static void start_without_workers(void) {\n", "qsbr", "bare_callbacks", HANGS),
+    "the child of a bare fork takes a ring's callback for queued": (
+        "deferral.c", "        atomic_store(&it->queued, false);\n        it->taken", "        it->taken",
+        "memb", "bare_callbacks", False),
+    "the child of a bare fork makes the parent's deferred calls": (
+        "deferral.c", "        atomic_store(&it->made, atomic_load(&it->added));\n", "",
+        "mb", "bare_callbacks", False),
     "who forks holds the lock": (
         "fork.c", "pthread_atfork(0, 0, in_any_child)",
         "pthread_atfork(hold, let_go, in_any_child)", "memb", "handlers", HANGS),

@@ -110,6 +110,7 @@ static const struct {
 #ifndef NO_EXTRAS
     {"polls", polls},       {"reports", reports},     {"misuse", misuse},
     {"gathers", gathers},   {"barriers_alone", barriers_alone},
+    {"bare_callbacks", bare_callbacks},
 #endif
 };
 

@@ -78,6 +78,6 @@ int joins(unsigned n), engines(unsigned n), barriers_alone(unsigned n);
 int defers(unsigned n), values(unsigned n), polls(unsigned n);
 int signals(unsigned n), handlers(unsigned n);
 int forks(unsigned n), forks_by_handlers(unsigned n);
-int bare_forks(unsigned n), forks_in_sections(unsigned n);
+int bare_forks(unsigned n), forks_in_sections(unsigned n), bare_callbacks(unsigned n);
 int reports(unsigned n), misuse(unsigned n);
 #endif

@@ -264,6 +264,71 @@ int forks_in_sections(unsigned n) {
     return !bad;
 }
 
+#ifndef NO_EXTRAS
+static int calls_run, deferred_run;
+static void count_call(struct rcu_head *head) {
+    free(head);
+    uatomic_inc(&calls_run);
+}
+
+static void count_deferred(void *it) {
+    (void)it;
+    uatomic_inc(&deferred_run);
+}
+
+static void defer_some(int count) {
+    for (int i = 0; i < count; i++) call_rcu(malloc(sizeof(struct rcu_head)), count_call);
+    defer_rcu(count_deferred, 0);
+}
+
+static void *wait_for_callbacks(void *it) {
+    rcu_barrier();
+    return it;
+}
+
+static uint64_t callbacks_waiting(void) {
+    struct urcu_counters now;
+    EXTRA(counters)(&now);
+    return now.callbacks_waiting;
+}
+
+static int child_defers(void) {
+    alarm(20);
+    rcu_register_thread();
+    look(false);
+    defer_some(50);
+    rcu_barrier();
+    if (calls_run != 50) printf("%d callbacks ran in the child, and not 50\n", calls_run);
+    if (deferred_run != 1) printf("%d deferred calls were made in the child\n", deferred_run);
+    fflush(stdout);
+    return wrong || calls_run != 50 || deferred_run != 1;
+}
+
+/* Without liburcu's handlers a child has callbacks of its own, and none of its parent's: there a
+ * callback and a deferred call wait for a section, and a thread waits for both by a barrier. */
+int bare_callbacks(unsigned n) {
+    struct holder holder;
+    pthread_t waiter;
+    int bad = 0, status;
+    open_section(&holder);
+    defer_some(1);
+    if (pthread_create(&waiter, 0, wait_for_callbacks, 0)) return 0;
+    while (callbacks_waiting() < 3) usleep(100); /* the last one is the barrier's marker */
+    for (unsigned i = 0; i < (n ? n : 5); i++) {
+        pid_t child = fork();
+        if (child == 0) _exit(child_defers());
+        waitpid(child, &status, 0);
+        bad += status != 0;
+    }
+    int early = calls_run + deferred_run;
+    close_section(&holder);
+    end_holder(&holder);
+    pthread_join(waiter, 0);
+    if (bad) printf("%d children did not end well\n", bad);
+    return !bad && !early && calls_run == 1 && deferred_run == 1;
+}
+#endif
+
 /* Without them a child reads, and in every second one a round is made; or it execs at once. */
 int bare_forks(unsigned n) {
     pthread_t reader[2], updater;
