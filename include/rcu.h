@@ -793,8 +793,8 @@ uint32_t rcu_version(void);
 /* ---- wishes for grace periods. A thread wishes by its seat, with no lock, beside all calls on
  * other handles: in a section or not, online or not. The driver reads the greatest wish, under the
  * caller's lock, and drives for it (rcu_drive_for).
- * No wish is slept through: whoever makes the greatest wish while the driver says that it sleeps,
- * and has not found a wish as great, is told to wake it. */
+ * No wish is slept through: a thread that makes the greatest wish while the driver says that it
+ * sleeps, and has not found a wish as great, learns that it has to wake the driver. */
 
 /* Wishes for the grace period of a cookie: if that is greater than each that was wished for before,
  * rcu_wanted finds it from then on. Writes 1 if it is, and the driver says that it sleeps: then the

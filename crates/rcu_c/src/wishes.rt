@@ -2,8 +2,8 @@
 //! handles: in a section or not, online or not. The driver reads the greatest wish, under the
 //! caller's lock, and drives for it (`rcu_drive_for`).
 //!
-//! No wish is slept through: whoever makes the greatest wish while the driver says that it sleeps,
-//! and has not found a wish as great, is told to wake it.
+//! No wish is slept through: a thread that makes the greatest wish while the driver says that it
+//! sleeps, and has not found a wish as great, learns that it has to wake the driver.
 ghost use Rattle.std.specs.Prelude.{◌≡◌, ◌≢◌, ◌&&◌, nat_lt};
 ghost use Rattle.rcu_wish.specs.Wishes.{IsNoLess, after_look, after_wish};
 ghost use Rattle.rcu_c.specs.Answers.{flag_number};
