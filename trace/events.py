@@ -11,8 +11,9 @@ LINE = re.compile(r"^\s*(.+?)-(\d+)\s+(?:\(\s*[\d-]+\)\s+)?\[(\d+)\]\s+(?:\S+\s+
                   r"(\w+):\s*(.*)$")
 LOST = re.compile(r"LOST \d+ EVENTS|(?:overrun|dropped events): [1-9]")
 GZIP = b"\x1f\x8b"
-# The names that events had in kernels before 6.12.
-RENAMED = {"rcu_dyntick": "rcu_watching"}
+# rcu_dyntick is rcu_watching of kernels before 6.12, with the words the other way round: it says
+# that an idle time starts where rcu_watching says that RCU's watching ends.
+OPPOSITE = {"Start": "End", "End": "Start", "Startirq": "Endirq", "Endirq": "Startirq"}
 # A window grows no further than this, although a grace period runs. (Then the look ahead is cut.)
 MOST = 200_000
 
@@ -35,8 +36,10 @@ def parsed(number, line):
         return None
     task, pid, cpu, time, name, text = found.groups()
     text = text.rstrip()
-    name = RENAMED.get(name, name)
-    return Event(number, f"{task.strip()}-{pid}", int(cpu), time, name, text, text.split())
+    words = text.split()
+    if name == "rcu_dyntick":
+        name, words[0] = "rcu_watching", OPPOSITE.get(words[0], words[0])
+    return Event(number, f"{task.strip()}-{pid}", int(cpu), time, name, text, words)
 
 
 def read(paths, lost):
