@@ -1,16 +1,27 @@
 """Callbacks: what they wait for, when they are invoked, and the barrier."""
+import re
+
 from comparison import snapshot
+
+# The kthreads of CPUs whose callbacks are offloaded (rcu_nocbs): one for each CPU invokes them, and
+# one for each group of CPUs accelerates them.
+INVOKES, ACCELERATES = re.compile(r"rcuo[ps]/(\d+)-"), re.compile(r"rcuog/")
+
+
+def list_of(event):
+    """The CPU whose callbacks an event is about."""
+    found = INVOKES.match(event.task)
+    return int(found[1]) if found else event.cpu
 
 
 class Callbacks:
     """A part of a replay, by the events rcu_callback, rcu_batch_start, rcu_invoke_callback,
-    rcu_batch_end, rcu_barrier and rcu_sr_normal."""
+    rcu_barrier and rcu_sr_normal."""
 
     def __init__(self):
         self.ids = 0
         self.queued = {}  # of a callback's address: its id (0: in no list), its cookie, the event
         self.handed = []  # ids that the engine handed out, and Linux has not invoked yet
-        self.batch = {}  # of a CPU: the ids that its batch invoked so far
         self.taken_at = None  # the number at which a cookie was taken last
         self.in_barrier = False
 
@@ -25,7 +36,8 @@ class Callbacks:
 
     def accelerate(self, event, needs):
         cookie, wanted = self.take(event), needs - self.base
-        first_known = any(low <= event.cpu <= high for low, high in self.begun)
+        first_known = any(low <= event.cpu <= high for low, high in self.begun) \
+            if not ACCELERATES.match(event.task) else len(self.begun) == len(self.tree.leaves)
         if wanted != cookie and wanted == self.before and not first_known:
             self.seen["AccWaitCB, AccReadyCB: number read just before a start"] += 1
             cookie = self.before
@@ -51,15 +63,15 @@ class Callbacks:
         """The engine hands out what is done of the CPU's list."""
         def take_ids(reply):
             self.handed.extend(int(it) for it in reply.split()[1:] if it != "none")
-        self.say(f"tend {event.cpu}")
-        self.say(f"run {event.cpu} 1000000", "batches", event, take_ids)
+        cpu = list_of(event)
+        self.say(f"tend {cpu}")
+        self.say(f"run {cpu} 1000000", "batches", event, take_ids)
 
     def is_early_leaf(self):
         """Between the end in a leaf and that in the root, a leaf's gp_seq is ahead."""
         return bool(self.period and self.period.rooted)
 
     def rcu_batch_start(self, event):
-        self.batch[event.cpu] = []
         if not self.is_early_leaf():
             self.hand_out(event)
 
@@ -126,6 +138,3 @@ class Callbacks:
             self.want(f"poll {cookie}", "returns of synchronize_rcu", event, "done",
                       f"synchronize_rcu returns on CPU {event.cpu} before grace period "
                       f"{self.linux(cookie) - 3} has ended")
-
-    def rcu_batch_end(self, event):
-        self.batch.pop(event.cpu, None)

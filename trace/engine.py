@@ -8,14 +8,11 @@ class Stopped(Exception):
 
 
 class Engine:
-    """A process of `rcu script`. `keep`: a file to which its lines go too, or None."""
+    """A process of `rcu script`. `keep`: the path of a file to which its lines go too, or None."""
 
     def __init__(self, program, tree, keep):
-        leaf, inner = tree.fanouts()
-        words = ["script", "--leaf", str(leaf), "--inner", str(inner),
-                 "--cpus", str(tree.processors())]
-        self.keep, self.lines = keep, 0
-        self.process = subprocess.Popen([*program, *words], stdin=subprocess.PIPE,
+        self.keep, self.lines = open(keep, "w", encoding="ascii") if keep else None, 0
+        self.process = subprocess.Popen([*program, "script", *tree.words()], stdin=subprocess.PIPE,
                                         stdout=subprocess.PIPE, encoding="ascii")
 
     def replies(self, lines):
@@ -41,6 +38,8 @@ class Engine:
             pass  # (the reading tells)
 
     def close(self):
+        if self.keep:
+            self.keep.close()
         self.process.kill()
         self.process.wait()
         self.process.stdin.close()

@@ -9,13 +9,22 @@ import sys
 
 LINE = re.compile(r"^\s*(.+?)-(\d+)\s+(?:\(\s*[\d-]+\)\s+)?\[(\d+)\]\s+(?:\S+\s+)?([\d.]+):\s+"
                   r"(\w+):\s*(.*)$")
-LOST = re.compile(r"LOST \d+ EVENTS|(?:overrun|dropped events): [1-9]")
+# Before the next event of a CPU: events of it were lost, as Linux and trace-cmd say it, or those
+# before were overwritten.
+LOST = re.compile(r"CPU:(\d+) \[.*(?:LOST|DROPPED).*\]|#+ CPU (\d+) buffer started #+")
 GZIP = b"\x1f\x8b"
 # rcu_dyntick is rcu_watching of kernels before 6.12, with the words the other way round: it says
 # that an idle time starts where rcu_watching says that RCU's watching ends.
 OPPOSITE = {"Start": "End", "End": "Start", "Startirq": "Endirq", "Endirq": "Startirq"}
+# Kernels before 4.20 have two or three flavours at a time, each with grace periods of its own.
+FLAVOURS = {"rcu_sched", "rcu_preempt", "rcu_bh"}
+# How many words these events have at least: the last line of a trace may be cut off.
+WORDS = {"rcu_grace_period": 3, "rcu_grace_period_init": 6, "rcu_quiescent_state_report": 7,
+         "rcu_future_grace_period": 7, "rcu_fqs": 4, "rcu_watching": 4, "rcu_dyntick": 4,
+         "rcu_callback": 3, "rcu_invoke_callback": 3, "rcu_barrier": 4, "rcu_sr_normal": 3,
+         "rcu_preempt_task": 3, "rcu_unlock_preempted_task": 3}
 # A window grows no further than this, although a grace period runs. (Then the look ahead is cut.)
-MOST = 200_000
+MOST = 50_000
 
 Event = collections.namedtuple("Event", "line task cpu time name text words")
 
@@ -30,45 +39,67 @@ def opened(path):
 
 
 def parsed(number, line):
-    """The event of a line, or None."""
+    """The event of a line, or None. One of the name 'lost' stands for events that are not there."""
+    lost = LOST.match(line)
+    if lost:
+        return Event(number, "", int(lost[1] or lost[2]), "", "lost", line.strip(), [])
     found = None if line.startswith("#") else LINE.match(line)
     if not found:
         return None
     task, pid, cpu, time, name, text = found.groups()
     text = text.rstrip()
     words = text.split()
+    if len(words) < WORDS.get(name, 0):
+        return None
     if name == "rcu_dyntick":
-        name, words[0] = "rcu_watching", OPPOSITE.get(words[0], words[0])
+        words[0] = OPPOSITE.get(words[0], words[0])
     return Event(number, f"{task.strip()}-{pid}", int(cpu), time, name, text, words)
 
 
-def read(paths, lost):
-    """The events of the files, one after another. `lost` is called with each line that says that
-    some were lost."""
-    number = 0
-    for path in paths:
-        for line in opened(path):
-            number += 1
-            if LOST.search(line):
-                lost(number, line.strip())
-            event = parsed(number, line)
-            if event:
-                yield event
+def read(path):
+    """The events of a file."""
+    for number, line in enumerate(opened(path), 1):
+        event = parsed(number, line)
+        if event:
+            yield event
+
+
+class Flavour:
+    """Passes the events of one flavour, the first that comes, and counts those of others."""
+
+    def __init__(self):
+        self.name, self.others = None, collections.Counter()
+
+    def only(self, events):
+        for event in events:
+            flavour = event.words[0] if event.words else ""
+            if flavour in FLAVOURS:
+                self.name = self.name or flavour
+                if flavour != self.name:
+                    self.others[flavour] += 1
+                    continue
+            yield event
+
+
+def is_start(event):
+    return event.name == "rcu_grace_period" and event.words[2] == "start"
 
 
 def is_end(event):
-    return event.name == "rcu_grace_period" and event.words[2:3] == ["end"]
+    return event.name == "rcu_grace_period" and event.words[2] == "end"
 
 
 def windows(events):
-    """The events in lists, of which each but the last one ends with the end of a grace period: so
-    all that a grace period needs to know of its later events stands in one list."""
-    window = []
+    """The events in lists, of which each but the last one ends with the end of a grace period, or
+    with a loss: so all that a grace period needs to know of its later events stands in one list."""
+    window, start = [], 0
     for event in events:
         window.append(event)
-        if is_end(event) or len(window) == MOST:
+        if is_start(event):
+            start = len(window)
+        elif is_end(event) or event.name == "lost" or len(window) - start == MOST:
             yield window
-            window = []
+            window, start = [], 0
     if window:
         yield window
 

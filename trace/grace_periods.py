@@ -4,6 +4,9 @@ import sys
 from comparison import apart, awaited_as_said, cpus, members, snapshot
 from periods import words_of_grace_period
 
+# The engine's second grace period. A CPU that is being taken down as a stretch begins is gone then.
+SECOND = 5
+
 
 class GracePeriods:
     """A part of a replay, by the event rcu_grace_period."""
@@ -30,12 +33,15 @@ class GracePeriods:
     def start(self, event, number):
         period = self.period = self.ahead.period_at[self.place]
         awaited = period.awaited()
-        for cpu in sorted(self.arriving & awaited):
+        for cpu in sorted((self.arriving | self.may_arrive) & awaited):
             self.arrive(cpu)
         for cpu in sorted((self.dying & self.online) - awaited):
             if period.inits:
                 self.depart(cpu, event)
         self.number = tag = number - self.base
+        if tag > SECOND:
+            self.dying -= self.may_die
+            self.may_die = set()
         self.begun = set()
         self.before = snapshot(self.number - 1)
         self.waits = awaited | set(self.tree.readers.values())
@@ -57,13 +63,17 @@ class GracePeriods:
                  f"{apart(awaited, members(it))}")
         for (level, first, last), mask in period.inits.items():
             if level == self.tree.depth:
-                if not mask and not self.blocked.get((first, last), True):
-                    self.end_readers((first, last), event, "no CPU online in the leaf")
+                leaf = first, last
+                if leaf in self.blocked and not mask and not (
+                        self.may_block(leaf) and period.is_in_parent(level, first, last)):
+                    self.end_readers(leaf, event, "no CPU online in the leaf")
                 continue
             below = period.below(level, first, last)
             ought = sum(1 << bit for bit, (low, high) in enumerate(below)
                         if period.inits[level + 1, low, high])
-            self.compare("inner masks at the start", event, ought == mask,
+            # (A leaf without a CPU is waited for as long as preempted readers of it are there.)
+            either = sum(1 << bit for bit, leaf in enumerate(below) if self.may_block(leaf))
+            self.compare("inner masks at the start", event, ought | either == mask | either,
                          f"grace period {number}: node {first}-{last} of level {level} begins with "
                          f"qsmask {mask:#x}, and its children's masks make {ought:#x}")
 

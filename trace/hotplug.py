@@ -10,6 +10,8 @@ class Hotplug:
 
     def __init__(self):
         self.arriving, self.dying = set(), set()
+        # Of a stretch that begins in the midst: CPUs that may have begun to come or to go before.
+        self.may_arrive, self.may_die = set(), set()
         self.named = {}  # of a CPU: the one that cpuhp_enter named there last
 
     def cpuhp_enter(self, event):
@@ -20,15 +22,22 @@ class Hotplug:
         self.named[event.cpu] = cpu
         if target == 0 < step and cpu != event.cpu and cpu in self.online:
             self.dying.add(cpu)
+            self.may_die.discard(cpu)
 
     def cpuhp_exit(self, event):
-        found = re.match(r"cpu: (\d+) +state: *\d+ step: *\d+ ret: *-?\d+", event.text)
-        if found and int(found[1]) in self.dying and event.cpu != int(found[1]):
-            self.depart(int(found[1]), event)
+        found = re.match(r"cpu: (\d+) +state: *(\d+) step: *(\d+) ret: *-?\d+", event.text)
+        if not found:
+            return
+        cpu, state, step = map(int, found.groups())
+        is_down = state == step - 1  # a step down: takedown_cpu, or one below it
+        if event.cpu != cpu and cpu in self.dying and (is_down or cpu not in self.may_die):
+            self.depart(cpu, event)
 
     def name_arrival(self, event, _):
         """cpuonl does not say which CPU: the cpuhp_enter before it on that CPU does."""
-        self.arriving.add(self.named.get(event.cpu, -1))
+        cpu = self.named.get(event.cpu, -1)
+        self.arriving.add(cpu)
+        self.may_arrive.discard(cpu)
 
     def go_offline(self, event, _):
         cpu, blocks = event.cpu, event.words[2] == "cpuofl-bgp"
@@ -41,6 +50,7 @@ class Hotplug:
 
     def arrive(self, cpu):
         self.arriving.discard(cpu)
+        self.may_arrive.discard(cpu)
         self.online.add(cpu)
         self.want(f"online {cpu}", "arrivals", self.event, "online",
                   f"CPU {cpu} comes online in Linux")

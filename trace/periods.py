@@ -1,5 +1,5 @@
 """What is known of a grace period ahead of its events: who is awaited, and which waking a later
-scan counts. And what stands at each moment, whichever comparison runs."""
+scan counts. And the state at each moment, whichever comparison runs."""
 import re
 
 
@@ -12,7 +12,7 @@ class Period:
 
     def __init__(self, number, start):
         self.number, self.start, self.end = number, start, None
-        self.inits, self.heard, self.rooted = {}, [], None
+        self.inits, self.heard, self.rooted, self.is_stalled = {}, [], None, False
 
     def leaves(self):
         deepest = max((level for level, _, _ in self.inits), default=0)
@@ -27,6 +27,13 @@ class Period:
         return sorted((low, high) for (at, low, high) in self.inits
                       if at == level + 1 and first <= low and high <= last)
 
+    def is_in_parent(self, level, first, last):
+        """Whether the bit of a node is in its parent's mask at the start."""
+        for (at, low, high), mask in self.inits.items():
+            if at == level - 1 and low <= first and last <= high:
+                return bool(mask >> self.below(at, low, high).index((first, last)) & 1)
+        return True
+
 
 def words_of_grace_period(event):
     """The number and the word of an rcu_grace_period event."""
@@ -34,20 +41,26 @@ def words_of_grace_period(event):
 
 
 class Ahead:
-    """A window of the trace, looked through before it is compared."""
+    """What is known ahead of a window, which is looked through before it is compared. Of a grace
+    period that is longer than a window, the rest is not known: `is_open`."""
 
-    def __init__(self, window, watched):
+    def __init__(self):
+        self.running, self.scans, self.woke, self.idle = None, 0, {}, {}
+        self.period_at, self.waking_tells, self.over, self.is_open = {}, set(), [], False
+
+    def look(self, window):
         self.period_at, self.waking_tells = {}, set()
-        self.running, self.scans, self.woke = None, 0, {}
-        self.idle, self.first_watch = dict(watched), {}
+        self.woke.clear()  # (their places were in the window before)
         for place, event in enumerate(window):
             look = getattr(self, event.name, None)
             if look:
                 look(place, event)
+        self.is_open = self.running is not None
 
     def rcu_grace_period(self, place, event):
         number, what = words_of_grace_period(event)
         if what == "start":
+            self.cut()
             self.running = self.period_at[place] = Period(number, event)
             self.woke.clear()
             self.scans = 0
@@ -57,24 +70,44 @@ class Ahead:
                 self.woke.clear()
         elif what == "end" and self.running:
             self.running.end = event
+            self.cut()
+
+    def cut(self):
+        """No more is known of the grace period that runs, if one does."""
+        if self.running:
+            self.over.append(self.running)
+        self.running = None
+
+    def take_over(self):
+        """The grace periods that are over, each once."""
+        over, self.over = self.over, []
+        return over
+
+    def forget(self):
+        """Events are missing: who is idle is not known any more."""
+        self.idle.clear()
 
     def rcu_grace_period_init(self, _, event):
         number, level, first, last = map(int, event.words[1:5])
         if self.running and number == self.running.number:
             self.running.inits[level, first, last] = int(event.words[5], 16)
 
+    def rcu_stall_warning(self, _, __):
+        if self.running:
+            self.running.is_stalled = True
+
     def rcu_watching(self, place, event):
         what, cpu = event.words[0], event.cpu
         if what in ("End", "Endirq", "Start", "Startirq"):
             self.idle[cpu] = what.startswith("End")
-            self.first_watch.setdefault(cpu, not self.idle[cpu])
             if not self.idle[cpu]:
                 self.woke[cpu] = place
 
+    rcu_dyntick = rcu_watching
+
     def rcu_fqs(self, _, event):
         cpu = int(event.words[2])
-        is_idle = self.idle.get(cpu, self.first_watch.get(cpu, False))
-        if event.words[3] == "dti" and not is_idle and cpu in self.woke:
+        if event.words[3] == "dti" and not self.idle.get(cpu, False) and cpu in self.woke:
             self.waking_tells.add(self.woke[cpu])
 
 
@@ -91,6 +124,11 @@ class Tree:
 
     def processors(self):
         return self.cpus + len(self.readers)
+
+    def words(self):
+        """The options of `rcu script`."""
+        leaf, inner = self.fanouts()
+        return ["--leaf", str(leaf), "--inner", str(inner), "--cpus", str(self.processors())]
 
     def fanouts(self):
         """The fanouts of the engine's tree: any do, as both await by processors."""
@@ -109,8 +147,8 @@ STEP_ENDED = re.compile(r"cpu: (\d+) +state: *\d+ step: *\d+ ret: *-?\d+")
 
 
 class Standing:
-    """What stands after the events so far: who is idle, who is being taken down, and which readers
-    of a leaf are preempted. A comparison that begins in the midst begins with it."""
+    """The state after the events so far: who is idle, who is being taken down, and which readers of
+    a leaf are preempted. A comparison that begins in the midst begins with it."""
 
     def __init__(self):
         self.watched, self.dying, self.blocked = {}, set(), {}
@@ -123,6 +161,8 @@ class Standing:
     def rcu_watching(self, event):
         if event.words[0] in ("End", "Endirq", "Start", "Startirq"):
             self.watched[event.cpu] = event.words[0].startswith("End")
+
+    rcu_dyntick = rcu_watching
 
     def cpuhp_enter(self, event):
         found = TAKEN_DOWN.match(event.text)

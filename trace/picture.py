@@ -13,7 +13,8 @@ class Picture:
 
     def __init__(self, periods, cpus):
         self.periods, self.cpus, self.rows = periods, cpus, []
-        first, last = self.time(periods[0].start), self.time(periods[-1].end)
+        first = self.time(periods[0].start) if periods else 0
+        last = self.time(periods[-1].end) if periods else 0
         self.first, self.scale = first, WIDE / (last - first or 1)
         self.bottom = TOP + cpus * LANE
 

@@ -19,6 +19,7 @@ class QuiescentStates:
         # Of each leaf the readers that are preempted, and those that block the grace period.
         self.blocked = {leaf: {} for leaf in self.tree.readers}
         self.blockers = {leaf: set() for leaf in self.tree.readers}
+        self.older = set()  # the leaves that may have readers of before the trace began
 
     def without_readers(self, found):
         """The CPUs, without the processors that stand for preempted readers."""
@@ -52,8 +53,10 @@ class QuiescentStates:
         elif what in ("Start", "Startirq") and cpu in self.idle:
             self.idle.discard(cpu)
             self.want(f"wake {cpu}", "wakings", event, "awake", f"CPU {cpu} wakes in Linux")
-            if self.place in self.ahead.waking_tells:
+            if self.place in self.ahead.waking_tells or self.ahead.is_open:
                 self.waking[cpu] = self.make_report(cpu)
+
+    rcu_dyntick = rcu_watching
 
     def find_idle(self, cpu):
         """A CPU of which the trace had no event so far was idle as it began."""
@@ -102,6 +105,11 @@ class QuiescentStates:
     def compare_readers(self, event, leaf, mask, left):
         """Whether preempted readers block a leaf, and if they are done, that they are heard of."""
         blocked, readers = event.words[6] != "0", self.blockers[leaf]
+        if not blocked:
+            self.older.discard(leaf)
+        elif not readers and leaf in self.older:
+            self.seen["leaves that are blocked by readers of before the trace began"] += 1
+            return
         named = ", ".join(f"task {it}" for it in sorted(readers)) or "none"
         self.compare("blocked readers (gp_tasks)", event, blocked == bool(readers),
                      f"grace period {event.words[1]}: Linux says that leaf {leaf[0]}-{leaf[1]} is "
@@ -121,9 +129,8 @@ class QuiescentStates:
         elif scanned and cpu in self.waking:
             self.hear(cpu, event, "scan: idle since the snapshot, awake again (rcu_fqs dti)",
                       f"deliver {self.waking.pop(cpu)}")
-        elif cpu in self.dying and event.cpu != cpu:
-            self.seen["reports on behalf of a CPU that went offline (rcu_gp_init)"] += 1
-            self.depart(cpu, event)
+        elif cpu in self.dying - self.may_die and event.cpu != cpu:
+            self.report_for_departed(cpu, event)
         elif cpu in self.quiet:
             how = "scan: of one that was quiet meanwhile (rcu_fqs dti)" if scanned else \
                 "its own report" if event.cpu == cpu else f"a report by CPU {event.cpu}"
@@ -132,11 +139,17 @@ class QuiescentStates:
             # multi_cpu_stop calls rcu_momentary_eqs again and again, which leaves no event.
             self.hear(cpu, event, "scan: a stopper's rcu_momentary_eqs, which has no event "
                       "(rcu_fqs dti)", f"deliver {self.make_report(cpu)}")
+        elif cpu in self.may_die and event.cpu != cpu:
+            self.report_for_departed(cpu, event)
         else:
             self.compare("reports", event, False,
                          f"grace period {number}: Linux takes a report of CPU {cpu}, made on CPU "
                          f"{event.cpu}, but in the trace that CPU passed no quiescent state since "
                          "it noted the grace period (no cpuqs, no idle time)")
+
+    def report_for_departed(self, cpu, event):
+        self.seen["reports on behalf of a CPU that went offline (rcu_gp_init)"] += 1
+        self.depart(cpu, event)
 
     def hear(self, cpu, event, how, line):
         """A report that the engine takes, too."""
@@ -179,6 +192,10 @@ class QuiescentStates:
         self.say("awaits", "reports to inner nodes", event, wrong)
 
     # ---- preemptible RCU: readers that were preempted, on the leaf of the CPU that they ran on
+
+    def may_block(self, leaf):
+        """Whether a leaf of a preemptible kernel may have readers that are preempted."""
+        return leaf in self.blocked and bool(self.blocked[leaf] or leaf in self.older)
 
     def rcu_preempt_task(self, event):
         if not self.blocked:

@@ -33,27 +33,36 @@ class Replay(GracePeriods, Hotplug, QuiescentStates, Callbacks, Comparison):
             self.stand_as(standing)
 
     def stand_as(self, standing):
-        """Takes over what stands as the stretch begins."""
+        """Takes over the state in which the stretch begins, and what of it is not known: each CPU
+        may be dying, and one that is not awaited may be arriving."""
         for cpu in sorted(self.online):
             if cpu not in standing.watched:
                 self.unknown.add(cpu)
             elif standing.watched[cpu]:
                 self.idle.add(cpu)
                 self.say(f"idle {cpu}")
-        self.dying = standing.dying & self.online
+        self.may_arrive = set(range(self.tree.cpus)) - self.online
+        self.dying = self.online - {0}
+        self.may_die = self.dying - standing.dying
+        self.older = set(self.tree.readers)
         for event in standing.blocked.values() if self.tree.readers else ():
             self.rcu_preempt_task(event)
 
     def take_event(self, place, event, ahead):
         self.place, self.event, self.ahead = place, event, ahead
-        if event.cpu in self.arriving:
-            self.arrive(event.cpu)
-        self.task[event.cpu] = event.task
+        cpu = event.cpu
+        if cpu in self.arriving or cpu in self.may_arrive:
+            self.arrive(cpu)
+        self.task[cpu] = event.task
         take = getattr(self, event.name, None) if event.name.startswith(("rcu", "cpuhp")) else None
         if take:
             take(event)
         else:
             self.seen[f"not used: {event.name}"] += 1
+
+    def rcu_exp_grace_period(self, event):
+        if event.words[2] == "start":
+            self.seen["expedited grace periods, which are not compared"] += 1
 
     def is_long(self):
         return self.ids > MOST_CALLBACKS

@@ -184,7 +184,8 @@ PLANTS = {
     report_without_quiescent_state: "passed no quiescent state",
     scan_of_one_that_is_awake: "passed no quiescent state|still waits for"
                                "|belongs to an earlier grace period",
-    offline_cpu_is_awaited: "Linux alone waits for CPU",
+    offline_cpu_is_awaited: "Linux alone waits for CPU"
+                            "|still waits for nobody .* the engine for CPU",
     online_cpu_is_forgotten: "the engine alone waits for CPU",
     inner_mask_lacks_a_child: "and its children's masks make",
     callback_is_early: "before grace period .* has ended|still waits, for grace period",
