@@ -3,7 +3,10 @@ use Rattle.std.proofs.Common.{◌≡◌, ◌≤◌, ◌<◌, ◌+◌, ◌*◌, �
 use Rattle.std.proofs.Common.{refl, subst, sym, ap, ◌∙◌, arith}
 use Rattle.std.proofs.Math.Nat.{le-mul_of_pos_right}
 use Rattle.std.proofs.lemmas.Bool.Decides.{nat_tests}
-use Rattle.std.specs.Prelude.{◌↔◌, ◌&&◌, nat_le, nat_lt}
+use Rattle.std.specs.Prelude.{◌↔◌, ◌&&◌, [], ◌∷◌, nat_le, nat_lt, not}
+use Rattle.rcu_seq.specs.Fault.{first_fault}
+use Rattle.rcu_seq.specs.Numbers.{is_last}
+use Rattle.rcu_seq.specs.declared.fault.Fault.TheVariants.{BadFanout, BadLast, TooManyCpus}
 use Rattle.rcu_geometry.specs.Opening.{opening_refusal}
 use Rattle.rcu_graph.specs.Opening.{IsSized, tested_opening}
 use Rattle.rcu_graph.specs.declared.not_opened.NotOpened.{NotOpened}
@@ -63,10 +66,25 @@ pub unfit_told : (s : MapSizes) (cpus last : ℕ)
     → Some (refusal_of BadSizes) ≡ map_opening_refusal s cpus last
 unfit_told s cpus last none = unfit_by_test s cpus last none (are_sizes s) refl
 
+-- as many processors are held by leaves of 64 as by those of 16: 4,096
+both_hold : (cpus : ℕ)
+    → (nat_le cpus 4096 && nat_le cpus (64 * 64 ^ 3))
+    ≡ (nat_le cpus 4096 && nat_le cpus (16 * 64 ^ 3))
+both_hold cpus = grind (arith, nat_tests)
+
+-- so an engine is refused for the same reasons
+leaves_told : (cpus last : ℕ) → opening_refusal 64 64 cpus last ≡ opening_refusal 16 64 cpus last
+leaves_told cpus last =
+    ap (λ (held : Bool).
+    first_fault
+    ((false, BadFanout) ∷ (not (nat_lt 0 cpus && held), TooManyCpus)
+    ∷ (not (is_last last), BadLast) ∷ []))
+    (both_hold cpus)
+
 module _ {A : Type 0} (s : MapSizes) (cpus last : ℕ) (plan : Plan) (result : Result A NotOpened)
     (planned : plan ≡ plan_of_sizes s) (some : 0 < plan.roots) (wide : 2 ≤ plan.words)
     (sized : (result ≡ Err BadSizes) ↔ (IsSized plan → ⊥))
-    (fault : IsSized plan → tested_opening result ≡ opening_refusal 16 64 cpus last)
+    (fault : IsSized plan → tested_opening result ≡ opening_refusal 64 64 cpus last)
   where
     is_fit : are_sizes s ≡ true → IsSized plan
     is_fit passed = subst IsSized (sym planned) (fit s.buckets (width_in s) s.nodes s.seed passed)
@@ -81,7 +99,9 @@ module _ {A : Type 0} (s : MapSizes) (cpus last : ℕ) (plan : Plan) (result : R
         → tested_refusal {A = A} (Err (refusal_of why)) ≡ map_opening_refusal s cpus last
     by_test true passed BadSizes is = absurd (sized.0 is (is_fit passed))
     by_test true passed (not_opened.Fault why) is =
-        rw passed (ap by_engine (ap tested_opening (sym is) ∙ fault (is_fit passed)))
+        rw passed
+        (ap by_engine
+        (ap tested_opening (sym is) ∙ fault (is_fit passed) ∙ leaves_told cpus last))
     by_test false failed BadSizes is = rw failed refl
     by_test false failed (not_opened.Fault why) is =
         let bad : result ≡ Err BadSizes = sized.1 (λ has. (cc (is_tested has))) in cc

@@ -73,7 +73,7 @@ pub(crate) fn make_engine(
         seats,
         watchers,
         keeper,
-    } = Map::<KeyedWords, 0>::open_planned::<16, 64, u64>(alloc, cpus, last, plan)?;
+    } = Map::<KeyedWords, 0>::open_planned::<64, 64, u64>(alloc, cpus, last, plan)?;
     let Ok(wishes) = Wishes::open(alloc) else {
         return Err(Refusal::Engine(Fault::NoMemory));
     };
