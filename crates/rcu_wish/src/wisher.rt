@@ -1,11 +1,11 @@
 //! A thread's end of the wishes.
-ghost use Rattle.std.specs.Prelude.{◌≡◌, ◌==◌, ◌&&◌, Some, nat_lt};
+ghost use Rattle.std.specs.Prelude.{◌≡◌, ◌==◌, ◌&&◌, IfOk, Some, nat_lt};
 ghost use Rattle.std.specs.Arc.{arc_value};
 ghost use Rattle.rcu_wish.specs.Wishes.{IsNoLess, after_naming, after_wish, cpu_word};
 ghost use Rattle.rcu_wish.specs.Wishes.{thread_at_first, wisher_at_first};
 
 use crate::wish_words::{WishSeat, WishWords};
-use std::alloc::Global;
+use std::alloc::{AllocError, Global};
 use std::marker::Model;
 use std::sync::Arc;
 
@@ -39,6 +39,15 @@ impl Wisher {
         ensures { result ≡ wisher_at_first (arc_value words) }
     {
         Wisher { words, seat }
+    }
+
+    /// Another thread's end.
+    pub fn another(&self) -> Result<Wisher, AllocError>
+        ensures { IfOk result (λ wisher. wisher ≡ wisher_at_first self.now.words) }
+    {
+        let words = Arc::try_clone(&self.words)?;
+        let seat = words.deal();
+        Ok(Wisher::new(words, seat))
     }
 
     /// Wishes for the grace period of a cookie: if it is greater than each that was wished for
