@@ -85,6 +85,15 @@ impl<P: Client> CpuSeat<P> {
         }
     }
 
+    /// Returns its seat at the shared words.
+    pub(crate) fn into_table_seat(self) -> TableSeat<P>
+        ensures table { result.table_id ≡ self.table }
+        ensures view { result.me.0 ≡ self.view }
+        ensures inside { own_word_index self.cpu < result.table_id.words }
+    {
+        self.seat
+    }
+
     /// Returns the processor.
     pub fn cpu(&self) -> u32
         ensures { result ≡ self.now.cpu }

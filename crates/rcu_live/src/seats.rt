@@ -106,8 +106,8 @@ fn deal<P: Client>(
     ensures engine { OnOk result
         (IsSeatAt board.now.table (engine_seat cpus cpus (P.first board.now.plan)) engine.new) }
 {
-    let mut seats = Vec::new(alloc);
-    let mut watchers = Vec::new(alloc);
+    let mut seats = Vec::with_capacity(alloc, cpus as usize)?;
+    let mut watchers = Vec::with_capacity(alloc, cpus as usize)?;
     for cpu in 0..cpus {
         let (seat, watcher) = deal_next(board, engine, cpu);
         seats.push(seat)?;

@@ -41,7 +41,7 @@ impl Wisher {
         Wisher { words, seat }
     }
 
-    /// Another thread's end.
+    /// Returns the end of another thread.
     pub fn another(&self) -> Result<Wisher, AllocError>
         ensures { IfOk result (λ wisher. wisher ≡ wisher_at_first self.now.words) }
     {
