@@ -3,7 +3,7 @@
 use rcu::{Engine, Shared};
 
 fn main() -> Result<(), rcu::Error> {
-    let engine = Engine::new(1)?;
+    let engine = Engine::new()?;
     let shared = Shared::new(&engine, String::from("old"));
     let mut reader = engine.reader()?;
     println!("{}", shared.load(&reader.enter()));

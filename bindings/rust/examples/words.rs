@@ -15,7 +15,7 @@ fn main() -> Result<(), Box<dyn std::error::Error>> {
         entries: words.len(),
         seed: 1,
     };
-    let (engine, counts) = Engine::with_hash_map::<String, AtomicU64>(3, sizes)?;
+    let (engine, counts) = Engine::with_hash_map::<String, AtomicU64>(sizes)?;
     thread::scope(|scope| {
         for part in words.chunks(words.len() / 3 + 1) {
             let mut reader = engine.reader().expect("three are there");

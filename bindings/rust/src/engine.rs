@@ -11,14 +11,17 @@ use std::fmt;
 use std::hash::{BuildHasher, Hash, RandomState};
 use std::sync::Arc;
 
-/// An engine, for up to so many readers at a time. Clones are the same engine. It goes when the
-/// last clone, the last map and the last reader are gone; then what is deferred is done first.
+/// How many readers an engine has at most. The library has 4,096 processors, and 0 is nobody's.
+const MOST: u32 = 4095;
+
+/// An engine, for all its readers. Clones are the same engine. It goes when the last clone, the last
+/// map and the last reader are gone; then what is deferred is done first.
 ///
 /// ```
 /// use std::thread;
 ///
 /// # fn main() -> Result<(), rcu::Error> {
-/// let engine = rcu::Engine::new(4)?;
+/// let engine = rcu::Engine::new()?;
 /// let own = engine.clone();
 /// let driver = thread::spawn(move || own.drive()); // does what is deferred
 /// engine.defer(|| println!("no section is open any more"));
@@ -41,39 +44,74 @@ impl fmt::Debug for Engine {
 }
 
 impl Engine {
-    /// An engine for up to so many readers at a time, from 1 to 4,095.
+    /// An engine, for up to 4,095 readers at a time.
+    ///
+    /// # Errors
+    /// [`Error::NoMemory`] where memory is out.
+    ///
+    /// ```
+    /// # fn main() -> Result<(), rcu::Error> {
+    /// let engine = rcu::Engine::new()?;
+    /// let readers = [engine.reader()?, engine.reader()?];
+    /// # Ok(())
+    /// # }
+    /// ```
+    pub fn new() -> Result<Engine, Error> {
+        Engine::with_limit(MOST)
+    }
+
+    /// An engine as [`Engine::new`], for up to so many readers at a time, from 1 to 4,095. It takes
+    /// memory for so many, and its grace periods take less time the lower the limit is.
     ///
     /// # Errors
     /// [`Error::BadCount`] for another number, [`Error::NoMemory`] where memory is out.
     ///
     /// ```
-    /// assert!(rcu::Engine::new(8).is_ok());
-    /// assert_eq!(rcu::Engine::new(0).unwrap_err(), rcu::Error::BadCount);
+    /// assert!(rcu::Engine::with_limit(8).is_ok());
+    /// assert_eq!(rcu::Engine::with_limit(0).unwrap_err(), rcu::Error::BadCount);
     /// ```
-    pub fn new(readers: u32) -> Result<Engine, Error> {
+    pub fn with_limit(readers: u32) -> Result<Engine, Error> {
         Engine::open(readers, None)
     }
 
     /// An engine as [`Engine::new`], with a map, which its readers read without a lock.
     ///
     /// # Errors
-    /// Those too, and [`Error::BadSizes`].
+    /// [`Error::BadSizes`], and [`Error::NoMemory`] where memory is out.
     ///
     /// ```
     /// use rcu::{Engine, MapSizes};
     ///
     /// # fn main() -> Result<(), rcu::Error> {
     /// let sizes = MapSizes { buckets: 64, entries: 200, seed: 1 };
-    /// let (engine, squares) = Engine::with_map::<u32, u64>(8, sizes)?;
+    /// let (engine, squares) = Engine::with_map::<u32, u64>(sizes)?;
     /// assert_eq!(squares.put(3, 9), Ok(None));
     /// let mut reader = engine.reader()?;
     /// assert_eq!(reader.read(|guard| squares.get(guard, 3)), Some(9));
     /// # Ok(())
     /// # }
     /// ```
-    pub fn with_map<K: Key, V: Value>(
-        readers: u32,
+    pub fn with_map<K: Key, V: Value>(sizes: MapSizes) -> Result<(Engine, Map<K, V>), Error> {
+        Engine::with_map_and_limit(sizes, MOST)
+    }
+
+    /// An engine as [`Engine::with_map`], for up to so many readers, as [`Engine::with_limit`].
+    ///
+    /// # Errors
+    /// [`Error::BadCount`], [`Error::BadSizes`], and [`Error::NoMemory`] where memory is out.
+    ///
+    /// ```
+    /// use rcu::{Engine, MapSizes};
+    ///
+    /// # fn main() -> Result<(), rcu::Error> {
+    /// let sizes = MapSizes { buckets: 64, entries: 200, seed: 1 };
+    /// let (engine, map) = Engine::with_map_and_limit::<u32, u64>(sizes, 8)?;
+    /// # Ok(())
+    /// # }
+    /// ```
+    pub fn with_map_and_limit<K: Key, V: Value>(
         sizes: MapSizes,
+        readers: u32,
     ) -> Result<(Engine, Map<K, V>), Error> {
         let engine = Engine::open(readers, Some((sizes, V::Words::COUNT)))?;
         let map = Map::of(&engine.inner);
@@ -91,22 +129,19 @@ impl Engine {
     ///
     /// # fn main() -> Result<(), Box<dyn std::error::Error>> {
     /// let sizes = MapSizes { buckets: 64, entries: 200, seed: 1 };
-    /// let (engine, colours) = Engine::with_hash_map::<String, Vec<u8>>(8, sizes)?;
+    /// let (engine, colours) = Engine::with_hash_map::<String, Vec<u8>>(sizes)?;
     /// colours.insert("red".to_string(), vec![255, 0, 0])?;
     /// let mut reader = engine.reader()?;
     /// reader.read(|guard| assert_eq!(colours.get(guard, "red").unwrap()[0], 255));
     /// # Ok(())
     /// # }
     /// ```
-    pub fn with_hash_map<K, V>(
-        readers: u32,
-        sizes: MapSizes,
-    ) -> Result<(Engine, HashMap<K, V>), Error>
+    pub fn with_hash_map<K, V>(sizes: MapSizes) -> Result<(Engine, HashMap<K, V>), Error>
     where
         K: Eq + Hash + Send + Sync + 'static,
         V: Send + Sync + 'static,
     {
-        Engine::with_hash_map_and_hasher(readers, sizes, RandomState::new())
+        Engine::with_hash_map_and_hasher(sizes, RandomState::new())
     }
 
     /// As [`Engine::with_hash_map`], with the hasher that it is given.
@@ -114,7 +149,6 @@ impl Engine {
     /// # Errors
     /// As there.
     pub fn with_hash_map_and_hasher<K, V, S>(
-        readers: u32,
         sizes: MapSizes,
         hasher: S,
     ) -> Result<(Engine, HashMap<K, V, S>), Error>
@@ -123,13 +157,13 @@ impl Engine {
         V: Send + Sync + 'static,
         S: BuildHasher,
     {
-        let engine = Engine::open(readers, Some((sizes, <[u64; 2]>::COUNT)))?;
+        let engine = Engine::open(MOST, Some((sizes, <[u64; 2]>::COUNT)))?;
         let map = HashMap::of(&engine.inner, hasher);
         Ok((engine, map))
     }
 
     fn open(readers: u32, map: Option<(MapSizes, usize)>) -> Result<Engine, Error> {
-        if !(1..4096).contains(&readers) {
+        if !(1..=MOST).contains(&readers) {
             return Err(Error::BadCount);
         }
         let inner = Arc::new(Inner::open(readers, map)?);
@@ -139,11 +173,12 @@ impl Engine {
     /// A reader, for this thread or another one. It takes the engine's lock for a moment.
     ///
     /// # Errors
-    /// [`Error::AllTaken`] where as many readers are there as the engine was made for.
+    /// [`Error::AllTaken`] where as many readers are there as the engine has at most,
+    /// [`Error::NoMemory`] where memory is out.
     ///
     /// ```
     /// # fn main() -> Result<(), rcu::Error> {
-    /// let engine = rcu::Engine::new(1)?;
+    /// let engine = rcu::Engine::with_limit(1)?;
     /// let reader = engine.reader()?;
     /// assert_eq!(engine.reader().unwrap_err(), rcu::Error::AllTaken);
     /// drop(reader);
@@ -162,7 +197,7 @@ impl Engine {
     ///
     /// ```
     /// # fn main() -> Result<(), rcu::Error> {
-    /// let engine = rcu::Engine::new(1)?;
+    /// let engine = rcu::Engine::new()?;
     /// let reader = engine.reader()?;
     /// drop(reader.enter());
     /// drop(reader);
@@ -189,7 +224,7 @@ impl Engine {
     ///
     /// ```
     /// # fn main() -> Result<(), rcu::Error> {
-    /// let engine = rcu::Engine::new(1)?;
+    /// let engine = rcu::Engine::new()?;
     /// engine.defer(|| println!("no section is open any more"));
     /// assert_eq!(engine.run_deferred(), 1);
     /// # Ok(())
@@ -205,7 +240,7 @@ impl Engine {
     /// use std::sync::Arc;
     ///
     /// # fn main() -> Result<(), rcu::Error> {
-    /// let engine = rcu::Engine::new(1)?;
+    /// let engine = rcu::Engine::new()?;
     /// let data = Arc::new(7);
     /// engine.defer_drop(Arc::clone(&data));
     /// assert_eq!(engine.run_deferred(), 1);

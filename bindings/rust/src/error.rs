@@ -7,7 +7,7 @@ use std::fmt;
 /// ```
 /// use rcu::Error;
 ///
-/// match rcu::Engine::new(8) {
+/// match rcu::Engine::new() {
 ///     Ok(engine) => assert!(engine.reader().is_ok()),
 ///     Err(Error::NoMemory) => println!("later, perhaps"),
 ///     Err(other) => panic!("{other}"), // there may be more of them some day
@@ -34,7 +34,7 @@ pub enum Error {
 ///
 /// # fn main() -> Result<(), rcu::Error> {
 /// let sizes = MapSizes { buckets: 1, entries: 1, seed: 0 };
-/// let (_, map) = Engine::with_map::<u32, u32>(1, sizes)?;
+/// let (_, map) = Engine::with_map::<u32, u32>(sizes)?;
 /// assert_eq!(map.try_insert(1, 10), Ok(None));
 /// assert_eq!(map.try_insert(2, 20), Err(Full));
 /// # Ok(())
@@ -50,7 +50,7 @@ pub struct Full;
 ///
 /// # fn main() -> Result<(), rcu::Error> {
 /// let sizes = MapSizes { buckets: 1, entries: 1, seed: 0 };
-/// let (engine, map) = Engine::with_map::<u32, u32>(1, sizes)?;
+/// let (engine, map) = Engine::with_map::<u32, u32>(sizes)?;
 /// assert_eq!(map.insert(1, 10), Ok(None));
 /// assert_eq!(map.insert(2, 20), Err(NotPut::Full));
 /// map.remove(1);

@@ -36,7 +36,7 @@ use std::sync::{Arc, Mutex, MutexGuard, PoisonError};
 ///
 /// # fn main() -> Result<(), Box<dyn std::error::Error>> {
 /// let sizes = MapSizes { buckets: 64, entries: 200, seed: 1 };
-/// let (engine, ages) = Engine::with_hash_map::<String, u32>(8, sizes)?;
+/// let (engine, ages) = Engine::with_hash_map::<String, u32>(sizes)?;
 /// ages.insert("Ada".to_string(), 36)?;
 /// let mut reader = engine.reader()?;
 /// thread::scope(|scope| {
@@ -54,7 +54,7 @@ use std::sync::{Arc, Mutex, MutexGuard, PoisonError};
 /// ```compile_fail,E0505
 /// # use rcu::{Engine, MapSizes};
 /// # let sizes = MapSizes { buckets: 1, entries: 1, seed: 0 };
-/// let (engine, map) = Engine::with_hash_map::<String, String>(1, sizes).unwrap();
+/// let (engine, map) = Engine::with_hash_map::<String, String>(sizes).unwrap();
 /// let reader = engine.reader().unwrap();
 /// let guard = reader.enter();
 /// let found = map.get(&guard, "key");
@@ -65,7 +65,7 @@ use std::sync::{Arc, Mutex, MutexGuard, PoisonError};
 /// ```compile_fail,E0505
 /// # use rcu::{Engine, MapSizes};
 /// # let sizes = MapSizes { buckets: 1, entries: 1, seed: 0 };
-/// let (engine, map) = Engine::with_hash_map::<String, String>(1, sizes).unwrap();
+/// let (engine, map) = Engine::with_hash_map::<String, String>(sizes).unwrap();
 /// let reader = engine.reader().unwrap();
 /// let guard = reader.enter();
 /// let found = map.get(&guard, "key");
@@ -270,7 +270,7 @@ where
     /// # use rcu::{Engine, MapSizes};
     /// # fn main() -> Result<(), Box<dyn std::error::Error>> {
     /// # let sizes = MapSizes { buckets: 1, entries: 2, seed: 0 };
-    /// let (engine, lengths) = Engine::with_hash_map::<String, usize>(1, sizes)?;
+    /// let (engine, lengths) = Engine::with_hash_map::<String, usize>(sizes)?;
     /// let mut reader = engine.reader()?;
     /// for _ in 0..2 {
     ///     reader.read(|guard| {
@@ -336,7 +336,7 @@ where
     /// # use rcu::{Engine, MapSizes};
     /// # fn main() -> Result<(), Box<dyn std::error::Error>> {
     /// # let sizes = MapSizes { buckets: 4, entries: 9, seed: 0 };
-    /// let (_, squares) = Engine::with_hash_map::<String, u32>(1, sizes)?;
+    /// let (_, squares) = Engine::with_hash_map::<String, u32>(sizes)?;
     /// for root in 1..=9 {
     ///     squares.insert(root.to_string(), root * root)?;
     /// }

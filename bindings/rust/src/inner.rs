@@ -8,7 +8,7 @@ use crate::marks::Mark;
 use crate::words::Words;
 use std::num::NonZeroU64;
 use std::sync::atomic::{AtomicU64, Ordering::Relaxed};
-use std::sync::{Condvar, Mutex, MutexGuard};
+use std::sync::{Arc, Condvar, Mutex, MutexGuard};
 
 /// How often a maker of a grace period looks at the processors before it sleeps.
 const LOOKS: u32 = 100;
@@ -36,8 +36,13 @@ pub(crate) struct Locked {
     pub(crate) rcu: EngineHandle,
     /// The seat of processor 0, which is nobody's, and idle.
     boot: SeatHandle,
-    /// Seats that no reader has. Their processors are offline.
-    free: Vec<SeatHandle>,
+    /// Seats that readers gave back, with their marks. Their processors are offline.
+    free: Vec<(SeatHandle, Arc<Mark>)>,
+    /// Those of all seats that were dealt.
+    marks: Vec<Arc<Mark>>,
+    /// The first processor whose seat no reader had, and behind the last one.
+    next: usize,
+    cpus: usize,
     /// Whether a grace period runs.
     runs: bool,
     /// Whether a thread makes grace periods, and waits for them.
@@ -48,12 +53,10 @@ pub(crate) struct Locked {
     pub(crate) queue: Queue,
 }
 
-/// What an engine's owners share. There is a reader for each seat that is not free, and each reader
-/// owns a part of this: so at the drop all seats are free.
+/// What an engine's owners share. There is a reader for each seat that was dealt and is not free, and
+/// each reader owns a part of this: so at the drop no reader has a seat.
 pub(crate) struct Inner {
     pub(crate) id: u64,
-    /// Of each processor.
-    marks: Box<[Mark]>,
     /// How many entries its map has room for.
     entries: usize,
     locked: Mutex<Locked>,
@@ -63,6 +66,23 @@ pub(crate) struct Inner {
 }
 
 impl Locked {
+    /// A seat that no reader had, with its mark.
+    fn new_seat(&mut self) -> Result<(SeatHandle, Arc<Mark>), Error> {
+        if self.next == self.cpus {
+            return Err(Error::AllTaken);
+        }
+        let seat = self.rcu.seat(self.next)?;
+        self.next += 1;
+        let mark = Arc::new(Mark::default());
+        self.marks.push(Arc::clone(&mark));
+        Ok((seat, mark))
+    }
+
+    /// Whether this thread has a section open, for which it would wait. It costs a load a reader.
+    fn is_in_own_section(&self) -> bool {
+        self.marks.iter().any(|it| it.is_own())
+    }
+
     fn begin(&mut self) {
         self.rcu.begin();
         self.runs = true;
@@ -106,16 +126,16 @@ impl Inner {
         };
         let boot = rcu.seat(0)?;
         boot.idle();
-        let free = (1..cpus as usize).map(|it| rcu.seat(it));
-        let free = free.collect::<Result<Vec<_>, _>>()?;
         Ok(Inner {
             id: IDS.fetch_add(1, Relaxed),
-            marks: (0..cpus).map(|_| Mark::default()).collect(),
             entries: map.map_or(0, |(sizes, _)| sizes.entries),
             locked: Mutex::new(Locked {
                 rcu,
                 boot,
-                free,
+                free: Vec::new(),
+                marks: Vec::new(),
+                next: 1,
+                cpus: cpus as usize,
                 runs: false,
                 making: false,
                 drivers: 0,
@@ -126,16 +146,6 @@ impl Inner {
             ended: Condvar::new(),
             queued: Condvar::new(),
         })
-    }
-
-    #[inline]
-    pub(crate) fn mark(&self, seat: &SeatHandle) -> &Mark {
-        &self.marks[seat.cpu()]
-    }
-
-    /// Whether this thread has a section open, for which it would wait. It costs a load a reader.
-    fn is_in_own_section(&self) -> bool {
-        self.marks.iter().any(Mark::is_own)
     }
 
     pub(crate) fn lock(&self) -> MutexGuard<'_, Locked> {
@@ -264,10 +274,11 @@ impl Inner {
 
     /// Makes grace periods until the cookie is done, if the thread has no section open.
     pub(crate) fn wait_until(&self, cookie: u64) -> Result<(), NotPut> {
-        if self.is_in_own_section() {
+        let locked = self.lock();
+        if locked.is_in_own_section() {
             return Err(NotPut::InSection);
         }
-        drop(self.wait_for(self.lock(), cookie));
+        drop(self.wait_for(locked, cookie));
         Ok(())
     }
 
@@ -313,21 +324,24 @@ impl Inner {
     }
 
     /// A seat whose processor is online from now on.
-    pub(crate) fn seat(&self) -> Result<SeatHandle, Error> {
+    pub(crate) fn seat(&self) -> Result<(SeatHandle, Arc<Mark>), Error> {
         let mut locked = self.lock();
-        let seat = locked.free.pop().ok_or(Error::AllTaken)?;
+        let (seat, mark) = match locked.free.pop() {
+            Some(it) => it,
+            None => locked.new_seat()?,
+        };
         locked.rcu.arrive(&seat);
-        Ok(seat)
+        Ok((seat, mark))
     }
 
     /// The seat's processor departs, in no section. The next reader gets the seat.
-    pub(crate) fn give_back(&self, seat: SeatHandle) {
+    pub(crate) fn give_back(&self, seat: SeatHandle, mark: Arc<Mark>) {
         let mut locked = self.lock();
         locked.rcu.depart(&seat);
         if seat.wakes() {
             self.quiet.notify_one();
         }
-        locked.free.push(seat);
+        locked.free.push((seat, mark));
     }
 }
 
@@ -351,7 +365,7 @@ mod tests {
             entries: 1,
             seed: 0,
         };
-        let (engine, map) = Engine::with_map(1, sizes).unwrap();
+        let (engine, map) = Engine::with_map(sizes).unwrap();
         let shared = Shared::new(&engine, 7);
         map.insert(1, 7).unwrap();
         let mut reader = engine.reader().unwrap();

@@ -7,7 +7,7 @@
 //! use std::thread;
 //!
 //! # fn main() -> Result<(), rcu::Error> {
-//! let engine = Engine::new(8)?; // for up to 8 readers at a time
+//! let engine = Engine::new()?;
 //! let limits = Arc::new(Shared::new(&engine, (10, 20)));
 //!
 //! let mut reader = engine.reader()?;

@@ -43,7 +43,7 @@ pub struct MapSizes {
 ///
 /// # fn main() -> Result<(), Box<dyn std::error::Error>> {
 /// let sizes = MapSizes { buckets: 64, entries: 200, seed: 1 };
-/// let (engine, ports) = Engine::with_map::<u32, u16>(8, sizes)?;
+/// let (engine, ports) = Engine::with_map::<u32, u16>(sizes)?;
 /// ports.insert(7, 80)?;
 /// let mut reader = engine.reader()?;
 /// thread::scope(|scope| {
@@ -100,7 +100,7 @@ impl<K: Key, V: Value> Map<K, V> {
     /// # use rcu::{Engine, MapSizes};
     /// # fn main() -> Result<(), Box<dyn std::error::Error>> {
     /// # let sizes = MapSizes { buckets: 1, entries: 2, seed: 0 };
-    /// let (engine, map) = Engine::with_map(1, sizes)?;
+    /// let (engine, map) = Engine::with_map(sizes)?;
     /// map.insert('a', true)?;
     /// let reader = engine.reader()?;
     /// let guard = reader.enter();
@@ -125,7 +125,7 @@ impl<K: Key, V: Value> Map<K, V> {
     /// # use rcu::{Engine, MapSizes};
     /// # fn main() -> Result<(), Box<dyn std::error::Error>> {
     /// # let sizes = MapSizes { buckets: 4, entries: 3, seed: 0 };
-    /// let (engine, map) = Engine::with_map(1, sizes)?;
+    /// let (engine, map) = Engine::with_map(sizes)?;
     /// for key in 1..=3u8 {
     ///     map.insert(key, 10 * key)?;
     /// }
@@ -140,7 +140,7 @@ impl<K: Key, V: Value> Map<K, V> {
     /// ```compile_fail,E0505
     /// # use rcu::{Engine, MapSizes};
     /// # let sizes = MapSizes { buckets: 1, entries: 1, seed: 0 };
-    /// let (engine, map) = Engine::with_map::<u8, u8>(1, sizes).unwrap();
+    /// let (engine, map) = Engine::with_map::<u8, u8>(sizes).unwrap();
     /// let reader = engine.reader().unwrap();
     /// let guard = reader.enter();
     /// let entries = map.iter(&guard);
@@ -189,7 +189,7 @@ impl<K: Key, V: Value> Map<K, V> {
     /// # use rcu::{Engine, MapSizes, NotPut};
     /// # fn main() -> Result<(), Box<dyn std::error::Error>> {
     /// let sizes = MapSizes { buckets: 1, entries: 2, seed: 0 };
-    /// let (_, map) = Engine::with_map::<u8, u8>(1, sizes)?;
+    /// let (_, map) = Engine::with_map::<u8, u8>(sizes)?;
     /// map.insert(1, 10)?;
     /// for value in 11..100 {
     ///     assert_eq!(map.replace(1, value), Ok(Some(value - 1)));
@@ -222,7 +222,7 @@ impl<K: Key, V: Value> Map<K, V> {
     /// # use rcu::{Engine, Full, MapSizes};
     /// # fn main() -> Result<(), Box<dyn std::error::Error>> {
     /// # let sizes = MapSizes { buckets: 1, entries: 1, seed: 0 };
-    /// let (engine, map) = Engine::with_map::<u8, u8>(1, sizes)?;
+    /// let (engine, map) = Engine::with_map::<u8, u8>(sizes)?;
     /// map.insert(1, 10)?;
     /// let mut reader = engine.reader()?;
     /// let guard = reader.enter();

@@ -18,7 +18,7 @@ use std::sync::Arc;
 ///
 /// ```
 /// # fn main() -> Result<(), rcu::Error> {
-/// let engine = rcu::Engine::new(1)?;
+/// let engine = rcu::Engine::new()?;
 /// let shared = rcu::Shared::new(&engine, 7);
 /// let mut reader = engine.reader()?;
 /// for _ in 0..3 {
@@ -33,7 +33,7 @@ use std::sync::Arc;
 /// ```
 ///
 /// ```compile_fail,E0277
-/// let engine = rcu::Engine::new(1).unwrap();
+/// let engine = rcu::Engine::new().unwrap();
 /// let reader = engine.reader().unwrap();
 /// std::thread::scope(|scope| {
 ///     scope.spawn(|| drop(reader.enter())); // a reader of two threads
@@ -42,7 +42,7 @@ use std::sync::Arc;
 /// ```
 ///
 /// ```compile_fail,E0502
-/// let engine = rcu::Engine::new(1).unwrap();
+/// let engine = rcu::Engine::new().unwrap();
 /// let mut reader = engine.reader().unwrap();
 /// let guard = reader.enter();
 /// reader.quiesce(); // in a section
@@ -50,14 +50,14 @@ use std::sync::Arc;
 /// ```
 ///
 /// ```compile_fail,E0502
-/// let engine = rcu::Engine::new(1).unwrap();
+/// let engine = rcu::Engine::new().unwrap();
 /// let mut reader = engine.reader().unwrap();
 /// let guard = reader.enter();
 /// reader.while_idle(|| drop(guard)); // in a section
 /// ```
 ///
 /// ```compile_fail,E0502
-/// let engine = rcu::Engine::new(1).unwrap();
+/// let engine = rcu::Engine::new().unwrap();
 /// let mut reader = engine.reader().unwrap();
 /// reader.while_idle(|| drop(reader.enter())); // a section of an idle reader
 /// ```
@@ -65,6 +65,8 @@ use std::sync::Arc;
 pub struct Reader {
     inner: Arc<Inner>,
     seat: ManuallyDrop<SeatHandle>,
+    /// Which thread has a section of this reader open.
+    mark: Arc<Mark>,
 }
 
 /// An open section, which ends as the guard is dropped. The section of a guard that is forgotten
@@ -72,7 +74,7 @@ pub struct Reader {
 ///
 /// ```
 /// # fn main() -> Result<(), rcu::Error> {
-/// let engine = rcu::Engine::new(1)?;
+/// let engine = rcu::Engine::new()?;
 /// let shared = rcu::Shared::new(&engine, String::from("old"));
 /// let reader = engine.reader()?;
 /// let guard = reader.enter();
@@ -84,7 +86,7 @@ pub struct Reader {
 /// ```
 ///
 /// ```compile_fail,E0277
-/// let engine = rcu::Engine::new(1).unwrap();
+/// let engine = rcu::Engine::new().unwrap();
 /// let reader = engine.reader().unwrap();
 /// let guard = reader.enter();
 /// std::thread::scope(|scope| {
@@ -93,7 +95,7 @@ pub struct Reader {
 /// ```
 ///
 /// ```compile_fail,E0505
-/// let engine = rcu::Engine::new(1).unwrap();
+/// let engine = rcu::Engine::new().unwrap();
 /// let reader = engine.reader().unwrap();
 /// let guard = reader.enter();
 /// drop(reader); // in a section
@@ -112,10 +114,11 @@ struct Awake<'reader>(&'reader Reader);
 
 impl Reader {
     pub(crate) fn of(inner: &Arc<Inner>) -> Result<Reader, Error> {
-        let seat = ManuallyDrop::new(inner.seat()?);
+        let (seat, mark) = inner.seat()?;
         Ok(Reader {
             inner: Arc::clone(inner),
-            seat,
+            seat: ManuallyDrop::new(seat),
+            mark,
         })
     }
 
@@ -126,14 +129,8 @@ impl Reader {
     #[inline]
     pub fn enter(&self) -> Guard<'_> {
         self.seat.enter();
-        self.mark().set();
+        self.mark.set();
         Guard { reader: self }
-    }
-
-    /// Which thread has a section of this reader open.
-    #[inline]
-    fn mark(&self) -> &Mark {
-        self.inner.mark(&self.seat)
     }
 
     /// Calls the closure in a section, and passes a quiescent state behind it, also where the
@@ -144,7 +141,7 @@ impl Reader {
     ///
     /// ```
     /// # fn main() -> Result<(), rcu::Error> {
-    /// let engine = rcu::Engine::new(1)?;
+    /// let engine = rcu::Engine::new()?;
     /// let name = rcu::Shared::new(&engine, String::from("old"));
     /// let mut reader = engine.reader()?;
     /// assert_eq!(reader.read(|guard| name.load(guard).len()), 3);
@@ -153,7 +150,7 @@ impl Reader {
     /// ```
     ///
     /// ```compile_fail
-    /// let engine = rcu::Engine::new(1).unwrap();
+    /// let engine = rcu::Engine::new().unwrap();
     /// let name = rcu::Shared::new(&engine, String::from("old"));
     /// let mut reader = engine.reader().unwrap();
     /// let seen = reader.read(|guard| name.load(guard)); // it outlives the section
@@ -180,7 +177,7 @@ impl Reader {
     ///
     /// ```
     /// # fn main() -> Result<(), rcu::Error> {
-    /// let engine = rcu::Engine::new(1)?;
+    /// let engine = rcu::Engine::new()?;
     /// let mut reader = engine.reader()?;
     /// engine.defer(|| println!("no section is open any more"));
     /// assert_eq!(reader.while_idle(|| engine.run_deferred()), 1);
@@ -209,7 +206,7 @@ impl Reader {
         while self.seat.is_in_section() {
             self.seat.exit();
         }
-        self.mark().clear();
+        self.mark.clear();
     }
 }
 
@@ -218,7 +215,7 @@ impl Drop for Reader {
         self.quiesce();
         // SAFETY: the seat is used no more.
         let seat = unsafe { ManuallyDrop::take(&mut self.seat) };
-        self.inner.give_back(seat);
+        self.inner.give_back(seat, Arc::clone(&self.mark));
     }
 }
 
@@ -251,7 +248,7 @@ impl Drop for Guard<'_> {
     fn drop(&mut self) {
         self.reader.seat.exit();
         if !self.reader.seat.is_in_section() {
-            self.reader.mark().clear();
+            self.reader.mark.clear();
         }
     }
 }

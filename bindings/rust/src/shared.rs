@@ -14,7 +14,7 @@ use std::sync::{Arc, OnceLock};
 ///
 /// ```
 /// # fn main() -> Result<(), rcu::Error> {
-/// let engine = rcu::Engine::new(1)?;
+/// let engine = rcu::Engine::new()?;
 /// let shared = rcu::Shared::new(&engine, vec![1, 2, 3]);
 /// let mut reader = engine.reader()?;
 /// let kept = shared.load_arc(&reader.enter()); // beyond the section
@@ -26,7 +26,7 @@ use std::sync::{Arc, OnceLock};
 /// ```
 ///
 /// ```compile_fail,E0505
-/// let engine = rcu::Engine::new(1).unwrap();
+/// let engine = rcu::Engine::new().unwrap();
 /// let reader = engine.reader().unwrap();
 /// let shared = rcu::Shared::new(&engine, 1);
 /// let guard = reader.enter();
@@ -36,7 +36,7 @@ use std::sync::{Arc, OnceLock};
 /// ```
 ///
 /// ```compile_fail,E0505
-/// let engine = rcu::Engine::new(1).unwrap();
+/// let engine = rcu::Engine::new().unwrap();
 /// let reader = engine.reader().unwrap();
 /// let guard = reader.enter();
 /// let shared = rcu::Shared::new(&engine, 1);
@@ -46,12 +46,12 @@ use std::sync::{Arc, OnceLock};
 /// ```
 ///
 /// ```compile_fail,E0277
-/// let engine = rcu::Engine::new(1).unwrap();
+/// let engine = rcu::Engine::new().unwrap();
 /// rcu::Shared::new(&engine, std::rc::Rc::new(1)); // of one thread alone
 /// ```
 ///
 /// ```compile_fail,E0597
-/// let engine = rcu::Engine::new(1).unwrap();
+/// let engine = rcu::Engine::new().unwrap();
 /// let text = String::from("borrowed");
 /// let shared = rcu::Shared::new(&engine, text.as_str()); // it may go before its drop is done
 /// drop((shared, engine));
@@ -151,7 +151,7 @@ impl<T: Send + Sync + 'static> Shared<T> {
     /// use std::sync::Arc;
     ///
     /// # fn main() -> Result<(), rcu::Error> {
-    /// let engine = rcu::Engine::new(1)?;
+    /// let engine = rcu::Engine::new()?;
     /// let count = rcu::Shared::new(&engine, 1);
     /// assert_eq!(*count.swap(&engine, Arc::new(2)), 1);
     /// # Ok(())
@@ -180,7 +180,7 @@ impl<T: Send + Sync + 'static> Shared<T> {
     /// use std::sync::Arc;
     ///
     /// # fn main() -> Result<(), rcu::Error> {
-    /// let engine = rcu::Engine::new(1)?;
+    /// let engine = rcu::Engine::new()?;
     /// let count = rcu::Shared::new(&engine, 1);
     /// let reader = engine.reader()?;
     /// loop {

@@ -29,7 +29,7 @@ use std::num::NonZeroU64;
 ///
 /// # fn main() -> Result<(), Box<dyn std::error::Error>> {
 /// let sizes = MapSizes { buckets: 1, entries: 1, seed: 0 };
-/// let (_, map) = Engine::with_map::<char, Route>(1, sizes)?;
+/// let (_, map) = Engine::with_map::<char, Route>(sizes)?;
 /// let route = Route { port: 80, metric: 1, bytes: 1 << 40 };
 /// map.insert('a', route)?;
 /// assert_eq!(map.find('a'), Some(route));

@@ -16,7 +16,7 @@ const KEPT: usize = 64;
 fn what_is_replaced_with_nobody_who_drives_stays_bounded() {
     const MEBIBYTE: usize = 1 << 20;
     let alive = none_alive();
-    let engine = Engine::new(8).unwrap();
+    let engine = Engine::new().unwrap();
     let new = |round| (Counted::new(round, &alive), vec![1u8; MEBIBYTE]);
     let shared = Shared::new(&engine, new(0));
     for round in 1..=2000 {
@@ -30,7 +30,7 @@ fn what_is_replaced_with_nobody_who_drives_stays_bounded() {
 #[test]
 fn it_stays_bounded_beside_readers_that_pass_quiescent_states() {
     let alive = none_alive();
-    let engine = Engine::new(2).unwrap();
+    let engine = Engine::new().unwrap();
     let shared = Shared::new(&engine, Counted::new(0, &alive));
     let mut reader = engine.reader().unwrap();
     let mut asleep = engine.reader().unwrap();
@@ -47,7 +47,7 @@ fn it_stays_bounded_beside_readers_that_pass_quiescent_states() {
 #[test]
 fn what_a_section_may_read_is_kept_and_the_rest_done_once_it_ended() {
     let alive = none_alive();
-    let engine = Engine::new(1).unwrap();
+    let engine = Engine::new().unwrap();
     let shared = Shared::new(&engine, Counted::new(1, &alive));
     let mut reader = engine.reader().unwrap();
     let guard = reader.enter();
@@ -73,7 +73,7 @@ thread_local! {
 
 #[test]
 fn where_a_thread_drives_no_other_one_does_any_of_it() {
-    let engine = Engine::new(1).unwrap();
+    let engine = Engine::new().unwrap();
     let (drives, done) = (Arc::new(Barrier::new(2)), none_alive());
     thread::scope(|scope| {
         let driver = scope.spawn(|| engine.drive());
@@ -99,7 +99,7 @@ fn where_a_thread_drives_no_other_one_does_any_of_it() {
 
 #[test]
 fn what_is_deferred_under_a_lock_of_the_program_may_be_done_there() {
-    let engine = Engine::new(1).unwrap();
+    let engine = Engine::new().unwrap();
     let table: Mutex<Vec<Shared<u64>>> = Mutex::default();
     let dropped = none_alive();
     for round in 0..1000 {
@@ -134,7 +134,7 @@ fn defer_down(engine: &Engine, left: usize, deepest: &Arc<AtomicUsize>) {
 #[test]
 fn callbacks_that_defer_do_not_nest() {
     let deepest = none_alive();
-    let engine = Engine::new(1).unwrap();
+    let engine = Engine::new().unwrap();
     defer_down(&engine, 10, &deepest);
     while engine.run_deferred() > 0 {}
     assert_eq!(deepest.load(SeqCst), 1);
@@ -144,7 +144,7 @@ fn callbacks_that_defer_do_not_nest() {
 fn several_threads_replace_and_none_drives() {
     const THREADS: u64 = 3;
     let alive = none_alive();
-    let engine = Engine::new(THREADS as u32).unwrap();
+    let engine = Engine::new().unwrap();
     let shared = Shared::new(&engine, Counted::new(0, &alive));
     let over = AtomicBool::new(false);
     thread::scope(|scope| {

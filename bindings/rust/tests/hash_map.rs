@@ -107,20 +107,20 @@ fn answers_as_std<S: BuildHasher>((engine, map): (Engine, HashMap<String, String
 
 #[test]
 fn it_answers_as_a_map_of_std_does() {
-    answers_as_std(Engine::with_hash_map(1, sizes(4, 20)).unwrap());
+    answers_as_std(Engine::with_hash_map(sizes(4, 20)).unwrap());
 }
 
 #[test]
 fn keys_of_one_hash_are_told_apart() {
     let hasher = BuildHasherDefault::<Few>::default();
-    answers_as_std(Engine::with_hash_map_and_hasher(1, sizes(2, 4), hasher).unwrap());
+    answers_as_std(Engine::with_hash_map_and_hasher(sizes(2, 4), hasher).unwrap());
 }
 
 #[test]
 fn what_it_owned_is_dropped_once() {
     let alive = none_alive();
     let of = |value| Counted::new(value, &alive);
-    let (engine, map) = Engine::with_hash_map::<String, Counted>(1, sizes(1, 4)).unwrap();
+    let (engine, map) = Engine::with_hash_map::<String, Counted>(sizes(1, 4)).unwrap();
     let mut reader = engine.reader().unwrap();
     for key in ["a", "b", "c"] {
         assert!(map.insert(key.to_string(), of(1)).unwrap().is_none());
@@ -158,7 +158,7 @@ fn pairs_of_one_hash_are_dropped_once() {
     let alive = none_alive();
     let hasher = BuildHasherDefault::<Few>::default();
     let (engine, map) =
-        Engine::with_hash_map_and_hasher::<u8, Counted, _>(1, sizes(1, 3), hasher).unwrap();
+        Engine::with_hash_map_and_hasher::<u8, Counted, _>(sizes(1, 3), hasher).unwrap();
     for round in 0..50 {
         for key in 0..9 {
             assert!(
@@ -179,7 +179,7 @@ fn pairs_of_one_hash_are_dropped_once() {
 
 #[test]
 fn a_value_is_made_once_where_none_is_found() {
-    let (engine, map) = Engine::with_hash_map::<String, usize>(1, sizes(1, 1)).unwrap();
+    let (engine, map) = Engine::with_hash_map::<String, usize>(sizes(1, 1)).unwrap();
     let reader = engine.reader().unwrap();
     let guard = reader.enter();
     let key = || "key".to_string();
@@ -199,7 +199,7 @@ fn a_value_is_made_once_where_none_is_found() {
 
 #[test]
 fn it_is_refused_where_there_is_no_room() {
-    let (engine, map) = Engine::with_hash_map::<String, u8>(1, sizes(1, 2)).unwrap();
+    let (engine, map) = Engine::with_hash_map::<String, u8>(sizes(1, 2)).unwrap();
     let mut reader = engine.reader().unwrap();
     let put = |key: &str| map.put(key.to_string(), 0).map(|old| old.is_some());
     assert_eq!((put("a"), put("b")), (Ok(false), Ok(false)));
@@ -220,7 +220,7 @@ fn a_key_that_stays_is_found_whole() {
     const READERS: u32 = 3;
     const KEYS: usize = 24;
     const ROUNDS: usize = 1500;
-    let (engine, map) = Engine::with_hash_map::<String, String>(READERS, sizes(8, 64)).unwrap();
+    let (engine, map) = Engine::with_hash_map::<String, String>(sizes(8, 64)).unwrap();
     let value = |key: usize, round: usize| format!("{key} in {round} of {key}");
     for key in 0..KEYS {
         map.insert(key.to_string(), value(key, 0)).unwrap();

@@ -67,7 +67,7 @@ fn a_key_that_stays_is_found_and_listed_whole_while_others_come_and_go() {
     const STAY: u32 = 16;
     const KEYS: u32 = 48;
     const ROUNDS: u64 = 2000;
-    let (engine, map) = Engine::with_map::<u32, Whole>(READERS, sizes(8, 56)).unwrap();
+    let (engine, map) = Engine::with_map::<u32, Whole>(sizes(8, 56)).unwrap();
     for key in 0..STAY {
         map.insert(key, Whole(u64::from(key))).unwrap();
     }
@@ -139,7 +139,7 @@ fn it_answers_as_a_map_of_std_does() {
         (Map::put, Map::try_put),
     ];
     for buckets in [1, 5, 64] {
-        let (engine, map) = Engine::with_map(1, sizes(buckets, ROOM)).unwrap();
+        let (engine, map) = Engine::with_map(sizes(buckets, ROOM)).unwrap();
         let mut reader = engine.reader().unwrap();
         let (mut model, mut draws) = (HashMap::new(), Draws(buckets as u64));
         for round in 0..4000 {
@@ -183,7 +183,7 @@ fn it_answers_as_a_map_of_std_does() {
 
 #[test]
 fn what_a_section_may_read_keeps_its_room() {
-    let (engine, map) = Engine::with_map::<u8, u8>(1, sizes(1, 2)).unwrap();
+    let (engine, map) = Engine::with_map::<u8, u8>(sizes(1, 2)).unwrap();
     assert_eq!((map.insert(1, 10), map.insert(2, 20)), (Ok(None), Ok(None)));
     for call in [Map::insert, Map::put] {
         assert_eq!(call(&map, 3, 30), Err(NotPut::Full));
@@ -228,8 +228,8 @@ fn uses_all_room(map: &Map<u8, u8>, call: Waits<u8, u8>) -> Option<NotPut> {
 
 #[test]
 fn who_has_a_section_open_does_not_wait() {
-    let (engine, map) = Engine::with_map::<u8, u8>(2, sizes(1, 1)).unwrap();
-    let (elsewhere, _) = Engine::with_map::<u8, u8>(1, sizes(1, 1)).unwrap();
+    let (engine, map) = Engine::with_map::<u8, u8>(sizes(1, 1)).unwrap();
+    let (elsewhere, _) = Engine::with_map::<u8, u8>(sizes(1, 1)).unwrap();
     let (mut reader, mut other) = (engine.reader().unwrap(), engine.reader().unwrap());
     let of_elsewhere = elsewhere.reader().unwrap();
     let _guard = of_elsewhere.enter();
@@ -259,7 +259,7 @@ fn who_has_a_section_open_does_not_wait() {
 #[test]
 fn several_threads_wait_for_room() {
     const ROOM: usize = 4;
-    let (engine, map) = Engine::with_map::<u32, usize>(1, sizes(2, ROOM)).unwrap();
+    let (engine, map) = Engine::with_map::<u32, usize>(sizes(2, ROOM)).unwrap();
     for round in 0..20 {
         let reader = engine.reader().unwrap();
         let guard = reader.enter();
@@ -282,7 +282,7 @@ fn several_threads_wait_for_room() {
 
 #[test]
 fn updates_go_on_beside_deferral_and_a_driver() {
-    let (engine, map) = Engine::with_map::<u32, u32>(2, sizes(4, 8)).unwrap();
+    let (engine, map) = Engine::with_map::<u32, u32>(sizes(4, 8)).unwrap();
     thread::scope(|scope| {
         let driver = scope.spawn(|| engine.drive());
         let updaters: Vec<_> = (0..3)
@@ -312,8 +312,8 @@ fn updates_go_on_beside_deferral_and_a_driver() {
 
 #[test]
 fn maps_are_told_apart() {
-    let (one, map) = Engine::with_map::<u8, u8>(1, sizes(1, 1)).unwrap();
-    let (other, _) = Engine::with_map::<u8, u8>(1, sizes(1, 1)).unwrap();
+    let (one, map) = Engine::with_map::<u8, u8>(sizes(1, 1)).unwrap();
+    let (other, _) = Engine::with_map::<u8, u8>(sizes(1, 1)).unwrap();
     map.insert(1, 10).unwrap();
     let reader = other.reader().unwrap();
     let guard = reader.enter();
@@ -324,7 +324,7 @@ fn maps_are_told_apart() {
 
 #[test]
 fn a_map_keeps_its_engine() {
-    let (engine, map) = Engine::with_map::<u8, u8>(1, sizes(1, 1)).unwrap();
+    let (engine, map) = Engine::with_map::<u8, u8>(sizes(1, 1)).unwrap();
     let (own, reader) = (map.clone(), engine.reader().unwrap());
     drop((engine, map));
     own.insert(1, 10).unwrap();
@@ -337,7 +337,7 @@ fn a_map_keeps_its_engine() {
 #[test]
 fn sizes_that_no_map_has_are_refused() {
     const ALL: usize = usize::MAX;
-    let open = |readers, sizes| Engine::with_map::<u8, u8>(readers, sizes).err();
+    let open = |readers, sizes| Engine::with_map_and_limit::<u8, u8>(sizes, readers).err();
     for (buckets, entries) in [
         (0, 8),
         (1 << 32, 0),
@@ -350,11 +350,11 @@ fn sizes_that_no_map_has_are_refused() {
     }
     assert_eq!(open(0, sizes(1, 1)), Some(Error::BadCount));
     assert_eq!(open(4096, sizes(1, 1)), Some(Error::BadCount));
-    let most = |entries| Engine::with_map::<u8, [u64; 1000]>(1, sizes(1, entries)).err();
+    let most = |entries| Engine::with_map::<u8, [u64; 1000]>(sizes(1, entries)).err();
     assert_eq!(most((1 << 32) / 1002), Some(Error::BadSizes));
-    let none = Engine::with_map::<u8, [u64; 0]>(1, sizes(1, 1)).err();
+    let none = Engine::with_map::<u8, [u64; 0]>(sizes(1, 1)).err();
     assert_eq!(none, Some(Error::BadSizes));
-    let (engine, map) = Engine::with_map::<u8, u8>(1, sizes(1, 0)).unwrap();
+    let (engine, map) = Engine::with_map::<u8, u8>(sizes(1, 0)).unwrap();
     assert_eq!(map.put(1, 1), Err(NotPut::Full));
     assert_eq!(map.try_put(1, 1), Err(Full));
     assert_eq!((map.remove(1), map.len()), (None, 0));
@@ -387,7 +387,7 @@ where
     K: Key + Debug + PartialEq,
     V: Value + Debug + PartialEq,
 {
-    let (engine, map) = Engine::with_map(1, sizes(4, keys.len() + 1)).unwrap();
+    let (engine, map) = Engine::with_map(sizes(4, keys.len() + 1)).unwrap();
     for &value in values {
         for &key in keys {
             map.put(key, value).unwrap();
@@ -466,7 +466,7 @@ impl Word for Fragile {
 
 #[test]
 fn a_key_or_a_value_that_panics_leaves_the_map_as_it_is() {
-    let (engine, map) = Engine::with_map::<Fragile, Fragile>(1, sizes(2, 3)).unwrap();
+    let (engine, map) = Engine::with_map::<Fragile, Fragile>(sizes(2, 3)).unwrap();
     let mut reader = engine.reader().unwrap();
     assert!(panics(|| map.put(Fragile(0), Fragile(1))));
     assert!(panics(|| map.put(Fragile(1), Fragile(13))));

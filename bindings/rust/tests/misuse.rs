@@ -30,7 +30,7 @@ fn waits<T: Send>(work: impl FnOnce() -> T + Send, end: impl FnOnce()) -> bool {
 #[test]
 fn the_outer_guard_is_dropped_before_the_inner_one() {
     let alive = none_alive();
-    let engine = Engine::new(1).unwrap();
+    let engine = Engine::new().unwrap();
     let shared = Shared::new(&engine, Counted::new(1, &alive));
     let mut reader = engine.reader().unwrap();
     let outer = reader.enter();
@@ -52,7 +52,7 @@ fn the_outer_guard_is_dropped_before_the_inner_one() {
 #[test]
 fn guards_are_swapped() {
     let alive = none_alive();
-    let engine = Engine::new(2).unwrap();
+    let engine = Engine::new().unwrap();
     let shared = Shared::new(&engine, Counted::new(1, &alive));
     let (one, other) = (engine.reader().unwrap(), engine.reader().unwrap());
     let (mut first, mut second) = (one.enter(), other.enter());
@@ -72,7 +72,7 @@ fn guards_are_swapped() {
 #[test]
 fn a_reader_with_a_forgotten_guard_goes_to_another_thread() {
     let alive = none_alive();
-    let engine = Engine::new(1).unwrap();
+    let engine = Engine::new().unwrap();
     let shared = Shared::new(&engine, Counted::new(1, &alive));
     let reader = engine.reader().unwrap();
     mem::forget(reader.enter());
@@ -94,7 +94,7 @@ fn a_reader_with_a_forgotten_guard_goes_to_another_thread() {
 #[test]
 fn a_leaked_guard_keeps_its_reader_and_what_it_saw() {
     let alive = none_alive();
-    let engine = Engine::new(1).unwrap();
+    let engine = Engine::new().unwrap();
     let shared = Shared::new(&engine, Counted::new(1, &alive));
     let reader: &'static Reader = Box::leak(Box::new(engine.reader().unwrap()));
     let guard: &'static Guard<'static> = Box::leak(Box::new(reader.enter()));
@@ -107,7 +107,7 @@ fn a_leaked_guard_keeps_its_reader_and_what_it_saw() {
 #[test]
 fn readers_of_two_engines_are_swapped() {
     let alive = none_alive();
-    let (here, there) = (Engine::new(1).unwrap(), Engine::new(1).unwrap());
+    let (here, there) = (Engine::new().unwrap(), Engine::new().unwrap());
     let shared = Shared::new(&here, Counted::new(1, &alive));
     let (mut one, mut other) = (here.reader().unwrap(), there.reader().unwrap());
     mem::forget(one.enter());
@@ -129,7 +129,7 @@ fn readers_of_two_engines_are_swapped() {
 #[test]
 fn the_last_owner_is_a_reader_of_another_thread() {
     let alive = none_alive();
-    let engine = Engine::new(1).unwrap();
+    let engine = Engine::new().unwrap();
     let shared = Arc::new(Shared::new(&engine, Counted::new(1, &alive)));
     let reader = engine.reader().unwrap();
     mem::forget(reader.enter());
@@ -159,7 +159,7 @@ impl Drop for Again {
 #[test]
 fn data_defers_at_its_drop() {
     let alive = none_alive();
-    let engine = Engine::new(1).unwrap();
+    let engine = Engine::new().unwrap();
     let counted = Arc::new(Counted::new(1, &alive));
     engine.defer_drop(Arc::new(Again(3, engine.clone(), counted)));
     for _ in 0..4 {
@@ -171,7 +171,7 @@ fn data_defers_at_its_drop() {
 #[test]
 fn a_callback_defers_and_its_slot_goes_as_the_engine_does() {
     let alive = none_alive();
-    let engine = Engine::new(1).unwrap();
+    let engine = Engine::new().unwrap();
     let shared = Shared::new(&engine, Counted::new(1, &alive));
     shared.replace(&engine, Counted::new(2, &alive));
     engine.defer(move || drop(shared));
@@ -182,7 +182,7 @@ fn a_callback_defers_and_its_slot_goes_as_the_engine_does() {
 #[test]
 fn data_is_kept_beyond_its_section_and_its_engine() {
     let alive = none_alive();
-    let engine = Engine::new(1).unwrap();
+    let engine = Engine::new().unwrap();
     let shared = Shared::new(&engine, Counted::new(1, &alive));
     let mut reader = engine.reader().unwrap();
     let kept = shared.load_arc(&reader.enter());
@@ -194,7 +194,7 @@ fn data_is_kept_beyond_its_section_and_its_engine() {
 
 #[test]
 fn data_may_have_no_size() {
-    let engine = Engine::new(1).unwrap();
+    let engine = Engine::new().unwrap();
     let shared = Shared::new(&engine, ());
     let mut reader = engine.reader().unwrap();
     let kept = shared.load_arc(&reader.enter());
@@ -205,7 +205,7 @@ fn data_may_have_no_size() {
 
 #[test]
 fn sections_nest_so_deep_and_no_deeper() {
-    let engine = Engine::new(1).unwrap();
+    let engine = Engine::new().unwrap();
     let mut reader = engine.reader().unwrap();
     let mut guards: Vec<_> = (0..NEST).map(|_| reader.enter()).collect();
     assert!(catch_unwind(AssertUnwindSafe(|| drop(reader.enter()))).is_err());
@@ -223,7 +223,7 @@ fn panic_in(what: &str) {
             panic!("at a drop");
         }
     }
-    let engine = Engine::new(1).unwrap();
+    let engine = Engine::new().unwrap();
     match what {
         "callback" => engine.defer(|| panic!("in a callback")),
         _ => engine.defer_drop(Arc::new(Bad)),

@@ -25,7 +25,7 @@ fn all_that_is_replaced_is_dropped_and_none_too_early() {
     const READERS: u32 = 3;
     const UPDATES: u64 = 20_000;
     let alive = none_alive();
-    let engine = Engine::new(READERS).unwrap();
+    let engine = Engine::new().unwrap();
     let shared = Shared::new(&engine, Counted::new(0, &alive));
     let (over, begun) = (AtomicBool::new(false), Barrier::new(READERS as usize + 1));
     thread::scope(|scope| {
@@ -59,7 +59,7 @@ fn all_that_is_replaced_is_dropped_and_none_too_early() {
 
 #[test]
 fn readers_come_and_go() {
-    let engine = Engine::new(4).unwrap();
+    let engine = Engine::with_limit(4).unwrap();
     let shared = Shared::new(&engine, 7);
     thread::scope(|scope| {
         for _ in 0..4 {
@@ -86,7 +86,7 @@ fn readers_come_and_go() {
 #[test]
 fn a_section_is_waited_for() {
     let alive = none_alive();
-    let engine = Engine::new(2).unwrap();
+    let engine = Engine::new().unwrap();
     let shared = Shared::new(&engine, Counted::new(1, &alive));
     let mut reader = engine.reader().unwrap();
     let guard = reader.enter();
@@ -115,7 +115,7 @@ fn a_section_is_waited_for() {
 #[test]
 fn a_forgotten_guard_holds_its_section_open_until_the_reader_is_used_anew() {
     let alive = none_alive();
-    let engine = Engine::new(2).unwrap();
+    let engine = Engine::new().unwrap();
     let shared = Shared::new(&engine, Counted::new(1, &alive));
     let mut reader = engine.reader().unwrap();
     mem::forget(reader.enter());
@@ -142,7 +142,7 @@ fn a_forgotten_guard_holds_its_section_open_until_the_reader_is_used_anew() {
 #[test]
 fn a_forgotten_reader_leaks_and_frees_nothing() {
     let alive = none_alive();
-    let engine = Engine::new(1).unwrap();
+    let engine = Engine::new().unwrap();
     let shared = Shared::new(&engine, Counted::new(1, &alive));
     let reader = Box::leak(Box::new(engine.reader().unwrap()));
     let guard = Box::leak(Box::new(reader.enter()));
@@ -155,7 +155,7 @@ fn a_forgotten_reader_leaks_and_frees_nothing() {
 #[test]
 fn the_engine_outlives_its_readers_and_does_what_is_deferred() {
     let alive = none_alive();
-    let engine = Engine::new(2).unwrap();
+    let engine = Engine::new().unwrap();
     let shared = Shared::new(&engine, Counted::new(1, &alive));
     let reader = engine.reader().unwrap();
     let guard = reader.enter();
@@ -174,7 +174,7 @@ fn the_engine_outlives_its_readers_and_does_what_is_deferred() {
 
 #[test]
 fn what_is_deferred_may_call_all_but_a_barrier() {
-    let engine = Engine::new(2).unwrap();
+    let engine = Engine::new().unwrap();
     let shared = Arc::new(Shared::new(&engine, 1));
     let done = none_alive();
     let (own, slot, count) = (engine.clone(), Arc::clone(&shared), Arc::clone(&done));
@@ -199,7 +199,7 @@ fn what_is_deferred_may_call_all_but_a_barrier() {
 
 #[test]
 fn several_threads_wait_and_drive() {
-    let engine = Engine::new(2).unwrap();
+    let engine = Engine::new().unwrap();
     let done = none_alive();
     thread::scope(|scope| {
         let drivers: Vec<_> = (0..2).map(|_| scope.spawn(|| engine.drive())).collect();
@@ -227,7 +227,7 @@ fn several_threads_wait_and_drive() {
 
 #[test]
 fn a_thread_that_panics_leaves_its_sections() {
-    let engine = Engine::new(1).unwrap();
+    let engine = Engine::new().unwrap();
     let mut reader = engine.reader().unwrap();
     let panics = catch_unwind(AssertUnwindSafe(|| {
         let _guard = reader.enter();
@@ -244,7 +244,7 @@ fn a_thread_that_panics_leaves_its_sections() {
 
 #[test]
 fn engines_are_told_apart() {
-    let (one, other) = (Engine::new(1).unwrap(), Engine::new(1).unwrap());
+    let (one, other) = (Engine::new().unwrap(), Engine::new().unwrap());
     let shared = Shared::new(&one, 1);
     let reader = other.reader().unwrap();
     let guard = reader.enter();
@@ -256,10 +256,10 @@ fn engines_are_told_apart() {
 
 #[test]
 fn an_engine_has_1_to_4095_readers() {
-    assert_eq!(Engine::new(0).err(), Some(Error::BadCount));
-    assert_eq!(Engine::new(4096).err(), Some(Error::BadCount));
-    assert_eq!(Engine::new(u32::MAX).err(), Some(Error::BadCount));
-    let engine = Engine::new(4095).unwrap();
+    assert_eq!(Engine::with_limit(0).err(), Some(Error::BadCount));
+    assert_eq!(Engine::with_limit(4096).err(), Some(Error::BadCount));
+    assert_eq!(Engine::with_limit(u32::MAX).err(), Some(Error::BadCount));
+    let engine = Engine::new().unwrap();
     let all: Vec<_> = (0..4095).map(|_| engine.reader().unwrap()).collect();
     assert_eq!(engine.reader().err(), Some(Error::AllTaken));
     drop(all);

@@ -12,7 +12,7 @@ use std::thread;
 #[test]
 fn what_was_there_is_returned_and_dropped_with_its_last_owner() {
     let alive = none_alive();
-    let engine = Engine::new(1).unwrap();
+    let engine = Engine::new().unwrap();
     let shared = Shared::new(&engine, Counted::new(1, &alive));
     let mut reader = engine.reader().unwrap();
     let guard = reader.enter();
@@ -32,7 +32,7 @@ fn what_was_there_is_returned_and_dropped_with_its_last_owner() {
 #[test]
 fn a_slot_changes_only_where_it_has_what_was_compared() {
     let alive = none_alive();
-    let engine = Engine::new(1).unwrap();
+    let engine = Engine::new().unwrap();
     let shared = Shared::new(&engine, Counted::new(1, &alive));
     let reader = engine.reader().unwrap();
     let guard = reader.enter();
@@ -55,7 +55,7 @@ fn threads_count_by_comparing() {
     const THREADS: u64 = 4;
     const ROUNDS: u64 = 2000;
     let alive = none_alive();
-    let engine = Engine::new(THREADS as u32).unwrap();
+    let engine = Engine::new().unwrap();
     let shared = Shared::new(&engine, Counted::new(0, &alive));
     thread::scope(|scope| {
         for _ in 0..THREADS {
@@ -86,7 +86,7 @@ struct Settings {
 
 #[test]
 fn a_slot_with_no_engine_is_for_the_first_that_uses_it() {
-    let (one, other) = (Engine::new(1).unwrap(), Engine::new(1).unwrap());
+    let (one, other) = (Engine::new().unwrap(), Engine::new().unwrap());
     let settings = Settings::default();
     settings.name.replace(&one, String::from("one"));
     let reader = other.reader().unwrap();
@@ -112,7 +112,7 @@ fn a_slot_with_no_engine_is_for_the_first_that_uses_it() {
 
 #[test]
 fn a_read_ends_its_section_also_where_it_panics() {
-    let engine = Engine::new(1).unwrap();
+    let engine = Engine::new().unwrap();
     let shared = Shared::new(&engine, 7);
     let mut reader = engine.reader().unwrap();
     assert_eq!(reader.read(|guard| *shared.load(guard)), 7);
