@@ -53,10 +53,10 @@ pub struct Full;
 /// let (engine, map) = Engine::with_map::<u32, u32>(sizes)?;
 /// assert_eq!(map.insert(1, 10), Ok(None));
 /// assert_eq!(map.insert(2, 20), Err(NotPut::Full));
-/// map.remove(1);
 /// let reader = engine.reader()?;
 /// let guard = reader.enter();
-/// assert_eq!(map.insert(2, 20), Err(NotPut::InSection)); // it would wait for the guard
+/// assert_eq!(map.replace(1, 11), Ok(Some(10))); // the section may read 10
+/// assert_eq!(map.replace(1, 12), Err(NotPut::InSection)); // it would wait for the guard
 /// # Ok(())
 /// # }
 /// ```

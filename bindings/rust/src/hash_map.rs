@@ -8,15 +8,17 @@
 
 use crate::deferred::Deferred;
 use crate::error::{Full, NotPut};
-use crate::handles::{EngineHandle, SeatHandle};
-use crate::inner::{Inner, PutCall, Refused};
+use crate::handles::SeatHandle;
+use crate::inner::Inner;
 use crate::pairs::{owned, pairs_at, parts_of, places_of, Others, Pair, Pairs, Places};
 use crate::reader::Guard;
+use crate::updates::{How, Refused};
 use std::borrow::Borrow;
 use std::fmt;
 use std::hash::{BuildHasher, Hash, RandomState};
 use std::marker::PhantomData;
 use std::num::NonZeroU64;
+use std::ptr;
 use std::sync::atomic::{AtomicUsize, Ordering::AcqRel, Ordering::Acquire};
 use std::sync::{Arc, Mutex, MutexGuard, PoisonError};
 
@@ -166,9 +168,9 @@ where
     /// Puts places of these pairs in the place of those of the hash, and returns those: their owner
     /// defers them, with the lock let go.
     fn put_pairs(&self, hash: NonZeroU64, pairs: Others<K, V>) -> Result<Option<Places>, Refused> {
-        let put: PutCall<Places> = EngineHandle::map_put;
         let places = places_of(pairs);
-        self.inner.put_once(put, hash, places).inspect_err(|_| {
+        let put = self.inner.put_once(How::Put, hash, places);
+        put.inspect_err(|_| {
             // SAFETY: they are in no map.
             drop(unsafe { owned::<K, V>(places) });
         })
@@ -185,19 +187,19 @@ where
         }
     }
 
-    /// Puts the pair in, if that is wanted where its key is there or is not. Returns the pair that
-    /// had the key.
+    /// Puts the pair in, if that is wanted where this pair has its key, or none. Returns the pair
+    /// that had the key.
     fn put_once(
         &self,
         pair: &Arc<Pair<K, V>>,
-        wanted: fn(bool) -> bool,
+        wanted: impl Fn(Option<&Pair<K, V>>) -> bool,
     ) -> Result<Option<Arc<Pair<K, V>>>, Refused> {
         let hash = self.hash(&pair.key);
         let updates = self.lock();
         let mut pairs = self.pairs_of(hash).unwrap_or_default();
         let at = pairs.iter().position(|it| it.key == pair.key);
         let old = at.map(|at| Arc::clone(&pairs[at]));
-        if !wanted(old.is_some()) {
+        if !wanted(old.as_deref()) {
             return Ok(old);
         }
         match at {
@@ -218,11 +220,11 @@ where
         &self,
         key: K,
         value: V,
-        wanted: fn(bool) -> bool,
+        wanted: impl Fn(Option<&Pair<K, V>>) -> bool,
     ) -> Result<Option<Arc<Pair<K, V>>>, NotPut> {
         let pair = Pair::new(key, value);
         loop {
-            match self.put_once(&pair, wanted) {
+            match self.put_once(&pair, &wanted) {
                 Ok(old) => return Ok(old),
                 Err(Refused::Full) => return Err(NotPut::Full),
                 Err(Refused::Until(cookie)) => self.inner.wait_until(cookie)?,
@@ -237,16 +239,44 @@ where
     /// [`NotPut::Full`] where no entry has the key, and there are as many as the map has room for;
     /// [`NotPut::InSection`] where it would wait, and the thread has a section open.
     pub fn insert(&self, key: K, value: V) -> Result<Option<Arc<Pair<K, V>>>, NotPut> {
-        self.put_by(key, value, |is_there| !is_there)
+        self.put_by(key, value, |old| old.is_none())
     }
 
     /// Puts an entry in the place of the one that has its key, and returns that. Where none has it,
     /// nothing happens.
     ///
     /// # Errors
-    /// As of [`HashMap::insert`].
+    /// [`NotPut::InSection`] as of [`HashMap::insert`]. It is never [`NotPut::Full`].
     pub fn replace(&self, key: K, value: V) -> Result<Option<Arc<Pair<K, V>>>, NotPut> {
-        self.put_by(key, value, |is_there| is_there)
+        self.put_by(key, value, |old| old.is_some())
+    }
+
+    /// Replaces the entry of a key if its value is `current`: that one, and not one that is equal to
+    /// it. As long as that is borrowed, no other value has its place. Returns whether it did.
+    ///
+    /// # Errors
+    /// As of [`HashMap::replace`].
+    ///
+    /// ```
+    /// # use rcu::{Engine, MapSizes};
+    /// # fn main() -> Result<(), Box<dyn std::error::Error>> {
+    /// # let sizes = MapSizes { buckets: 1, entries: 1, seed: 0 };
+    /// let (engine, map) = Engine::with_hash_map::<String, String>(sizes)?;
+    /// map.insert("key".to_string(), "old".to_string())?;
+    /// let reader = engine.reader()?;
+    /// let guard = reader.enter();
+    /// let seen = map.get(&guard, "key").unwrap();
+    /// assert!(map.compare_replace("key".to_string(), seen, format!("not {seen}"))?);
+    /// assert!(!map.compare_remove("key", seen)); // it has another one by now
+    /// assert_eq!(map.get(&guard, "key").unwrap(), "not old");
+    /// # Ok(())
+    /// # }
+    /// ```
+    pub fn compare_replace(&self, key: K, current: &V, value: V) -> Result<bool, NotPut> {
+        let is_current =
+            |old: Option<&Pair<K, V>>| old.is_some_and(|it| ptr::eq(&it.value, current));
+        let old = self.put_by(key, value, is_current)?;
+        Ok(is_current(old.as_deref()))
     }
 
     /// Puts an entry in, in the place of the one that has its key where there is one. Returns that.
@@ -292,7 +322,7 @@ where
             return Ok(value);
         }
         let pair = Pair::new(key, make());
-        let put = self.put_once(&pair, |is_there| !is_there);
+        let put = self.put_once(&pair, |old| old.is_none());
         let pair = put.map_err(|_| Full)?.unwrap_or(pair);
         // SAFETY: it is in the map, or was in the section, and the map is borrowed. The map's part
         // of it stays until the section ends.
@@ -304,10 +334,34 @@ where
     where
         K: Borrow<Q>,
     {
+        self.remove_if(key, |_| true)
+    }
+
+    /// Takes the entry of a key out if its value is `current`, as [`HashMap::compare_replace`].
+    /// Returns whether it did. It waits for nobody.
+    pub fn compare_remove<Q: Eq + Hash + ?Sized>(&self, key: &Q, current: &V) -> bool
+    where
+        K: Borrow<Q>,
+    {
+        self.remove_if(key, |it| ptr::eq(&it.value, current))
+            .is_some()
+    }
+
+    fn remove_if<Q: Eq + Hash + ?Sized>(
+        &self,
+        key: &Q,
+        is_wanted: impl FnOnce(&Pair<K, V>) -> bool,
+    ) -> Option<Arc<Pair<K, V>>>
+    where
+        K: Borrow<Q>,
+    {
         let hash = self.hash(key);
         let updates = self.lock();
         let mut pairs = self.pairs_of(hash)?;
         let at = pairs.iter().position(|it| it.key.borrow() == key)?;
+        if !is_wanted(&pairs[at]) {
+            return None;
+        }
         let places = self.take_out(hash, &pairs[at], pairs.len());
         drop(updates);
         self.defer(places);

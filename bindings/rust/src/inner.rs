@@ -1,12 +1,10 @@
 //! The engine under its lock, and how its grace periods are made.
 
 use crate::deferred::{is_performing, Deferred, Queue};
-use crate::error::{Error, Full, NotPut};
-use crate::handles::{EngineHandle, Put, SeatHandle};
+use crate::error::Error;
+use crate::handles::{EngineHandle, SeatHandle};
 use crate::map::MapSizes;
 use crate::marks::Mark;
-use crate::words::Words;
-use std::num::NonZeroU64;
 use std::sync::atomic::{AtomicU64, Ordering::Relaxed};
 use std::sync::{Arc, Condvar, Mutex, MutexGuard};
 
@@ -22,20 +20,11 @@ const MOST: usize = 64;
 /// No code of a caller's runs under the lock.
 const PANICKED: &str = "a thread panicked under the engine's lock";
 
-/// How an entry is put into the map.
-pub(crate) type PutCall<W> = fn(&mut EngineHandle, NonZeroU64, W) -> Put<W>;
-
-/// Why an entry was not put in: there is no room for it, or there may be once this cookie is done.
-pub(crate) enum Refused {
-    Full,
-    Until(u64),
-}
-
 /// What lies under the lock.
 pub(crate) struct Locked {
     pub(crate) rcu: EngineHandle,
     /// The seat of processor 0, which is nobody's, and idle.
-    boot: SeatHandle,
+    pub(crate) boot: SeatHandle,
     /// Seats that readers gave back, with their marks. Their processors are offline.
     free: Vec<(SeatHandle, Arc<Mark>)>,
     /// Those of all seats that were dealt.
@@ -46,7 +35,7 @@ pub(crate) struct Locked {
     /// Whether a grace period runs.
     runs: bool,
     /// Whether a thread makes grace periods, and waits for them.
-    making: bool,
+    pub(crate) making: bool,
     /// How many threads drive, and whether they are to return.
     pub(crate) drivers: usize,
     pub(crate) stopped: bool,
@@ -58,11 +47,17 @@ pub(crate) struct Locked {
 pub(crate) struct Inner {
     pub(crate) id: u64,
     /// How many entries its map has room for.
-    entries: usize,
+    pub(crate) entries: usize,
     locked: Mutex<Locked>,
     quiet: Condvar,
     pub(crate) ended: Condvar,
     pub(crate) queued: Condvar,
+}
+
+/// The sizes with room for one entry more, by which each entry of a full map can be replaced.
+fn with_spare(sizes: MapSizes) -> Result<MapSizes, Error> {
+    let entries = sizes.entries.checked_add(1).ok_or(Error::BadSizes)?;
+    Ok(MapSizes { entries, ..sizes })
 }
 
 impl Locked {
@@ -79,7 +74,7 @@ impl Locked {
     }
 
     /// Whether this thread has a section open, for which it would wait. It costs a load a reader.
-    fn is_in_own_section(&self) -> bool {
+    pub(crate) fn is_in_own_section(&self) -> bool {
         self.marks.iter().any(|it| it.is_own())
     }
 
@@ -99,7 +94,7 @@ impl Locked {
     }
 
     /// Goes on with the grace periods that the cookie waits for, and waits for none.
-    fn step(&mut self, cookie: u64) {
+    pub(crate) fn step(&mut self, cookie: u64) {
         for _ in 0..ENDS {
             if !self.runs {
                 if self.rcu.is_done(cookie) {
@@ -121,7 +116,7 @@ impl Inner {
         static IDS: AtomicU64 = AtomicU64::new(0);
         let cpus = readers + 1;
         let mut rcu = match map {
-            Some((sizes, words)) => EngineHandle::open_map(cpus, sizes, words)?,
+            Some((sizes, words)) => EngineHandle::open_map(cpus, with_spare(sizes)?, words)?,
             None => EngineHandle::open(cpus)?,
         };
         let boot = rcu.seat(0)?;
@@ -182,7 +177,7 @@ impl Inner {
     }
 
     /// Makes grace periods until the cookie is done, or sleeps while another thread makes one.
-    fn wait_for<'a>(
+    pub(crate) fn wait_for<'a>(
         &self,
         mut locked: MutexGuard<'a, Locked>,
         cookie: u64,
@@ -252,75 +247,6 @@ impl Inner {
             Some(cookie) => self.perform(self.wait_for(locked, cookie), usize::MAX),
             None => 0,
         }
-    }
-
-    /// Puts an entry into the map, and waits for nobody.
-    pub(crate) fn put_once<W: Words>(
-        &self,
-        put: PutCall<W>,
-        key: NonZeroU64,
-        value: W,
-    ) -> Result<Option<W>, Refused> {
-        let mut locked = self.lock();
-        let cookie = locked.rcu.map_age();
-        put(&mut locked.rcu, key, value).map_err(|Full| {
-            if locked.rcu.map_len() == self.entries {
-                Refused::Full
-            } else {
-                Refused::Until(cookie)
-            }
-        })
-    }
-
-    /// Makes grace periods until the cookie is done, if the thread has no section open.
-    pub(crate) fn wait_until(&self, cookie: u64) -> Result<(), NotPut> {
-        let locked = self.lock();
-        if locked.is_in_own_section() {
-            return Err(NotPut::InSection);
-        }
-        drop(self.wait_for(locked, cookie));
-        Ok(())
-    }
-
-    /// Puts an entry into the map. Where no node is free, but one will be, it waits for that.
-    pub(crate) fn put<W: Words>(
-        &self,
-        put: PutCall<W>,
-        key: NonZeroU64,
-        value: W,
-    ) -> Result<Option<W>, NotPut> {
-        loop {
-            match self.put_once(put, key, value) {
-                Ok(old) => return Ok(old),
-                Err(Refused::Full) => return Err(NotPut::Full),
-                Err(Refused::Until(cookie)) => self.wait_until(cookie)?,
-            }
-        }
-    }
-
-    /// Puts an entry into the map. Where no node is free it goes on with the grace periods, and
-    /// waits for none.
-    pub(crate) fn try_put<W: Words>(&self, put: PutCall<W>, key: NonZeroU64, value: W) -> Put<W> {
-        let mut locked = self.lock();
-        let cookie = locked.rcu.map_age();
-        let done = put(&mut locked.rcu, key, value);
-        if done.is_ok() || locked.making || locked.rcu.map_len() == self.entries {
-            return done;
-        }
-        locked.step(cookie);
-        locked.rcu.map_age();
-        put(&mut locked.rcu, key, value)
-    }
-
-    /// The entry of the map behind a key, as a section of processor 0 finds it.
-    pub(crate) fn next_entry<W: Words>(&self, key: u64) -> Option<(NonZeroU64, W)> {
-        let locked = self.lock();
-        locked.boot.wake();
-        locked.boot.enter();
-        let next = locked.boot.map_next(key);
-        locked.boot.exit();
-        locked.boot.idle();
-        next
     }
 
     /// A seat whose processor is online from now on.

@@ -63,6 +63,7 @@ mod reader;
 #[allow(clippy::undocumented_unsafe_blocks)] // its head has the reason for all
 pub mod replica;
 mod shared;
+mod updates;
 mod words;
 
 pub use engine::Engine;

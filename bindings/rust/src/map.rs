@@ -1,9 +1,10 @@
 //! The map of an engine.
 
 use crate::error::{Full, NotPut};
-use crate::handles::{EngineHandle, SeatHandle};
-use crate::inner::{Inner, PutCall};
+use crate::handles::SeatHandle;
+use crate::inner::Inner;
 use crate::reader::Guard;
+use crate::updates::How;
 use crate::words::{Key, Value};
 use std::fmt;
 use std::iter::FusedIterator;
@@ -158,13 +159,13 @@ impl<K: Key, V: Value> Map<K, V> {
 
     /// No code of a caller's runs under the lock: what a key and a value are as words is asked
     /// before.
-    fn put_by(&self, put: PutCall<V::Words>, key: K, value: V) -> Result<Option<V>, NotPut> {
-        let old = self.inner.put(put, key.to_key(), value.to_words())?;
+    fn put_by(&self, how: How<V::Words>, key: K, value: V) -> Result<Option<V>, NotPut> {
+        let old = self.inner.put(how, key.to_key(), value.to_words())?;
         Ok(old.map(V::of_words))
     }
 
-    fn try_put_by(&self, put: PutCall<V::Words>, key: K, value: V) -> Result<Option<V>, Full> {
-        let old = self.inner.try_put(put, key.to_key(), value.to_words())?;
+    fn try_put_by(&self, how: How<V::Words>, key: K, value: V) -> Result<Option<V>, Full> {
+        let old = self.inner.try_put(how, key.to_key(), value.to_words())?;
         Ok(old.map(V::of_words))
     }
 
@@ -175,18 +176,18 @@ impl<K: Key, V: Value> Map<K, V> {
     /// [`NotPut::Full`] where no entry has the key, and there are as many as the map has room for;
     /// [`NotPut::InSection`] where it would wait, and the thread has a section open.
     pub fn insert(&self, key: K, value: V) -> Result<Option<V>, NotPut> {
-        self.put_by(EngineHandle::map_insert, key, value)
+        self.put_by(How::Insert, key, value)
     }
 
     /// Replaces the value of a key, and returns the old one. Where no entry has the key, nothing
     /// happens. It may wait, as [`Map`] says.
     ///
     /// # Errors
-    /// [`NotPut::Full`] where an entry has the key, and there are as many as the map has room for:
-    /// a replacement needs room too. [`NotPut::InSection`] as of [`Map::insert`].
+    /// [`NotPut::InSection`] as of [`Map::insert`]. It is never [`NotPut::Full`]: the map keeps room
+    /// for a replacement.
     ///
     /// ```
-    /// # use rcu::{Engine, MapSizes, NotPut};
+    /// # use rcu::{Engine, MapSizes};
     /// # fn main() -> Result<(), Box<dyn std::error::Error>> {
     /// let sizes = MapSizes { buckets: 1, entries: 2, seed: 0 };
     /// let (_, map) = Engine::with_map::<u8, u8>(sizes)?;
@@ -195,22 +196,21 @@ impl<K: Key, V: Value> Map<K, V> {
     ///     assert_eq!(map.replace(1, value), Ok(Some(value - 1)));
     /// }
     /// map.insert(2, 20)?;
-    /// assert_eq!(map.replace(1, 100), Err(NotPut::Full));
+    /// assert_eq!(map.replace(1, 100), Ok(Some(99))); // it is full, and replaces
     /// # Ok(())
     /// # }
     /// ```
     pub fn replace(&self, key: K, value: V) -> Result<Option<V>, NotPut> {
-        self.put_by(EngineHandle::map_replace, key, value)
+        self.put_by(How::Replace, key, value)
     }
 
     /// Puts an entry in, in the place of the one that has its key where there is one. Returns the
     /// value of that. It may wait, as [`Map`] says.
     ///
     /// # Errors
-    /// [`NotPut::Full`] where there are as many entries as the map has room for;
-    /// [`NotPut::InSection`] as of [`Map::insert`].
+    /// As of [`Map::insert`].
     pub fn put(&self, key: K, value: V) -> Result<Option<V>, NotPut> {
-        self.put_by(EngineHandle::map_put, key, value)
+        self.put_by(How::Put, key, value)
     }
 
     /// As [`Map::insert`], but waits for nobody: where no room is free it moves the engine on.
@@ -226,6 +226,7 @@ impl<K: Key, V: Value> Map<K, V> {
     /// map.insert(1, 10)?;
     /// let mut reader = engine.reader()?;
     /// let guard = reader.enter();
+    /// map.replace(1, 11)?;
     /// map.remove(1);
     /// assert_eq!(map.try_insert(2, 20), Err(Full)); // the section may read what was there
     /// drop(guard);
@@ -235,23 +236,79 @@ impl<K: Key, V: Value> Map<K, V> {
     /// # }
     /// ```
     pub fn try_insert(&self, key: K, value: V) -> Result<Option<V>, Full> {
-        self.try_put_by(EngineHandle::map_insert, key, value)
+        self.try_put_by(How::Insert, key, value)
     }
 
     /// As [`Map::replace`], but waits for nobody, as [`Map::try_insert`].
     ///
     /// # Errors
-    /// [`Full`] where an entry has the key, and no room is free, or none yet.
+    /// [`Full`] where an entry has the key, and no room is free yet.
     pub fn try_replace(&self, key: K, value: V) -> Result<Option<V>, Full> {
-        self.try_put_by(EngineHandle::map_replace, key, value)
+        self.try_put_by(How::Replace, key, value)
     }
 
     /// As [`Map::put`], but waits for nobody, as [`Map::try_insert`].
     ///
     /// # Errors
-    /// [`Full`] where no room is free, or none yet.
+    /// As of [`Map::try_insert`] and [`Map::try_replace`].
     pub fn try_put(&self, key: K, value: V) -> Result<Option<V>, Full> {
-        self.try_put_by(EngineHandle::map_put, key, value)
+        self.try_put_by(How::Put, key, value)
+    }
+
+    /// Replaces the value of a key if it is `current`. Returns the value that the key had: so it was
+    /// replaced where that is `current`. It may wait, as [`Map`] says.
+    ///
+    /// # Errors
+    /// As of [`Map::replace`].
+    ///
+    /// ```
+    /// # use rcu::{Engine, MapSizes};
+    /// # fn main() -> Result<(), Box<dyn std::error::Error>> {
+    /// # let sizes = MapSizes { buckets: 1, entries: 1, seed: 0 };
+    /// let (engine, counts) = Engine::with_map::<char, u64>(sizes)?;
+    /// counts.insert('a', 0)?;
+    /// let mut reader = engine.reader()?;
+    /// loop {
+    ///     let seen = reader.read(|guard| counts.get(guard, 'a')).unwrap();
+    ///     let next = || counts.compare_replace('a', seen, seen + 1); // two threads may count so
+    ///     if reader.while_idle(next)? == Some(seen) {
+    ///         break;
+    ///     }
+    /// }
+    /// assert_eq!(counts.find('a'), Some(1));
+    /// # Ok(())
+    /// # }
+    /// ```
+    pub fn compare_replace(&self, key: K, current: V, new: V) -> Result<Option<V>, NotPut> {
+        self.put_by(How::Compare(current.to_words()), key, new)
+    }
+
+    /// As [`Map::compare_replace`], but waits for nobody, as [`Map::try_insert`].
+    ///
+    /// # Errors
+    /// As of [`Map::try_replace`].
+    pub fn try_compare_replace(&self, key: K, current: V, new: V) -> Result<Option<V>, Full> {
+        self.try_put_by(How::Compare(current.to_words()), key, new)
+    }
+
+    /// Takes the entry of a key out if its value is `current`. Returns the value that the key had.
+    /// It waits for nobody.
+    ///
+    /// ```
+    /// # use rcu::{Engine, MapSizes};
+    /// # fn main() -> Result<(), Box<dyn std::error::Error>> {
+    /// # let sizes = MapSizes { buckets: 1, entries: 1, seed: 0 };
+    /// let (_, map) = Engine::with_map::<char, u64>(sizes)?;
+    /// map.insert('a', 7)?;
+    /// assert_eq!((map.compare_remove('a', 8), map.len()), (Some(7), 1));
+    /// assert_eq!((map.compare_remove('a', 7), map.len()), (Some(7), 0));
+    /// # Ok(())
+    /// # }
+    /// ```
+    pub fn compare_remove(&self, key: K, current: V) -> Option<V> {
+        let current = current.to_words();
+        let old = self.inner.remove_if(key.to_key(), |old| *old == current);
+        old.map(V::of_words)
     }
 
     /// Takes the entry of a key out, and returns its value. It waits for nobody.

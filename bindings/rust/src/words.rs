@@ -48,7 +48,7 @@ pub trait Value: Copy {
 }
 
 /// So many words: `[u64; N]`, and nothing else.
-pub trait Words: Copy + own::Sealed {
+pub trait Words: Copy + PartialEq + own::Sealed {
     /// How many they are.
     const COUNT: usize;
 

@@ -198,6 +198,25 @@ fn a_value_is_made_once_where_none_is_found() {
 }
 
 #[test]
+fn an_entry_is_replaced_and_removed_where_it_is_the_current_one() {
+    let (engine, map) = Engine::with_hash_map::<u8, String>(sizes(1, 2)).unwrap();
+    let value = || "equal".to_string();
+    (0..2).for_each(|key| assert!(map.insert(key, value()).unwrap().is_none()));
+    let reader = engine.reader().unwrap();
+    let guard = reader.enter();
+    let (one, other) = (map.get(&guard, &0).unwrap(), map.get(&guard, &1).unwrap());
+    assert_eq!(map.compare_replace(0, other, value()), Ok(false));
+    assert_eq!(map.compare_replace(2, one, value()), Ok(false));
+    assert!(!map.compare_remove(&0, other));
+    assert_eq!(map.compare_replace(0, one, value()), Ok(true));
+    assert_eq!(map.compare_replace(0, one, value()), Ok(false));
+    assert!(!map.compare_remove(&0, one));
+    assert!(map.compare_remove(&0, map.get(&guard, &0).unwrap()));
+    assert!(map.compare_remove(&1, other));
+    assert!(map.is_empty());
+}
+
+#[test]
 fn it_is_refused_where_there_is_no_room() {
     let (engine, map) = Engine::with_hash_map::<String, u8>(sizes(1, 2)).unwrap();
     let mut reader = engine.reader().unwrap();

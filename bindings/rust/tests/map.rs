@@ -148,7 +148,7 @@ fn it_answers_as_a_map_of_std_does() {
             let which = draws.below(4) as usize;
             if which < 3 {
                 let wants = [there.is_none(), there.is_some(), true][which];
-                let wanted = if fits || !wants {
+                let wanted = if fits || !wants || there.is_some() {
                     Ok(there)
                 } else {
                     Err(NotPut::Full)
@@ -162,7 +162,7 @@ fn it_answers_as_a_map_of_std_does() {
                     reader.while_idle(tries)
                 };
                 assert_eq!(done, wanted);
-                if wants && fits {
+                if wants && wanted.is_ok() {
                     model.insert(key, value);
                 }
             } else {
@@ -191,11 +191,11 @@ fn what_a_section_may_read_keeps_its_room() {
     for call in [Map::try_insert, Map::try_put] {
         assert_eq!(call(&map, 3, 30), Err(Full));
     }
-    for call in [Map::replace, Map::put] {
-        assert_eq!(call(&map, 1, 11), Err(NotPut::Full));
+    for call in [Map::replace, Map::put, Map::replace] {
+        assert_eq!(call(&map, 1, 10), Ok(Some(10)));
     }
     for call in [Map::try_replace, Map::try_put] {
-        assert_eq!(call(&map, 1, 11), Err(Full));
+        assert_eq!(call(&map, 1, 10), Ok(Some(10)));
     }
     assert_eq!(
         (map.insert(1, 11), map.replace(3, 30)),
@@ -254,6 +254,50 @@ fn who_has_a_section_open_does_not_wait() {
     assert_eq!(uses_all_room(&map, Map::put), Some(NotPut::InSection));
     let put = || other.while_idle(|| map.put(9, 9));
     assert_eq!(reader.while_idle(put), Ok(None));
+}
+
+#[test]
+fn a_value_is_replaced_and_removed_where_it_is_the_current_one() {
+    type Words = [u64; 2];
+    let (engine, map) = Engine::with_map::<u8, Words>(sizes(1, 1)).unwrap();
+    assert_eq!(map.compare_replace(1, [1, 2], [3, 4]), Ok(None));
+    assert_eq!(map.insert(1, [1, 2]), Ok(None));
+    for other in [[1, 3], [2, 2], [2, 1]] {
+        assert_eq!(map.compare_replace(1, other, [3, 4]), Ok(Some([1, 2])));
+        assert_eq!(map.try_compare_replace(1, other, [3, 4]), Ok(Some([1, 2])));
+        assert_eq!(map.compare_remove(1, other), Some([1, 2]));
+    }
+    assert_eq!(map.find(1), Some([1, 2]));
+    assert_eq!(map.compare_replace(1, [1, 2], [3, 4]), Ok(Some([1, 2])));
+    assert_eq!(map.try_compare_replace(1, [3, 4], [5, 6]), Ok(Some([3, 4])));
+    assert_eq!(map.compare_remove(2, [5, 6]), None);
+    assert_eq!(map.compare_remove(1, [5, 6]), Some([5, 6]));
+    assert_eq!((map.len(), map.compare_remove(1, [5, 6])), (0, None));
+    drop(engine);
+}
+
+#[test]
+fn threads_count_by_comparing() {
+    const THREADS: u64 = 3;
+    const EACH: u64 = 400;
+    let (engine, map) = Engine::with_map::<u8, u64>(sizes(1, 1)).unwrap();
+    map.insert(1, 0).unwrap();
+    let count = || {
+        let mut reader = engine.reader().unwrap();
+        for _ in 0..EACH {
+            loop {
+                let seen = reader.read(|guard| map.get(guard, 1)).unwrap();
+                let next = || map.compare_replace(1, seen, seen + 1);
+                if reader.while_idle(next) == Ok(Some(seen)) {
+                    break;
+                }
+            }
+        }
+    };
+    thread::scope(|scope| {
+        (0..THREADS).for_each(|_| drop(scope.spawn(count)));
+    });
+    assert_eq!(map.find(1), Some(THREADS * EACH));
 }
 
 #[test]
@@ -330,8 +374,9 @@ fn a_map_keeps_its_engine() {
     own.insert(1, 10).unwrap();
     assert_eq!(own.get(&reader.enter(), 1), Some(10));
     drop(reader);
-    assert_eq!(own.replace(1, 11), Err(NotPut::Full));
-    assert_eq!((own.remove(1), own.insert(2, 20)), (Some(10), Ok(None)));
+    assert_eq!(own.replace(1, 11), Ok(Some(10)));
+    assert_eq!(own.insert(2, 20), Err(NotPut::Full));
+    assert_eq!((own.remove(1), own.insert(2, 20)), (Some(11), Ok(None)));
 }
 
 #[test]
