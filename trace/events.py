@@ -40,7 +40,7 @@ def opened(path):
 
 def parsed(number, line):
     """The event of a line, or None. One of the name 'lost' stands for events that are not there."""
-    lost = LOST.match(line)
+    lost = LOST.match(line) if line[:1] in "C#" else None
     if lost:
         return Event(number, "", int(lost[1] or lost[2]), "", "lost", line.strip(), [])
     found = None if line.startswith("#") else LINE.match(line)

@@ -3,6 +3,7 @@ import sys
 
 from comparison import apart, awaited_as_said, cpus, members, snapshot
 from periods import words_of_grace_period
+from quiescence import NO_READERS
 
 # The engine's second grace period. A CPU that is being taken down as a stretch begins is gone then.
 SECOND = 5
@@ -66,7 +67,7 @@ class GracePeriods:
                 leaf = first, last
                 if leaf in self.blocked and not mask and not (
                         self.may_block(leaf) and period.is_in_parent(level, first, last)):
-                    self.end_readers(leaf, event, "no CPU online in the leaf")
+                    self.end_readers(leaf, event, NO_READERS)
                 continue
             below = period.below(level, first, last)
             ought = sum(1 << bit for bit, (low, high) in enumerate(below)

@@ -3,6 +3,7 @@ arrival or a departure is a window, which the next masks settle."""
 import re
 
 from comparison import awaited_as_said
+from quiescence import NO_READERS
 
 
 class Hotplug:
@@ -85,4 +86,4 @@ class Hotplug:
                 rest = self.waits & set(range(leaf[0], leaf[1] + 1))
                 if leaf[0] <= cpu <= leaf[1] and not rest and readers in self.waits \
                         and not self.blockers[leaf]:
-                    self.end_readers(leaf, event, "silently, its last CPU went offline")
+                    self.end_readers(leaf, event, NO_READERS)

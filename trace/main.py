@@ -81,7 +81,8 @@ class Trace:
         self.close()
         if not self.tree:
             raise Unusable("the trace has no rcu_grace_period 'start' with rcu_grace_period_init, "
-                           "so nobody knows who is awaited: record the events rcu:*")
+                           "so nobody knows who is awaited: record the events rcu:* on a kernel with "
+                           "CONFIG_RCU_TRACE")
         return not self.differences
 
     def lose(self, lost):
@@ -246,17 +247,16 @@ class Trace:
 def line_of(period, tree):
     """A grace period in a line."""
     head = f"grace period {period.number}: awaited {cpus(period.awaited())}"
-    heard = [it for it in period.heard if tree and it[0] < tree.cpus + len(tree.readers)]
     if period.is_stalled:
         head += "; Linux warned of a stall"
     if not period.end:
         return f"{head}; its end is not in the trace"
     took = float(period.end.time) - float(period.start.time)
     took = f"{took * 1000:.3f} ms" if "." in period.start.time else f"{took:.0f} events"
-    if not heard:
+    if not period.heard:
         return f"{head}; took {took}"
-    cpu, _, how = heard[-1]
-    who = f"CPU {cpu}" if cpu < tree.cpus else "readers"
+    cpu, event, how = period.heard[-1]
+    who = f"CPU {cpu}" if cpu < tree.cpus else f"task {event.task}"
     return f"{head}; took {took}; last was {who} ({how})"
 
 

@@ -4,7 +4,7 @@ WIDE, LANE, LEFT, TOP = 1400, 26, 60, 30
 # How a CPU was heard of, by the beginning of the words: a colour, and what the legend says.
 KINDS = {"its own": ("#4a78b8", "its own report"), "scan": ("#8fbf6f", "idle (force_qs_rnp)"),
          "silently": ("#c77", "went offline"), "went off": ("#c77", "went offline"),
-         "the pree": ("#d9a441", "preempted readers")}
+         "the last": ("#d9a441", "preempted readers")}
 FAINT, STRONG = "#888", "#222"
 
 
@@ -35,6 +35,7 @@ class Picture:
 
     def bar(self, period, heard, is_last):
         cpu, event, how = heard
+        cpu = cpu if cpu < self.cpus else event.cpu  # (a reader stands for no CPU of its own)
         colour = next((it for key, (it, _) in KINDS.items() if how.startswith(key)), "#999")
         edge = ' stroke="black" stroke-width="1.5"' if is_last else ""
         took = self.time(event) - self.time(period.start)
@@ -61,9 +62,8 @@ class Picture:
             self.stroke(period.start, FAINT)
             self.stroke(period.end, STRONG)
             self.text(self.x(period.start) + 2, 18, period.number)
-            heard = [it for it in period.heard if it[0] < self.cpus]
-            for it in heard:
-                self.bar(period, it, it is heard[-1])
+            for it in period.heard:
+                self.bar(period, it, it is period.heard[-1])
         self.legend()
         size = f'width="{WIDE + 90}" height="{self.bottom + 46}"'
         return "\n".join([

@@ -5,6 +5,8 @@ import re
 from comparison import apart, cpus, members
 from periods import bits
 
+NO_READERS = "no reader was preempted in the leaf"
+
 
 class QuiescentStates:
     """A part of a replay, by the events rcu_watching, rcu_fqs, rcu_quiescent_state_report,
@@ -116,8 +118,8 @@ class QuiescentStates:
                      f"{'' if blocked else 'not '}blocked by preempted readers; by "
                      f"rcu_preempt_task and rcu_unlock_preempted_task it is by {named}")
         if not left and not blocked and self.tree.readers[leaf] in self.waits:
-            self.end_readers(leaf, event,
-                             "none when its CPUs were done" if mask else "the last one left")
+            self.end_readers(leaf, event, NO_READERS if mask else
+                             "the last one that was preempted left its section")
 
     def report(self, cpu, event, scanned):
         """How the engine hears of a CPU that Linux takes a report of."""
@@ -155,7 +157,8 @@ class QuiescentStates:
         """A report that the engine takes, too."""
         number = self.linux(self.number)
         self.waits.discard(cpu)
-        self.period.heard.append((cpu, event, how))
+        if how != NO_READERS:
+            self.period.heard.append((cpu, event, how))
         self.seen["reports: " + re.sub(r"CPU \d+", "another CPU", how)] += 1
 
         def wrong(reply):
@@ -179,17 +182,22 @@ class QuiescentStates:
         def wrong(reply):
             here = members(reply)
             for bit, (low, high) in enumerate(below):
-                waits = {it for it in here if low <= it <= high} or any(
-                    it in here for leaf, it in self.tree.readers.items() if low <= leaf[0] <= high)
+                waits = self.awaited_below(here, low, high)
                 if waits and mask >> bit & 1:
                     return (f"grace period {number}: in Linux {where} hears that CPUs {low}-{high} "
-                            "are done, while the engine waits there for "
-                            f"{cpus({it for it in here if low <= it <= high})}")
+                            f"are done, while the engine waits there for {waits}")
                 if waits and not left >> bit & 1:
                     return (f"grace period {number}: {where} of Linux waits no more for CPUs "
                             f"{low}-{high} (qsmask {left:#x}), the engine does")
             return None
         self.say("awaits", "reports to inner nodes", event, wrong)
+
+    def awaited_below(self, found, low, high):
+        """Who of these is awaited in a part of the tree, in words; '' if nobody is."""
+        here = {it for it in found if low <= it <= high and it < self.tree.cpus}
+        tasks = [f"task {it}" for leaf, cpu in self.tree.readers.items()
+                 if low <= leaf[0] <= high and cpu in found for it in sorted(self.blockers[leaf])]
+        return ", ".join([cpus(here)] * bool(here) + tasks)
 
     # ---- preemptible RCU: readers that were preempted, on the leaf of the CPU that they ran on
 
@@ -217,5 +225,4 @@ class QuiescentStates:
     def end_readers(self, leaf, event, how):
         """The processor that stands for the leaf's readers reports."""
         cpu = self.tree.readers[leaf]
-        self.hear(cpu, event, f"the preempted readers of a leaf: {how}",
-                  f"deliver {self.make_report(cpu)}")
+        self.hear(cpu, event, how, f"deliver {self.make_report(cpu)}")

@@ -64,5 +64,8 @@ class Replay(GracePeriods, Hotplug, QuiescentStates, Callbacks, Comparison):
         if event.words[2] == "start":
             self.seen["expedited grace periods, which are not compared"] += 1
 
+    def rcu_stall_warning(self, _):
+        self.seen["stall warnings of Linux"] += 1
+
     def is_long(self):
         return self.ids > MOST_CALLBACKS

@@ -174,6 +174,52 @@ def note_of_a_period_that_is_over(lines, number):
     lines[at] = lines[at].replace(f" {number} ", f" {number + 4} ", 1)
 
 
+# ---- preemptible RCU: first a trace as such a kernel writes it, then what is wrong in it
+
+def reader_blocks(lines, number):
+    """A kernel with CONFIG_PREEMPT: before the grace period a reader is preempted on a CPU of the
+    leaf that reports last, and leaves its section after the leaf's last CPU has reported."""
+    lines[:] = [re.sub(r"\brcu_sched (?=rhp|-?\d+ |CBs)", "rcu_preempt ", it) for it in lines]
+    start, end = period(lines, number)
+    reports = leaf_reports(lines, number)
+    at = reports[-1]
+    found = re.search(r"\w+>0 (\d+ (\d+) \d+) 0$", lines[at])
+    chain = find(lines, rf"{number} \w+>\w+ 0 .* 0$", at, end)
+    if not found or not chain or not re.search(r"\w+>0 0 ", lines[chain[-1]]):
+        raise StopIteration  # (the leaf is not the last one of the root)
+    for it in reports:
+        if f" {found[1]} 0" in lines[it]:
+            lines[it] = re.sub(r"0$", "1", lines[it])
+    leaf = found[1]
+    time = re.search(r" (\S+): rcu_", lines[at])[1]
+    cpu = re.search(r"\[\d+\]", lines[at])[0]
+    lines[at + 1:at + 1] = [
+        f"reader-77 {cpu} d.... {time}: rcu_unlock_preempted_task: rcu_preempt {number} 77",
+        f"reader-77 {cpu} d.... {time}: rcu_quiescent_state_report: preempt_rcu {number} "
+        f"0>0 {leaf} 0"]
+    then = float(re.search(r" (\S+): rcu_", lines[start])[1]) - 0.000002
+    lines.insert(start, f"reader-77 [{int(found[2]):03}] d.... {then:.6f}: rcu_preempt_task: "
+                        f"rcu_preempt {number - 1} 77")
+
+
+def blocked_reader_is_forgotten(lines, number):
+    """A leaf with a reader that is preempted does not wait for it: gp_tasks is not set."""
+    for at in leaf_reports(lines, number):
+        lines[at] = re.sub(r" 1$", " 0", lines[at])
+
+
+def end_comes_before_a_blocked_reader(lines, number):
+    """The grace period ends before the reader that is preempted has left its section."""
+    _, end = period(lines, number)
+    at = find(lines, "rcu_unlock_preempted_task", 0, end)[-1]
+    taken = lines[at:at + 2]
+    del lines[at:at + 2]
+    lines[end - 1:end - 1] = taken
+
+
+blocked_reader_is_forgotten.made = end_comes_before_a_blocked_reader.made = reader_blocks
+
+
 # Each way, and a part of what has to be said first.
 PLANTS = {
     report_is_lost: "still waits for|hears that CPUs",
@@ -197,4 +243,6 @@ PLANTS = {
     wait_returns_early: "synchronize_rcu returns on CPU .* before grace period",
     root_ends_early: "the root hears that CPUs",
     note_of_a_period_that_is_over: "so that one does not run there",
+    blocked_reader_is_forgotten: "not blocked by preempted readers; by .* it is by task 77",
+    end_comes_before_a_blocked_reader: "are done, while the engine waits there for task 77",
 }
