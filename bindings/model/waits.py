@@ -27,14 +27,14 @@ QUOTES = {
     "live.stored(board.store(": ("store", "Live::stored"),
     "let stored = board.store(": ("store",),  # or in two lines
     "live.stored(stored);": ("Live::stored",),
-    "stored.wakes(&self.sleepers);": ("Stored::wakes",),
+    "stored.wakes(&self.board, &self.sleepers);": ("Stored::wakes",),
     "stored.wakes_nobody();": (),
-    "sleepers.wake_for(cpu);": ("Sleepers::wake_for",),
-    "if self.asked.is_asked(cpu) {": ("AskedCpu::is_asked",),
-    "self.word.load(Ordering::SeqCst) == u64::from(cpu) + 1": ("look",),
-    "self.answer();": ("Sleepers::answer",),
-    "let taken_back = self.asked.take_back();": ("AskedCpu::take_back",),
-    "asked: self.word.swap(0, Ordering::SeqCst),": ("clear",),
+    "sleepers.wake_for(board, cpu);": ("Sleepers::wake_for",),
+    "if board.is_asked(cpu) {": ("Board::is_asked",),
+    "let (asked, _look) = self.table.shared.load_new_seat::<LookAtAsked>(ASKED);": ("look",),
+    "self.answer(board);": ("Sleepers::answer",),
+    "let taken_back = board.take_back();": ("Board::take_back",),
+    "let (asked, _seat) = self.table.shared.swap_new_seat::<TakeBack>(ASKED, 0);": ("clear",),
     "self.wakes.wake_all(taken_back);": ("WakeCount::wake_all",),
     "self.word.fetch_add(1, Ordering::SeqCst);": ("add",),
     "self.word.wake_all();": ("wake",),
@@ -53,11 +53,11 @@ QUOTES = {
     "cookie.is_done_first(self.grace().value()) || self.next_awaited(own) == Some(own) {":
         ("if done or own",),
     "self.next_awaited(0)": ("whom",),
-    "Some(cpu) => Some(self.sleepers.ask(cpu)),": ("Sleepers::ask",),
+    "Some(cpu) => Some(self.sleepers.ask(&self.board, cpu)),": ("Sleepers::ask",),
     "let counted = self.wakes.count();": ("WakeCount::count",),
     "wakes: self.word.load(Ordering::SeqCst),": ("count",),
-    "let (asked, other) = self.asked.ask(cpu, counted);": ("AskedCpu::ask",),
-    "let asked = self.word.swap(asks, Ordering::SeqCst);": ("ask",),
+    "let (asked, other) = board.ask(cpu, counted);": ("Board::ask",),
+    "let (asked, _asking) = self.table.shared.swap_new_seat::<Ask>(ASKED, asks);": ("ask",),
     "let other = if asked != 0 && asked != asks {": ("other",),
     "if let Some(taken_back) = other {": ("if",),
     "Some(asked) => asked.hear(&mut engine),": ("Asked::hear",),
@@ -75,11 +75,12 @@ STEPS = {
     "wake_words.rt": r"self\.|engine\.\w+\(",
     "sleepers.rt": r"self\.",
     "": (r"sleepers\.|\.sleepers\b|\.hear\(|\.stored\(|\.wakes\(|board\.store\(|wakes_nobody\(|"
-         r"\bpark\b|\.sleep\(|\.ask\(|ask_and_hear\(|whom_to_ask\(|AskedCpu|WakeCount|Stored \{"),
+         r"\bpark\b|\.sleep\(|\.ask\(|ask_and_hear\(|whom_to_ask\(|ASKED|_new_seat|WakeCount|"
+         r"Stored \{"),
 }
 # Declarations, and what makes the words and the token of a store.
 NO_STEPS = (r"\bfn \w+|\bstruct \w+|\bimpl\b|^use |\bsleepers: Sleepers|let Stored \{|"
-            r"^ *Stored \{ cpu \}$|\b(asked: AskedCpu|wakes: WakeCount)")
+            r"^ *Stored \{ cpu \}$|\bwakes: WakeCount|const ASKED")
 
 # How a processor reports: by a number, and by a word for as long as it is away.
 PASSES = ("quiesce", "quiesce_since", "renew_outermost")

@@ -37,7 +37,7 @@ first_boot (suc c) e = absurd (omega arith)
 
 module _ {C : Type 0} (holds : List ℕ → Views C → Type 0) where
   -- a dealt seat, as the client sees it
-  dealt : (cpus : ℕ) (s : State (Unit {0}) (View C))
+  pub dealt : (cpus : ℕ) (s : State (Unit {0}) (View C))
       → IsKept holds cpus s
       → (idle close : C → C)
       → IsStable holds idle close

@@ -1,3 +1,4 @@
+pub mod Askings
 pub mod Begins
 pub mod ClientLemmas
 pub mod ClientRows
@@ -18,6 +19,7 @@ pub mod ListRuns
 pub mod LoadedWords
 pub mod Loads
 pub mod Meetings
+pub mod Moments
 pub mod NextCpus
 pub mod Numbers
 pub mod OldSections
@@ -28,6 +30,7 @@ pub mod Quieting
 pub mod Reports
 pub mod RowLemmas
 pub mod Several
+pub mod SleptThrough
 pub mod Stores
 pub mod Turns
 pub mod WaitLemmas

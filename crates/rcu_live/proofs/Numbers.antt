@@ -42,3 +42,16 @@ mask_inside c cpus low = omega (arith, low)
 
 pub same_mask : (c d : ℕ) → mask_index c ≡ mask_index d → c % 64 ≡ d % 64 → c ≡ d
 same_mask c d same bit = omega (arith, same, bit)
+
+-- who is asked stands at a place of its own
+pub number_asked : ◌≢◌ {A = ℕ} 0 1
+number_asked same = absurd (omega (arith, same))
+
+pub client_asked : (cpus word at : ℕ) → at ≡ base_of cpus + word → at ≢ 1
+client_asked cpus word at is same = absurd (omega (arith, is, same))
+
+pub asked_own_word : (cpu : ℕ) → own_word_index cpu ≢ 1
+asked_own_word cpu same = absurd (omega arith)
+
+pub asked_mask : (c : ℕ) → mask_index c ≢ 1
+asked_mask c same = absurd (omega arith)

@@ -49,6 +49,14 @@ number_at_first cpus =
     ∙ get_or-set_other (replicate (base_of cpus) 0) 16 0 1 0 (λ e. absurd (omega arith))
     ∙ get_or-replicate (base_of cpus) 0 0 0 (omega arith)
 
+pub asked_at_first : (cpus : ℕ) (behind : List ℕ) → get_or (first_words cpus ++ behind) 1 0 ≡ 0
+asked_at_first cpus behind =
+    let long = length-first_words cpus in
+    at_front (first_words cpus) behind 1 (omega (arith, long))
+    ∙ get_or-set_other (set (replicate (base_of cpus) 0) 16 1) 8 1 1 0 (λ e. absurd (omega arith))
+    ∙ get_or-set_other (replicate (base_of cpus) 0) 16 1 1 0 (λ e. absurd (omega arith))
+    ∙ get_or-replicate (base_of cpus) 1 0 0 (omega arith)
+
 mask_at_first : (cpus : ℕ) → get_or (first_words cpus) 8 0 ≡ 1
 mask_at_first cpus =
     let none : List ℕ = replicate (base_of cpus) 0 in

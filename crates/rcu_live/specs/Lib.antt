@@ -1,3 +1,4 @@
+pub mod Asking
 pub mod Board
 pub mod Client
 pub mod CpuSeat

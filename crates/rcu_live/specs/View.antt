@@ -7,7 +7,7 @@ use Rattle.rcu_live.specs.Client.{ClientView}
 use Rattle.rcu_live.specs.Numbers.{is_number_word, is_past}
 use Rattle.rcu_live.specs.Words.{base_of, first_own_word, own_word_index}
 use Rattle.rcu_live.specs.declared.view.Role.{Role}
-use Rattle.rcu_live.specs.declared.view.Role.TheVariants.{Cpu, Watcher, Engine}
+use Rattle.rcu_live.specs.declared.view.Role.TheVariants.{Cpu, Watcher, Engine, Asker, Looker}
 use Rattle.rcu_live.specs.declared.view.View.{View}
 
 -- of a processor's seat this, of another none
@@ -15,6 +15,8 @@ abbrev pub if_cpu : Role → Option ℕ → Option ℕ
 if_cpu Cpu o = o
 if_cpu Watcher o = None
 if_cpu Engine o = None
+if_cpu Asker o = None
+if_cpu Looker o = None
 
 -- how many processors from this one on, in a row, have no bit in this online mask of theirs, of the
 -- 64 that share it and of those that there are
@@ -69,6 +71,14 @@ module _ {C : Type 0} where
   -- a watcher's seat as it is dealt
   abbrev pub watcher_seat : ℕ → C → View C
   watcher_seat base c = fresh Watcher 0 0 base c
+
+  -- an asking of a processor whose seat had stored so often
+  abbrev pub asking_of : ℕ → ℕ → ℕ → C → View C
+  asking_of cpu stores base c = record (fresh Asker cpu 0 base c) { stores = stores }
+
+  -- a look at who is asked, of a processor whose seat had stored so often, which found this word
+  abbrev pub look_of : ℕ → ℕ → ℕ → ℕ → C → View C
+  look_of cpu stores word base c = record (fresh Looker cpu word base c) { stores = stores }
 
   -- seat split: what is left of the engine's seat where the next processor's is dealt
   abbrev pub after_deal : View C → View C

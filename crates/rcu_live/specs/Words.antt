@@ -1,6 +1,10 @@
 -- Where the shared words stand, and what they are at the start. The number stands first, then a
--- word a processor, then the words of a client.
+-- word a processor, then the words of a client. Beside the number stands who is asked.
 use Rattle.std.specs.Prelude.{ℕ, zero, suc, ◌+◌, ◌*◌, ◌/◌, ◌%◌, List, replicate, slice_set}
+
+-- the place of the word that says which processor is asked to wake who sleeps
+abbrev pub asked_index : ℕ
+asked_index = 1
 
 -- the place of a processor's own word. The words stand 16 apart
 abbrev pub own_word_index : ℕ → ℕ

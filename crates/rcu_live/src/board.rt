@@ -75,9 +75,9 @@ impl Model for Stored {
 impl Stored {
     /// Wakes who sleeps until this processor reports.
     #[inline]
-    pub(crate) fn wakes(self, sleepers: &Sleepers) {
+    pub(crate) fn wakes<P: Client>(self, board: &Board<P>, sleepers: &Sleepers) {
         let Stored { cpu } = self;
-        sleepers.wake_for(cpu);
+        sleepers.wake_for(board, cpu);
     }
 
     /// Nobody sleeps by the words alone.

@@ -12,6 +12,7 @@ ghost use Rattle.rcu_cblist.specs.declared.items.Queued.{Queued};
 ghost use Rattle.rcu_barrier.specs.Lists.{barrier_test_answer, list_of};
 ghost use Rattle.rcu_barrier.specs.Runs.{copies, times_listed};
 ghost use Rattle.rcu_barrier.specs.declared.lists.BarrierState.{BarrierState};
+ghost use Rattle.rcu_live.specs.Asking.{IsAwake, stores_of};
 ghost use Rattle.rcu_live.specs.CpuSeat.{AcceptedAt, NotedAt, RenewedAt, Seated, after_look};
 ghost use Rattle.rcu_live.specs.CpuSeat.{after_quiesce, after_renew};
 ghost use Rattle.rcu_live.specs.Engine.{HasWaited, Locked};
@@ -23,7 +24,7 @@ ghost use Rattle.rcu_live.specs.Runs.{Call, IsNew, IsRun, Makes, MayCall, after_
 ghost use Rattle.rcu_live.specs.Runs.{engine_after, queued_as, queued_before_barrier};
 ghost use Rattle.rcu_live.specs.Runs.{times_handed_out, turns_since};
 ghost use Rattle.rcu_live.specs.Several.{HoldsBoth, IsLens, IsPart, IsWordOf, of_both, whole};
-ghost use Rattle.rcu_live.specs.View.{absent_from};
+ghost use Rattle.rcu_live.specs.View.{absent_from, after_store, asking_of, cpu_seat, look_of};
 ghost use Rattle.rcu_live.specs.Waits.{AreRounds, HasPassed, HasStayedInside};
 ghost use Rattle.rcu_live.specs.Watcher.{Watching};
 ghost use Rattle.rcu_live.specs.Words.{mask_index};
@@ -304,4 +305,38 @@ pub fn absent_processors_have_no_bit()
         → cpu + absent_from mask cpu cpus < cpus
         → cpu % 64 + absent_from mask cpu cpus < 64
         → has_bit mask (cpu % 64 + absent_from mask cpu cpus) ≡ true }
+{}
+
+/// A moment meets the rule of askings if a seat stored behind an asking, and a look behind that
+/// store found it asked. None does in which such a look found nobody asked, in which a processor is
+/// asked that nobody asked, or in which a look came behind a store that was not made.
+pub fn no_moment_has_slept_through_a_report()
+    ensures found { IsAwake {C = Unit {0}} (record {
+      words = 0 ∷ 2 ∷ [];
+      homes = [];
+      views =
+          after_store (cpu_seat 0 1 tt) 5 ∷ asking_of 1 0 0 tt ∷ look_of 1 1 2 0 tt ∷ [];
+    }) }
+    ensures slept_through { IsAwake {C = Unit {0}} (record {
+      words = 0 ∷ 2 ∷ [];
+      homes = [];
+      views =
+          after_store (cpu_seat 0 1 tt) 5 ∷ asking_of 1 0 0 tt ∷ look_of 1 1 0 0 tt ∷ [];
+    }) → ⊥ }
+    ensures from_nowhere { IsAwake {C = Unit {0}} (record {
+      words = 0 ∷ 3 ∷ [];
+      homes = [];
+      views =
+          cpu_seat 0 1 tt ∷ asking_of 1 0 0 tt ∷ [];
+    }) → ⊥ }
+    ensures too_late { IsAwake {C = Unit {0}} (record {
+      words = 0 ∷ 0 ∷ [];
+      homes = [];
+      views =
+          cpu_seat 0 1 tt ∷ look_of 1 1 0 0 tt ∷ [];
+    }) → ⊥ }
+    ensures own { stores_of {C = Unit {0}} 1 (after_store (cpu_seat 0 1 tt) 5
+        ∷ asking_of 1 7 0 tt ∷ []) ≡ 1 }
+    ensures other { stores_of {C = Unit {0}} 0 (after_store (cpu_seat 0 1 tt) 5
+        ∷ asking_of 0 7 0 tt ∷ []) ≡ 0 }
 {}

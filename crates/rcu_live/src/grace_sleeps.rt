@@ -48,7 +48,7 @@ impl<const LEAF: u32, const FAN: u32, T: Drop, P: Client> Live<LEAF, FAN, T, P> 
         ensures none { result ≡ None → (cpu : ℕ) → IsAskedFor engine.now own cookie cpu → ⊥ }
     {
         match engine.whom_to_ask(own, cookie) {
-            Some(cpu) => Some(self.sleepers.ask(cpu)),
+            Some(cpu) => Some(self.sleepers.ask(&self.board, cpu)),
             None => None,
         }
     }

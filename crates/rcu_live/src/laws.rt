@@ -1,7 +1,7 @@
-//! What meetings say of cookies, the rule of sections and cookies, and what holds of every run of
-//! the engine, whichever threads make its calls.
-ghost use Rattle.std.specs.Prelude.{◌≡◌, ◌<◌, ◌≤◌, ◌+◌, ◌∷◌, ℕ, List, Some, slice_get, slice_index};
-ghost use Rattle.std.specs.Prelude.{true, false};
+//! What meetings say of cookies, the rule of sections and cookies, that of waits that sleep, and
+//! what holds of every run of the engine, whichever threads make its calls.
+ghost use Rattle.std.specs.Prelude.{◌≡◌, ◌≢◌, ◌⊎◌, ◌<◌, ◌≤◌, ◌+◌, ◌∷◌, ℕ, List, Some, slice_get};
+ghost use Rattle.std.specs.Prelude.{slice_index, true, false};
 ghost use mathlib.Core.Option.{some};
 ghost use lib.ListN.{get_elem?};
 ghost use Rattle.atomic_table.specs.Table.{State};
@@ -14,6 +14,7 @@ ghost use Rattle.rcu_barrier.specs.Lists.{barrier_test_answer, list_of};
 ghost use Rattle.rcu_barrier.specs.Runs.{times_listed};
 ghost use Rattle.rcu_barrier.specs.declared.lists.BarrierState.{BarrierState};
 ghost use Rattle.rcu_state.specs.GpState.{Grace, HasWaited};
+ghost use Rattle.rcu_live.specs.Asking.{IsLastAsking, IsMoment, asked_at};
 ghost use Rattle.rcu_live.specs.Engine.{AwaitsTheOthers, Locked};
 ghost use Rattle.rcu_live.specs.Met.{MeetsSection};
 ghost use Rattle.rcu_live.specs.Rule.{IsKept};
@@ -21,7 +22,8 @@ ghost use Rattle.rcu_live.specs.Runs.{Call, IsNew, IsRun, engine_after, queued_a
 ghost use Rattle.rcu_live.specs.Runs.{queued_before_barrier, times_handed_out, turns_since};
 ghost use Rattle.rcu_live.specs.View.{IsOfEngine};
 ghost use Rattle.rcu_live.specs.declared.meeting.Met.{Met};
-ghost use Rattle.rcu_live.specs.declared.view.Role.TheVariants.{Cpu};
+ghost use Rattle.rcu_live.specs.Words.{own_word_index};
+ghost use Rattle.rcu_live.specs.declared.view.Role.TheVariants.{Cpu, Looker};
 ghost use Rattle.rcu_live.specs.declared.view.View.{View};
 
 use crate::client::Client;
@@ -118,3 +120,21 @@ pub fn no_callback_runs_early<T: Drop, P: Client>()
 {
     run_laws::handed_callbacks_were_queued::<T>();
 }
+
+/// No quiescent state is slept through. A processor was asked last to wake the thread that sleeps.
+/// Its own word is always what its seat stored last: the collection behind the asking finds what
+/// was stored before. If the seat has stored since, and looked who is asked behind its latest
+/// store, as each report does, that look found it asked, or the asking was taken back. A thread
+/// that finds its processor asked, or takes an asking back, wakes all.
+pub fn no_quiescent_state_is_slept_through<P: Client>()
+    ensures before { (plan : P.Plan) (cpus : ℕ) (s : State (Unit {0}) (View P.Known)) (k : ℕ)
+        (seat : View P.Known) → IsMoment (P.holds plan) cpus s →
+        get_elem? s.views k ≡ some seat → seat.role ≡ Cpu →
+        slice_index s.words (own_word_index seat.cpu) ≡ seat.own_word }
+    ensures behind { (plan : P.Plan) (cpus : ℕ) (s : State (Unit {0}) (View P.Known)) (i j k : ℕ)
+        (asking look seat : View P.Known) → IsMoment (P.holds plan) cpus s →
+        IsLastAsking s.views i asking → get_elem? s.views j ≡ some look → look.role ≡ Looker →
+        get_elem? s.views k ≡ some seat → seat.role ≡ Cpu → asking.cpu ≡ seat.cpu →
+        look.cpu ≡ seat.cpu → asking.stores ≢ seat.stores → look.stores ≡ seat.stores →
+        (asked_at s ≡ 0) ⊎ (look.own_word ≡ seat.cpu + 1) }
+{}

@@ -27,7 +27,7 @@ use std::sync::{Arc, Mutex, MutexGuard, Wait};
 /// client, of which the plain engine has none.
 #[derive(Drop)]
 pub struct Live<const LEAF: u32, const FAN: u32, T: Drop, P: Client = NoClient> {
-    board: Arc<Board<P>, Global>,
+    pub(crate) board: Arc<Board<P>, Global>,
     pub(crate) engine: Mutex<Engine<Tree<LEAF, FAN>, T, P>>,
     pub(crate) sleepers: Sleepers,
 }
@@ -98,6 +98,6 @@ impl<const LEAF: u32, const FAN: u32, T: Drop, P: Client> Shared<P> for Live<LEA
 
     #[inline]
     fn stored(&self, stored: Stored) {
-        stored.wakes(&self.sleepers);
+        stored.wakes(&self.board, &self.sleepers);
     }
 }

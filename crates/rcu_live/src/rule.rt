@@ -14,10 +14,10 @@ pub struct Words<P> {
 }
 
 impl<P: Client> TableRule<(), View<P::Known>, (u32, P::Plan)> for Words<P> {
-    ghost use Rattle.rcu_live.specs.Rule.{IsKept};
+    ghost use Rattle.rcu_live.specs.Asking.{IsMoment};
     ghost use Rattle.rcu_live.specs.View.{engine_seat};
 
-    ghost holds = { λ key. IsKept (P.holds key.1) key.0 };
+    ghost holds = { λ key. IsMoment (P.holds key.1) key.0 };
 
     ghost first = { λ key. engine_seat key.0 0 (P.first key.1) };
 }
@@ -120,6 +120,34 @@ impl<S, C> Play<S, View<C>> for End {
     ghost use Rattle.rcu_live.specs.View.{after_end_store};
 
     ghost then = { λ step me _ now. (now.0 ≡ after_end_store me.0 step.first) × (now.1 ≡ me.1) };
+}
+
+/// A processor is asked to wake who sleeps: an exchange, which makes the seat of that asking.
+pub struct Ask;
+
+impl<S, C> Play<S, View<C>> for Ask {
+    ghost use Rattle.std.specs.Prelude.{◌+◌};
+    ghost use Rattle.rcu_live.specs.declared.view.Role.TheVariants.{Asker};
+
+    ghost then = { λ step _ _ now. (now.0.role ≡ Asker) × (step.first ≡ now.0.cpu + 1) };
+}
+
+/// A look at who is asked: a load, which makes the seat of that look.
+pub struct LookAtAsked;
+
+impl<S, C> Play<S, View<C>> for LookAtAsked {
+    ghost use Rattle.rcu_live.specs.declared.view.Role.TheVariants.{Looker};
+
+    ghost then = { λ _ _ n now. (now.0.role ≡ Looker) × (now.0.own_word ≡ n) };
+}
+
+/// Nobody is asked any more: an exchange, which makes a seat that knows nothing.
+pub struct TakeBack;
+
+impl<S, C> Play<S, View<C>> for TakeBack {
+    ghost use Rattle.rcu_live.specs.declared.view.Role.TheVariants.{Watcher};
+
+    ghost then = { λ _ _ _ now. now.0.role ≡ Watcher };
 }
 
 /// A client's step on one of its words.

@@ -2,16 +2,17 @@
 //! walks all of their interleavings.
 ghost use Rattle.std.specs.Prelude.{◌≡◌};
 
-use crate::wake_words::{Asked, AskedCpu, NotHeard, WakeCount};
+use crate::board::Board;
+use crate::client::Client;
+use crate::wake_words::{Asked, NotHeard, WakeCount};
 use std::sync::Wait;
 
-/// The words by which who sleeps is woken.
+/// The word by which who sleeps is woken. Who is asked to do so stands beside the number.
 #[derive(Drop)]
 #[repr(C)]
 pub(crate) struct Sleepers {
-    // Readers look at the words, so nothing that changes often stands within 128 bytes of them.
+    // Nothing that readers look at stands within 128 bytes of the word.
     before: [u64; 16],
-    asked: AskedCpu,
     wakes: WakeCount,
     behind: [u64; 16],
 }
@@ -21,18 +22,17 @@ impl Sleepers {
     pub(crate) fn new() -> Sleepers {
         Sleepers {
             before: [0; 16],
-            asked: AskedCpu::new(),
             wakes: WakeCount::new(),
             behind: [0; 16],
         }
     }
 
     /// Asks this processor to wake who sleeps. Who sleeps since another one was asked is woken.
-    pub(crate) fn ask(&self, cpu: u32) -> Asked
+    pub(crate) fn ask<P: Client>(&self, board: &Board<P>, cpu: u32) -> Asked
         ensures { result ≡ cpu }
     {
         let counted = self.wakes.count();
-        let (asked, other) = self.asked.ask(cpu, counted);
+        let (asked, other) = board.ask(cpu, counted);
         if let Some(taken_back) = other {
             self.wakes.wake_all(taken_back);
         }
@@ -46,16 +46,16 @@ impl Sleepers {
 
     /// Wakes all if this processor is asked. Costs a load if it is not.
     #[inline]
-    pub(crate) fn wake_for(&self, cpu: u32) {
-        if self.asked.is_asked(cpu) {
-            self.answer();
+    pub(crate) fn wake_for<P: Client>(&self, board: &Board<P>, cpu: u32) {
+        if board.is_asked(cpu) {
+            self.answer(board);
         }
     }
 
     /// Nobody is asked from now on, and all are woken.
     #[cold]
-    fn answer(&self) {
-        let taken_back = self.asked.take_back();
+    fn answer<P: Client>(&self, board: &Board<P>) {
+        let taken_back = board.take_back();
         self.wakes.wake_all(taken_back);
     }
 }

@@ -6,9 +6,12 @@ ghost use Rattle.std.specs.Prelude.{◌≡◌, ◌≢◌, ◌<◌, IfSome, None}
 ghost use Rattle.rcu_live.specs.Engine.{after_collect, collect_answer, latest_word};
 ghost use Rattle.rcu_live.specs.declared.grace_periods.Collected.TheVariants.{NotYet};
 
+use crate::board::Board;
 use crate::client::Client;
 use crate::engine::Engine;
 use crate::grace_periods::Collected;
+use crate::rule::{Ask, LookAtAsked, TakeBack};
+use crate::words::ASKED;
 use rcu_node::Awaited;
 use std::marker::Model;
 use std::sync::Wait;
@@ -104,27 +107,14 @@ impl WakeCount {
     }
 }
 
-/// The processor that is asked to wake who sleeps, and one more; 0 if none is.
-#[derive(Drop)]
-pub(crate) struct AskedCpu {
-    word: AtomicU64,
-}
-
-impl AskedCpu {
-    /// Nobody is asked.
-    pub(crate) fn new() -> AskedCpu {
-        AskedCpu {
-            word: AtomicU64::new(0),
-        }
-    }
-
-    /// Asks this processor, once the wakes are counted. If another one was asked, that is taken
-    /// back: it may have stored, and find somebody else asked.
+impl<P: Client> Board<P> {
+    /// Asks this processor to wake who sleeps, once the wakes are counted. If another one was
+    /// asked, that is taken back: it may have stored, and find somebody else asked.
     pub(crate) fn ask(&self, cpu: u32, counted: Counted) -> (Asked, Option<TakenBack>)
         ensures { result.0 ≡ cpu }
     {
         let asks = u64::from(cpu) + 1;
-        let asked = self.word.swap(asks, Ordering::SeqCst);
+        let (asked, _asking) = self.table.shared.swap_new_seat::<Ask>(ASKED, asks);
         let other = if asked != 0 && asked != asks {
             Some(TakenBack { asked })
         } else {
@@ -136,13 +126,13 @@ impl AskedCpu {
     /// Returns whether this processor is asked: one load.
     #[inline]
     pub(crate) fn is_asked(&self, cpu: u32) -> bool {
-        self.word.load(Ordering::SeqCst) == u64::from(cpu) + 1
+        let (asked, _look) = self.table.shared.load_new_seat::<LookAtAsked>(ASKED);
+        asked == u64::from(cpu) + 1
     }
 
     /// Asks nobody any more.
     pub(crate) fn take_back(&self) -> TakenBack {
-        TakenBack {
-            asked: self.word.swap(0, Ordering::SeqCst),
-        }
+        let (asked, _seat) = self.table.shared.swap_new_seat::<TakeBack>(ASKED, 0);
+        TakenBack { asked }
     }
 }

@@ -7,6 +7,10 @@ use std::alloc::{AllocError, Global};
 /// The place of the number word.
 pub const NUMBER: usize = 0;
 
+/// The place of the word that says which processor is asked to wake who sleeps: in the number's
+/// cache line, which a report has loaded. It changes where a wait sleeps or is woken alone.
+pub const ASKED: usize = 1;
+
 /// How many words a cache line has. The second line of each 128 bytes is none of an own word, and
 /// has as many online masks, which change where a processor arrives or departs alone.
 const LINE: u32 = 8;
@@ -15,7 +19,8 @@ const LINE: u32 = 8;
 const MASK_BITS: u32 = 64;
 
 /// How far apart the words are: 128 bytes, so that no two share a cache line, nor a pair of lines
-/// that a processor fetches together. Of the words between, online masks alone are named by a step.
+/// that a processor fetches together. Of the words between, steps name online masks alone, and the
+/// one beside the number.
 const APART: usize = 16;
 
 /// The own word of processor 0 at the start: it is online, and the number is 0.

@@ -1,5 +1,6 @@
 use Rattle.std.proofs.Common.{rules}
 use Rattle.rcu_live.proofs.Stores.{arrives}
+use Rattle.rcu_live.proofs.Moments.{arrives_both}
 use Rattle.rcu_live.proofs.board.Board.arrive.Goals as goal
 
 pub store-requires : goal.store-requires
@@ -7,8 +8,9 @@ store-requires g c =
     let r = c.requires.allowed in (
       search rules,
       search rules,
-      arrives (g.P.Client.holds _) _ _ _ _ _ _ _ r.role r.own c.own_word_index.ensures r.shut
+      arrives_both (g.P.Client.holds _) _ _ _ _ _ _ _ c.own_word_index.ensures r.role
+          (arrives (g.P.Client.holds _) _ _ _ _ _ _ _ r.role r.own c.own_word_index.ensures r.shut
           r.bounded
           r.online
-          r.announced,
+          r.announced),
     )

@@ -1,10 +1,14 @@
-use Rattle.std.proofs.Common.{rules}
+use Rattle.std.proofs.Common.{refl, rules}
 use Rattle.rcu_live.proofs.Deals.{deals_watcher}
+use Rattle.rcu_live.proofs.Askings.{alike_itself}
+use Rattle.rcu_live.proofs.Moments.{splits}
 use Rattle.rcu_live.proofs.board.Board.deal_watcher.Goals as goal
 
 pub split_seat-requires : goal.split_seat-requires
 split_seat-requires g c = (
   search rules,
   search rules,
-  deals_watcher (g.P.Client.holds _) _ _ (g.met.P.Client.stable _) _ _ _,
+  splits (g.P.Client.holds _) _ _ _ _ _
+      (deals_watcher (g.P.Client.holds _) _ _ (g.met.P.Client.stable _) _ _ _)
+      (alike_itself _) (λ r. absurd (cc)) (λ r. absurd (cc)) refl,
 )

@@ -2,6 +2,7 @@ use Rattle.std.proofs.Common.{rules, subst, sym}
 use Rattle.rcu_live.specs.Board.{Object}
 use Rattle.rcu_live.specs.Rule.{AreCleared}
 use Rattle.rcu_live.proofs.Turns.{ends_at}
+use Rattle.rcu_live.proofs.Moments.{ends_both}
 use Rattle.rcu_live.proofs.board.Board.end.Goals as goal
 
 pub store-requires : goal.store-requires
@@ -13,6 +14,7 @@ store-requires g c =
     (sym c.self.view_is) r.cleared in (
       search rules,
       search rules,
-      ends_at (g.P.Client.holds _) _ _ _ _ _ _ r.engine r.running c.self.invariant.key cleared
-          r.next,
+      ends_both (g.P.Client.holds _) _ _ _ _ _
+          (ends_at (g.P.Client.holds _) _ _ _ _ _ _ r.engine r.running c.self.invariant.key cleared
+          r.next),
     )

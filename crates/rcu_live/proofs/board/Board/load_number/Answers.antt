@@ -3,6 +3,7 @@ use Rattle.rcu_live.specs.Board.{Object}
 use Rattle.rcu_live.specs.Client.{AllowsNumber}
 use Rattle.rcu_live.specs.View.{if_cpu}
 use Rattle.rcu_live.proofs.ClientSteps.{steps_on_number}
+use Rattle.rcu_live.proofs.Moments.{looks_both}
 use Rattle.rcu_live.proofs.board.Board.load_number.Goals as goal
 
 pub load-requires : goal.load-requires
@@ -14,5 +15,6 @@ load-requires g c =
     (sym c.self.view_is) c.requires.allowed in (
       search rules,
       search rules,
-      steps_on_number (g.P.Client.holds _) _ _ _ _ g.M.NumberStep.then allowed,
+      looks_both (g.P.Client.holds _) _ _ _ _ g.M.NumberStep.then
+          (steps_on_number (g.P.Client.holds _) _ _ _ _ g.M.NumberStep.then allowed),
     )

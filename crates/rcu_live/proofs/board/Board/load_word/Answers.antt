@@ -3,6 +3,7 @@ use Rattle.rcu_live.specs.Board.{Object}
 use Rattle.rcu_live.specs.Client.{AllowsAt}
 use Rattle.rcu_live.specs.View.{if_cpu}
 use Rattle.rcu_live.proofs.ClientSteps.{steps_on_word}
+use Rattle.rcu_live.proofs.Moments.{words_both}
 use Rattle.rcu_live.proofs.board.Board.load_word.Goals as goal
 
 pub load-requires : goal.load-requires
@@ -16,7 +17,8 @@ load-requires g c =
       search rules,
       subst (λ (o : Object g.row.P-Plan.Denot). i < o.table.words) (sym c.self.view_is)
           c.requires.inside,
-      steps_on_word (g.P.Client.holds _) _ _ _ _ _ _ _ (λ n. n) g.M.WordStep.then
+      words_both (g.P.Client.holds _) _ _ _ _ _ _ _ (λ n. n) g.M.WordStep.then allowed.1
+          (steps_on_word (g.P.Client.holds _) _ _ _ _ _ _ _ (λ n. n) g.M.WordStep.then
           c.self.invariant.key
-          c.self.invariant.some allowed.1 allowed.2,
+          c.self.invariant.some allowed.1 allowed.2),
     )

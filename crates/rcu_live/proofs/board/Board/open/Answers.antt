@@ -1,8 +1,9 @@
 use Rattle.std.proofs.Common.{◌∙◌, ◌++◌, ℕ, List, ap, arith, subst, sym}
 use Rattle.atomic_table.specs.Table.{opening}
-use Rattle.rcu_live.specs.Rule.{IsKept}
+use Rattle.rcu_live.specs.Asking.{IsMoment}
 use Rattle.rcu_live.specs.View.{engine_seat}
-use Rattle.rcu_live.proofs.Openings.{room_at_first, starts}
+use Rattle.rcu_live.proofs.Moments.{begins}
+use Rattle.rcu_live.proofs.Openings.{room_at_first}
 use Rattle.rcu_live.proofs.board.Board.open.Goals as goal
 
 pub new-requires : goal.new-requires
@@ -12,10 +13,10 @@ new-requires g c =
     let words =
     c.as_slice.ensures.value ∙ added.added
     ∙ ap (λ (front : List ℕ). front ++ added.own) c.in_ok-words.ensures in
-    subst (λ (words : List ℕ). IsKept (g.P.Client.holds c.args.plan) c.args.cpus
+    subst (λ (words : List ℕ). IsMoment (g.P.Client.holds c.args.plan) c.args.cpus
     (opening words none (engine_seat c.args.cpus 0 (g.P.Client.first c.args.plan))))
     (sym words)
-    (starts (g.P.Client.holds c.args.plan) c.args.cpus added.own none
+    (begins (g.P.Client.holds c.args.plan) c.args.cpus added.own none
     (g.P.Client.first c.args.plan) c.requires.cpus.some added.kept)
 
 pub invariant_of-result : goal.invariant_of-result

@@ -3,6 +3,7 @@ use Rattle.rcu_live.specs.Board.{Object}
 use Rattle.rcu_live.specs.Client.{AllowsAt}
 use Rattle.rcu_live.specs.View.{if_cpu}
 use Rattle.rcu_live.proofs.ClientSteps.{stores_client_word}
+use Rattle.rcu_live.proofs.Moments.{word_stores_both}
 use Rattle.rcu_live.proofs.board.Board.store_word.Goals as goal
 
 pub store-requires : goal.store-requires
@@ -16,6 +17,7 @@ store-requires g c =
       search rules,
       subst (λ (o : Object g.row.P-Plan.Denot). i < o.table.words) (sym c.self.view_is)
           c.requires.inside,
-      stores_client_word (g.P.Client.holds _) _ _ _ _ _ _ _ _ g.M.WordStep.then c.self.invariant.key
-          c.self.invariant.some allowed.1 allowed.2,
+      word_stores_both (g.P.Client.holds _) _ _ _ _ _ _ _ _ g.M.WordStep.then allowed.1
+          (stores_client_word (g.P.Client.holds _) _ _ _ _ _ _ _ _ g.M.WordStep.then
+          c.self.invariant.key c.self.invariant.some allowed.1 allowed.2),
     )
