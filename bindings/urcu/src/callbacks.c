@@ -5,6 +5,7 @@
  * It rests on rounds.c alone: a round that begins after a callback was pushed has ended before it
  * runs. It adds: that each is taken once, by one exchange of the list's word, and that none is left
  * behind: a worker sleeps under the lock, where it found the list empty (tests/model.py). */
+#include "marks.h"
 #include "workers.h"
 #include <sched.h>
 
@@ -52,6 +53,7 @@ void push_all(struct call_rcu_data *worker, struct rcu_head *last) {
 
 void CALL(call_rcu)(struct rcu_head *head, void (*func)(struct rcu_head *head)) {
     head->func = func;
+    mark_release();
     if (likely(!has_worker_of_a_cpu())) {
         push(CALL(get_call_rcu_data)(), head);
         return;

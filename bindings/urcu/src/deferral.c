@@ -7,6 +7,7 @@
  * then looks whether one was added. All four steps are sequentially consistent, so one of the two
  * sees the other (tests/model.py). */
 #include "deferral.h"
+#include "marks.h"
 #include "workers.h"
 #include <errno.h>
 #include <stdlib.h>
@@ -128,6 +129,7 @@ void CALL(defer_rcu)(void (*func)(void *p), void *p) {
     unsigned long at = atomic_load_explicit(&ring->added, memory_order_relaxed);
     if (unlikely(at - atomic_load_explicit(&ring->made, memory_order_acquire) == RING))
         make_all(ring);
+    mark_release();
     ring->calls[at % RING] = (struct deferred){func, p};
     atomic_store(&ring->added, at + 1);
     if (unlikely(!atomic_load(&ring->queued)) && !atomic_exchange(&ring->queued, true)) queue(ring);

@@ -2,6 +2,7 @@
  *
  * They rest on rounds.c: a round that begins after the asking has the number that the state has, or
  * a greater one. */
+#include "marks.h"
 #include "workers.h"
 
 struct urcu_gp_poll_state CALL(start_poll_synchronize_rcu)(void) {
@@ -17,5 +18,7 @@ struct urcu_gp_poll_state CALL(start_poll_synchronize_rcu)(void) {
 }
 
 bool CALL(poll_state_synchronize_rcu)(struct urcu_gp_poll_state state) {
-    return atomic_load_explicit(&all.ended, memory_order_acquire) >= state.grace_period_id;
+    bool has_ended = atomic_load_explicit(&all.ended, memory_order_acquire) >= state.grace_period_id;
+    if (has_ended) mark_acquire();
+    return has_ended;
 }

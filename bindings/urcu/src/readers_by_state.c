@@ -7,6 +7,7 @@
  * section goes on, as no round waits for its end. The gp_thread tells of a round after the engines
  * began it, and a thread looks for that before it renews: so the renewal sees the begun number, and
  * the round does not wait for another one (tests/model.py). urcu/sections.h has the look inlined. */
+#include "marks.h"
 #include "seats.h"
 
 atomic_ulong latest_begun;
@@ -27,6 +28,7 @@ void CALL(thread_online)(void) {
 void CALL(thread_offline)(void) {
     if (!self.online) return;
     self.online = false;
+    mark_release();
     close_seat(self.place);
     got_quiet(self.place);
 }
@@ -37,7 +39,7 @@ void CALL(quiescent_state)(void) {
     uint64_t number;
     if (likely(begun == self.begun) || !self.online) return;
     self.begun = begun;
-    RCU_SANITIZER_RELEASE(place->engine);
+    mark_release();
     must("renew", rcu_seat_renew_unfenced(&place->seat, &number));
     got_quiet(place);
 }

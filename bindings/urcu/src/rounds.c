@@ -12,6 +12,7 @@
  * quiet, and then looks for the wish. All four steps are sequentially consistent, or have the fence
  * in all threads between them, so one of the two sees the other (tests/model.py). A wish may be one
  * of an earlier round: its thread wakes the maker then, who looks, and wishes anew. */
+#include "marks.h"
 #include "reports.h"
 #include "seats.h"
 #include <sched.h>
@@ -44,7 +45,6 @@ static bool goes_on(struct engine *engine, void (*visit)(struct place *place)) {
     if (visit) must("list", rcu_awaited_list(&engine->rcu, cpus, engine->cpus, &count));
     for (uint32_t at = 0; at < count; at++) visit(&engine->places[cpus[at]]);
     must("drive", rcu_drive_for_unfenced(&engine->rcu, engine->cookie, &turn));
-    if (!turn.awaited) RCU_SANITIZER_ACQUIRE(engine);
     return turn.awaited != 0;
 }
 
@@ -107,6 +107,7 @@ void wait_for_round(void) {
         else make_round();
     }
     if (BY_WORD && self.place) open_seat(self.place);
+    mark_acquire();
 }
 
 void CALL(synchronize_rcu)(void) {

@@ -21,7 +21,6 @@ static inline void open_seat(struct place *place) {
 }
 
 static inline void close_seat(struct place *place) {
-    RCU_SANITIZER_RELEASE(place->engine);
     must("unpin", rcu_seat_unpin(&place->seat));
 }
 

@@ -114,6 +114,37 @@ static inline void urcu_qsbr_inlined_quiescent_state(void) {
 #define urcu_qsbr_quiescent_state urcu_qsbr_inlined_quiescent_state
 #endif
 
+/* The thread sanitizer sees no step of a library that was built without it. So a program that is
+ * built with it marks where its sections end, and the library marks where grace periods do. */
+#if defined(__SANITIZE_THREAD__)
+#define URCU_MARKS_
+#elif defined(__has_feature)
+#if __has_feature(thread_sanitizer)
+#define URCU_MARKS_
+#endif
+#endif
+#ifdef URCU_MARKS_
+void __tsan_release(void *at);
+#define URCU_MARKED_OF_(f) \
+    static inline void urcu_##f##_marked_read_unlock(void) { \
+        __tsan_release((void *)&urcu_##f##_flavor); \
+        urcu_##f##_read_unlock(); \
+    } \
+    struct urcu_##f##_marked_ /* (so that the macro ends in a semicolon) */
+URCU_MARKED_OF_(memb);
+URCU_MARKED_OF_(mb);
+URCU_MARKED_OF_(signal);
+URCU_MARKED_OF_(bp);
+#undef urcu_memb_read_unlock
+#undef urcu_mb_read_unlock
+#undef urcu_signal_read_unlock
+#undef urcu_bp_read_unlock
+#define urcu_memb_read_unlock urcu_memb_marked_read_unlock
+#define urcu_mb_read_unlock urcu_mb_marked_read_unlock
+#define urcu_signal_read_unlock urcu_signal_marked_read_unlock
+#define urcu_bp_read_unlock urcu_bp_marked_read_unlock
+#endif
+
 #ifdef __cplusplus
 }
 #endif
