@@ -10,6 +10,7 @@ import re
 import runpy
 import shutil
 
+import debian
 from checks import ROOT, count, count_run, lacks, read, run, write
 
 NEEDED = ["git", "cc", "c++", "pkg-config", "objdump", "sha256sum"]
@@ -38,11 +39,30 @@ def look_at_file(folder, prefix):
           and build.endswith(proved), "what BUILD says", build)
     needed = re.search(r"glibc ([\d.]+) or later", build)
     count(needed and f"glibc {needed[1]}" in read("docs/C.md"), "the oldest glibc", build)
+    libraries = [it for it in debian.files_in(prefix) if re.match(r"lib/.*\.(a|so\.[\d.]+)$", it)
+                 and not os.path.islink(f"{prefix}/{it}")]
+    left = [it for it in libraries if f"  {it}\n" not in proved]
+    count("lib/rcu-urcu/liburcu-bp.a" in libraries and not left, "PROVED has each library",
+          "\n".join(left))
     look = ["sha256sum", "--check", "--quiet", "share/rcu/PROVED"]
     count_run("the files are as PROVED says", look, cwd=prefix)
     with open(f"{prefix}/lib/librcu.a", "ab") as archive:
         archive.write(b"\n")
     count(run(look, cwd=prefix).returncode, "one that is not is told")
+
+
+def look_at_layer(prefix, folder):
+    """The layer with liburcu's API, built from the release under the thread sanitizer: a program over
+    it is told of no race."""
+    urcu, made = f"{prefix}/share/rcu/bindings/urcu", f"{folder}/layer"
+    flags = "-O1 -g -fsanitize=thread"
+    archive = f"{made}/lib/liburcu-memb.a"
+    count_run("the layer under the thread sanitizer",
+              ["make", "-s", "-C", urcu, f"OUT={made}", f"CFLAGS={flags}", archive])
+    said = run(["cc", *flags.split(), f"-I{urcu}/include", f"{urcu}/tests/sanitized.c", "-o",
+                f"{made}/program", archive, "-lpthread"])
+    said = said if said.returncode else run([f"{made}/program"])
+    count(said.stdout == "reclaimed in 4 ways\n", "a program over it", said.stdout)
 
 
 def look_at_machine(prefix):
@@ -137,6 +157,7 @@ def try_all(folder, suite):
           "two packings are the same")
     shutil.rmtree(f"{folder}/two")
     look_at_file(f"{folder}/one", f"{folder}/prefix")
+    look_at_layer(f"{folder}/prefix", folder)
     look_at_machine(f"{folder}/prefix")
     look_at_packages(f"{folder}/one")
     look_at_calls(folder)
