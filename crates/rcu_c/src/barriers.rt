@@ -8,7 +8,7 @@ ghost use Rattle.rcu_c.specs.Holding.{engine_of, grace_of, on_grace};
 ghost use Rattle.rcu_c.specs.Refusals.{engine_number};
 ghost use Rattle.rcu_c.specs.Staying.{BothStay};
 
-use crate::codes::{status, write_out};
+use crate::codes::{accepted, status, write_out};
 use crate::handle::Rcu;
 use rcu_barrier::{BarrierState, Visit};
 
@@ -23,10 +23,8 @@ pub extern "C" fn rcu_barrier_begin(rcu: &mut Rcu) -> u32
         on_grace (λ g. grace.after_barrier_begin g) rcu.old.contents }
     ensures unchanged { result ≢ 0 → rcu.new.contents ≡ rcu.old.contents }
 {
-    match rcu.engine() {
-        Ok(opened) => status(opened.inner.barrier_begin()),
-        Err(refusal) => refusal.number(),
-    }
+    let opened = accepted!(rcu.engine());
+    status(opened.inner.barrier_begin())
 }
 
 /// What a visit did, as C sees it: an `rcu_visited`, as `RCU_VISIT_MARKED`.
@@ -56,10 +54,8 @@ pub extern "C" fn rcu_barrier_visit(rcu: &mut Rcu, cpu: u32, did: &mut u32) -> u
         visit_answer (grace_of rcu.old.contents).lists cpu ≡ Visit.Marked }
     ensures unchanged { result ≢ 0 → BothStay rcu.old.contents rcu.new.contents did.old did.new }
 {
-    match rcu.engine() {
-        Ok(opened) => write_out(opened.inner.visit(cpu).map(visit_in_c), did),
-        Err(refusal) => refusal.number(),
-    }
+    let opened = accepted!(rcu.engine());
+    write_out(opened.inner.visit(cpu).map(visit_in_c), did)
 }
 
 /// Returns how much a barrier waits for, as C sees it.
@@ -90,8 +86,6 @@ pub extern "C" fn rcu_barrier_test(rcu: &mut Rcu, left: &mut u64) -> u32
         left.new ≡ left_of (barrier_test_answer (grace_of rcu.old.contents).lists) }
     ensures unchanged { result ≢ 0 → BothStay rcu.old.contents rcu.new.contents left.old left.new }
 {
-    match rcu.engine() {
-        Ok(opened) => write_out(opened.inner.barrier_test().map(left_in_c), left),
-        Err(refusal) => refusal.number(),
-    }
+    let opened = accepted!(rcu.engine());
+    write_out(opened.inner.barrier_test().map(left_in_c), left)
 }

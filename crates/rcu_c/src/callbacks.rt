@@ -14,7 +14,7 @@ ghost use Rattle.rcu_c.specs.Holding.{engine_of, grace_of, on_grace};
 ghost use Rattle.rcu_c.specs.Refusals.{CanQueue, engine_number};
 ghost use Rattle.rcu_c.specs.Staying.{AllStay, BothStay};
 
-use crate::codes::{code, write_out};
+use crate::codes::{accepted, code, write_out};
 use crate::handle::Rcu;
 use crate::open_engine::TreeEngine;
 use rcu_seq::Fault;
@@ -39,10 +39,7 @@ pub extern "C" fn rcu_queue(rcu: &mut Rcu, cpu: u32, value: u64, place: &mut u64
     ensures unchanged { result ≢ 0 →
         BothStay rcu.old.contents rcu.new.contents place.old place.new }
 {
-    let opened = match rcu.engine() {
-        Ok(opened) => opened,
-        Err(refusal) => return refusal.number(),
-    };
+    let opened = accepted!(rcu.engine());
     if cpu >= opened.cpus() {
         return code(Fault::BadCpu);
     }
@@ -68,18 +65,11 @@ pub extern "C" fn rcu_tend(rcu: &mut Rcu, cpu: u32, done: &mut u64, waiting: &mu
     ensures unchanged { result ≢ 0 →
         AllStay rcu.old.contents rcu.new.contents done.old done.new waiting.old waiting.new }
 {
-    let opened = match rcu.engine() {
-        Ok(opened) => opened,
-        Err(refusal) => return refusal.number(),
-    };
-    match opened.inner.tend(cpu) {
-        Ok((ready, waits)) => {
-            *done = ready;
-            *waiting = waits;
-            0
-        }
-        Err(fault) => code(fault),
-    }
+    let opened = accepted!(rcu.engine());
+    let (ready, waits) = accepted!(opened.inner.tend(cpu), code);
+    *done = ready;
+    *waiting = waits;
+    0
 }
 
 /// Hands out done callbacks of a processor, as many as the buffer has room for, and writes their
@@ -129,10 +119,7 @@ pub extern "C" fn rcu_run(rcu: &mut Rcu, cpu: u32, values: &mut [u64], count: &m
     ensures unchanged { result ≢ 0 →
         AllStay rcu.old.contents rcu.new.contents values.old values.new count.old count.new }
 {
-    let opened = match rcu.engine() {
-        Ok(opened) => opened,
-        Err(refusal) => return refusal.number(),
-    };
+    let opened = accepted!(rcu.engine());
     if opened.cpus() <= cpu {
         return code(Fault::BadCpu);
     }
@@ -155,8 +142,6 @@ pub extern "C" fn rcu_shrink(rcu: &mut Rcu, cpu: u32, room: &mut u64) -> u32
     ensures state { rcu.new.contents ≡ rcu.old.contents }
     ensures unchanged { result ≢ 0 → room.new ≡ room.old }
 {
-    match rcu.engine() {
-        Ok(opened) => write_out(opened.inner.shrink(cpu), room),
-        Err(refusal) => refusal.number(),
-    }
+    let opened = accepted!(rcu.engine());
+    write_out(opened.inner.shrink(cpu), room)
 }

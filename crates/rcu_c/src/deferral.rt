@@ -16,7 +16,7 @@ ghost use Rattle.rcu_c.specs.Links.{cookie_for};
 ghost use Rattle.rcu_c.specs.Refusals.{seat_number, seat_refusal};
 ghost use Rattle.rcu_c.specs.Staying.{AllStay, BothStay};
 
-use crate::codes::{ALWAYS_DONE, code};
+use crate::codes::{ALWAYS_DONE, accepted, code};
 use crate::handle::RcuSeat;
 use rcu_defer::DeferList;
 
@@ -42,12 +42,10 @@ pub extern "C" fn rcu_defer(seat: &mut RcuSeat, value: u64) -> u32
     ensures unchanged { seat_refusal seat.old.contents ≢ None →
         seat.new.contents ≡ seat.old.contents }
 {
-    match seat.seat() {
-        Ok(seat) => match seat.values.defer(value) {
-            Ok(()) => 0,
-            Err(refused) => code(refused.fault),
-        },
-        Err(refusal) => refusal.number(),
+    let seat = accepted!(seat.seat());
+    match seat.values.defer(value) {
+        Ok(()) => 0,
+        Err(refused) => code(refused.fault),
     }
 }
 
@@ -101,15 +99,11 @@ pub extern "C" fn rcu_defer_run_unfenced(
     ensures unchanged { result ≢ 0 →
         AllStay seat.old.contents seat.new.contents values.old values.new count.old count.new }
 {
-    match seat.seat() {
-        Ok(seat) => {
-            let number = seat.watcher.number(&**seat.map.board());
-            seat.values.tend(number);
-            *count = put_ready(&mut seat.values, values);
-            0
-        }
-        Err(refusal) => refusal.number(),
-    }
+    let seat = accepted!(seat.seat());
+    let number = seat.watcher.number(&**seat.map.board());
+    seat.values.tend(number);
+    *count = put_ready(&mut seat.values, values);
+    0
 }
 
 /// Returns how many values and links were deferred and not handed out. 0 if `seat` is not an open
@@ -120,10 +114,10 @@ pub extern "C" fn rcu_defer_count(seat: &mut RcuSeat) -> u64
     ensures value { result ≡ count_of (values_of seat.old.contents).marks
         + count_of (links_of seat.old.contents).marks }
 {
-    match seat.seat() {
-        Ok(seat) => seat.values.marks().count() + seat.links.marks.count(),
-        Err(_) => 0,
-    }
+    let Ok(seat) = seat.seat() else {
+        return 0;
+    };
+    seat.values.marks().count() + seat.links.marks.count()
 }
 
 /// Returns the cookie at which all can be handed out that was deferred before the seat's last look,
@@ -135,13 +129,11 @@ pub extern "C" fn rcu_defer_cookie(seat: &mut RcuSeat) -> u64
     ensures value { result ≡ cookie_for (values_of seat.old.contents).marks
         (links_of seat.old.contents).marks }
 {
-    match seat.seat() {
-        Ok(seat) => {
-            let values = seat.values.last_until().unwrap_or(ALWAYS_DONE);
-            values.max(seat.links.marks.last_until().unwrap_or(ALWAYS_DONE))
-        }
-        Err(_) => ALWAYS_DONE,
-    }
+    let Ok(seat) = seat.seat() else {
+        return ALWAYS_DONE;
+    };
+    let values = seat.values.last_until().unwrap_or(ALWAYS_DONE);
+    values.max(seat.links.marks.last_until().unwrap_or(ALWAYS_DONE))
 }
 
 /// Gives back the memory that the values do not need, at a step for each that stays. Writes for how
@@ -158,12 +150,8 @@ pub extern "C" fn rcu_defer_shrink(seat: &mut RcuSeat, room: &mut u64) -> u32
     ensures unchanged { result ≢ 0 →
         BothStay seat.old.contents seat.new.contents room.old room.new }
 {
-    match seat.seat() {
-        Ok(seat) => {
-            seat.values.shrink();
-            *room = seat.values.room() as u64;
-            0
-        }
-        Err(refusal) => refusal.number(),
-    }
+    let seat = accepted!(seat.seat());
+    seat.values.shrink();
+    *room = seat.values.room() as u64;
+    0
 }

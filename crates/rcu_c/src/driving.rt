@@ -14,7 +14,7 @@ ghost use Rattle.rcu_c.specs.Holding.{on_engine, on_grace};
 ghost use Rattle.rcu_c.specs.Refusals.{engine_number, engine_refusal};
 ghost use Rattle.rcu_c.specs.Staying.{BothStay};
 
-use crate::codes::{NEVER_DONE, write_out};
+use crate::codes::{NEVER_DONE, accepted, write_out};
 use crate::grace_periods::{Turn, turn_in_c};
 use crate::handle::Rcu;
 use crate::open_engine::TreeEngine;
@@ -43,10 +43,8 @@ pub extern "C" fn rcu_drive_unfenced(rcu: &mut Rcu, turn: &mut Turn) -> u32
         (wants_begin (grace_of rcu.old.contents)) (latest_words (engine_of rcu.new.contents))) }
     ensures unchanged { result ≢ 0 → BothStay rcu.old.contents rcu.new.contents turn.old turn.new }
 {
-    match rcu.engine() {
-        Ok(opened) => write_out(opened.inner.drive().map(turn_in_c), turn),
-        Err(refusal) => refusal.number(),
-    }
+    let opened = accepted!(rcu.engine());
+    write_out(opened.inner.drive().map(turn_in_c), turn)
 }
 
 /// One step of driving for a cookie, as `rcu_drive`: if no grace period runs it begins one unless
@@ -76,10 +74,8 @@ pub extern "C" fn rcu_drive_for_unfenced(rcu: &mut Rcu, cookie: u64, turn: &mut 
         epoch: 0,
         number: cookie,
     };
-    match rcu.engine() {
-        Ok(opened) => write_out(opened.inner.drive_for(cookie).map(turn_in_c), turn),
-        Err(refusal) => refusal.number(),
-    }
+    let opened = accepted!(rcu.engine());
+    write_out(opened.inner.drive_for(cookie).map(turn_in_c), turn)
 }
 
 /// Collects from each processor that is awaited, while a grace period runs.
@@ -102,10 +98,7 @@ pub extern "C" fn rcu_collect_all(rcu: &mut Rcu, left: &mut u32) -> u32
     ensures left { result ≡ 0 → left.new ≡ awaited_in (grace_of rcu.new.contents) }
     ensures unchanged { result ≢ 0 → BothStay rcu.old.contents rcu.new.contents left.old left.new }
 {
-    let opened = match rcu.engine() {
-        Ok(opened) => opened,
-        Err(refusal) => return refusal.number(),
-    };
+    let opened = accepted!(rcu.engine());
     collect_all(&mut opened.inner);
     *left = opened.inner.grace().awaited().count();
     0
@@ -164,13 +157,9 @@ pub extern "C" fn rcu_awaited_list(rcu: &mut Rcu, cpus: &mut [u32], count: &mut 
     ensures rest { result ≡ 0 → drop count.new cpus.new ≡ drop count.new cpus.old }
     ensures unchanged { result ≢ 0 → BothStay cpus.old cpus.new count.old count.new }
 {
-    match rcu.engine() {
-        Ok(opened) => {
-            *count = list_awaited(&opened.inner, cpus);
-            0
-        }
-        Err(refusal) => refusal.number(),
-    }
+    let opened = accepted!(rcu.engine());
+    *count = list_awaited(&opened.inner, cpus);
+    0
 }
 
 /// Takes a cookie, as `rcu_take`, and requests it: from now on `rcu_turn` and `rcu_drive` begin a
@@ -185,8 +174,8 @@ pub extern "C" fn rcu_start_poll(rcu: &mut Rcu) -> u64
     ensures unchanged { engine_refusal rcu.old.contents ≢ None →
         rcu.new.contents ≡ rcu.old.contents }
 {
-    match rcu.engine() {
-        Ok(opened) => opened.inner.start_poll().number,
-        Err(_) => NEVER_DONE,
-    }
+    let Ok(opened) = rcu.engine() else {
+        return NEVER_DONE;
+    };
+    opened.inner.start_poll().number
 }

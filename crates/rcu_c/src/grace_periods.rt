@@ -9,7 +9,7 @@ ghost use Rattle.rcu_c.specs.Holding.{HoldsEngine, engine_of, grace_of, on_engin
 ghost use Rattle.rcu_c.specs.Refusals.{engine_number};
 ghost use Rattle.rcu_c.specs.Staying.{AllStay, BothStay};
 
-use crate::codes::{code, write_out};
+use crate::codes::{accepted, code, write_out};
 use crate::handle::Rcu;
 use rcu_live::Collected;
 use rcu_state::Turned;
@@ -76,18 +76,11 @@ pub extern "C" fn rcu_begin(rcu: &mut Rcu, number: &mut u64, awaited: &mut u32) 
     ensures unchanged { result ≢ 0 →
         AllStay rcu.old.contents rcu.new.contents number.old number.new awaited.old awaited.new }
 {
-    let opened = match rcu.engine() {
-        Ok(opened) => opened,
-        Err(refusal) => return refusal.number(),
-    };
-    match opened.inner.begin() {
-        Ok((begun, waits)) => {
-            *number = begun;
-            *awaited = waits;
-            0
-        }
-        Err(fault) => code(fault),
-    }
+    let opened = accepted!(rcu.engine());
+    let (begun, waits) = accepted!(opened.inner.begin(), code);
+    *number = begun;
+    *awaited = waits;
+    0
 }
 
 /// Ends the grace period. Writes the new number.
@@ -111,10 +104,8 @@ pub extern "C" fn rcu_end_unfenced(rcu: &mut Rcu, number: &mut u64) -> u32
     ensures unchanged { result ≢ 0 →
         BothStay rcu.old.contents rcu.new.contents number.old number.new }
 {
-    match rcu.engine() {
-        Ok(opened) => write_out(opened.inner.end(), number),
-        Err(refusal) => refusal.number(),
-    }
+    let opened = accepted!(rcu.engine());
+    write_out(opened.inner.end(), number)
 }
 
 /// Ends the grace period if nobody is awaited; begins one if none runs and a tended callback waits
@@ -137,10 +128,8 @@ pub extern "C" fn rcu_turn_unfenced(rcu: &mut Rcu, turn: &mut Turn) -> u32
         (latest_words (engine_of rcu.new.contents))) }
     ensures unchanged { result ≢ 0 → BothStay rcu.old.contents rcu.new.contents turn.old turn.new }
 {
-    match rcu.engine() {
-        Ok(opened) => write_out(opened.inner.turn().map(turn_in_c), turn),
-        Err(refusal) => refusal.number(),
-    }
+    let opened = accepted!(rcu.engine());
+    write_out(opened.inner.turn().map(turn_in_c), turn)
 }
 
 /// Collects from the processor: if it passed a quiescent state in the grace period, or is offline
@@ -167,8 +156,6 @@ pub extern "C" fn rcu_collect(rcu: &mut Rcu, cpu: u32, found: &mut u32) -> u32
     ensures unchanged { result ≢ 0 →
         BothStay rcu.old.contents rcu.new.contents found.old found.new }
 {
-    match rcu.engine() {
-        Ok(opened) => write_out(opened.inner.collect(cpu).map(collected_in_c), found),
-        Err(refusal) => refusal.number(),
-    }
+    let opened = accepted!(rcu.engine());
+    write_out(opened.inner.collect(cpu).map(collected_in_c), found)
 }

@@ -12,7 +12,7 @@ ghost use Rattle.rcu_c.specs.Links.{ready_link};
 ghost use Rattle.rcu_c.specs.Refusals.{seat_number, seat_refusal};
 ghost use Rattle.rcu_c.specs.Staying.{BothStay};
 
-use crate::codes::write_out;
+use crate::codes::{accepted, write_out};
 use crate::handle::RcuSeat;
 use rcu_defer::Marks;
 use rcu_seq::Fault;
@@ -86,10 +86,8 @@ pub extern "C" fn rcu_links_push(seat: &mut RcuSeat, link: u64, last: &mut u64) 
     ensures unchanged { result ≢ 0 →
         BothStay seat.old.contents seat.new.contents last.old last.new }
 {
-    match seat.seat() {
-        Ok(seat) => write_out(seat.links.push(link), last),
-        Err(refusal) => refusal.number(),
-    }
+    let seat = accepted!(seat.seat());
+    write_out(seat.links.push(link), last)
 }
 
 /// Returns the first link if it is known to be done, with no look at the number. Else 0, and if
@@ -99,10 +97,10 @@ pub extern "C" fn rcu_links_ready(seat: &mut RcuSeat) -> u64
     ensures unchanged { seat.new.contents ≡ seat.old.contents }
     ensures value { result ≡ ready_link (links_of seat.old.contents) }
 {
-    match seat.seat() {
-        Ok(seat) => seat.links.ready(),
-        Err(_) => 0,
-    }
+    let Ok(seat) = seat.seat() else {
+        return 0;
+    };
+    seat.links.ready()
 }
 
 /// Returns the first link that is done, after one look at the number: those that were deferred
@@ -121,14 +119,12 @@ pub extern "C" fn rcu_links_tend_unfenced(seat: &mut RcuSeat) -> u64
     ensures unchanged { seat_refusal seat.old.contents ≢ None →
         seat.new.contents ≡ seat.old.contents }
 {
-    match seat.seat() {
-        Ok(seat) => {
-            let number = seat.watcher.number(&**seat.map.board());
-            seat.links.marks.tend(number);
-            seat.links.ready()
-        }
-        Err(_) => 0,
-    }
+    let Ok(seat) = seat.seat() else {
+        return 0;
+    };
+    let number = seat.watcher.number(&**seat.map.board());
+    seat.links.marks.tend(number);
+    seat.links.ready()
 }
 
 /// Takes the first link out, if it is done: `next` is the first one from now on. Returns whether it
@@ -140,15 +136,13 @@ pub extern "C" fn rcu_links_pop(seat: &mut RcuSeat, next: u64) -> bool
         seat.new.contents ≡ on_links (λ l. after_pop l next) seat.old.contents }
     ensures unchanged { result ≡ false → seat.new.contents ≡ seat.old.contents }
 {
-    match seat.seat() {
-        Ok(seat) => {
-            if seat.links.marks.ready() == 0 {
-                return false;
-            }
-            seat.links.marks.take(1);
-            seat.links.first = next;
-            true
-        }
-        Err(_) => false,
+    let Ok(seat) = seat.seat() else {
+        return false;
+    };
+    if seat.links.marks.ready() == 0 {
+        return false;
     }
+    seat.links.marks.take(1);
+    seat.links.first = next;
+    true
 }

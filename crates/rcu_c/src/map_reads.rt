@@ -8,7 +8,7 @@ ghost use Rattle.rcu_c.specs.Maps.{HasWalked, IsGotInC, IsNextInC, reading_refus
 ghost use Rattle.rcu_c.specs.Refusals.{seat_number};
 ghost use Rattle.rcu_c.specs.Staying.{BothStay};
 
-use crate::codes::code;
+use crate::codes::{accepted, code};
 use crate::handle::RcuSeat;
 use crate::keyed_words::tell;
 use crate::refusal::Refusal;
@@ -34,10 +34,7 @@ pub extern "C" fn rcu_map_get(seat: &mut RcuSeat, key: u64, entry: &mut [u64]) -
     ensures unchanged { result ≢ 0 →
         BothStay seat.old.contents seat.new.contents entry.old entry.new }
 {
-    let seat = match seat.seat() {
-        Ok(seat) => seat,
-        Err(refusal) => return refusal.number(),
-    };
+    let seat = accepted!(seat.seat());
     if seat.cpu.depth() == 0 {
         return code(Fault::NotOpen);
     }
@@ -69,10 +66,7 @@ pub extern "C" fn rcu_map_next(seat: &mut RcuSeat, key: u64, entry: &mut [u64]) 
     ensures unchanged { result ≢ 0 →
         BothStay seat.old.contents seat.new.contents entry.old entry.new }
 {
-    let seat = match seat.seat() {
-        Ok(seat) => seat,
-        Err(refusal) => return refusal.number(),
-    };
+    let seat = accepted!(seat.seat());
     if seat.cpu.depth() == 0 {
         return code(Fault::NotOpen);
     }

@@ -14,7 +14,7 @@ ghost use Rattle.rcu_c.specs.Maps.{map_nodes, waiting_refusal, width_refusal};
 ghost use Rattle.rcu_c.specs.Refusals.{engine_number};
 ghost use Rattle.rcu_c.specs.Staying.{BothStay};
 
-use crate::codes::code;
+use crate::codes::{accepted, code};
 use crate::handle::{Rcu, RcuSeat};
 use crate::keyed_words::tell;
 use crate::refusal::Refusal;
@@ -32,10 +32,7 @@ fn put(rcu: &mut Rcu, how: Put, entry: &[u64], old: &mut [u64]) -> u32
     ensures unchanged { result ≢ 0 →
         BothStay rcu.old.contents rcu.new.contents old.old old.new }
 {
-    let opened = match rcu.engine() {
-        Ok(opened) => opened,
-        Err(refusal) => return refusal.number(),
-    };
+    let opened = accepted!(rcu.engine());
     let words = opened.map.plan().words;
     if entry.len() != words || old.len() != words {
         return Refusal::BadWords.number();
@@ -129,10 +126,7 @@ pub extern "C" fn rcu_map_remove(rcu: &mut Rcu, key: u64, old: &mut [u64]) -> u3
     ensures unchanged { result ≢ 0 →
         BothStay rcu.old.contents rcu.new.contents old.old old.new }
 {
-    let opened = match rcu.engine() {
-        Ok(opened) => opened,
-        Err(refusal) => return refusal.number(),
-    };
+    let opened = accepted!(rcu.engine());
     if old.len() != opened.map.plan().words {
         return Refusal::BadWords.number();
     }
@@ -153,10 +147,7 @@ pub extern "C" fn rcu_map_find(rcu: &mut Rcu, key: u64, entry: &mut [u64]) -> u3
     ensures found { result ≡ 0 → IsFoundInC key rcu.old.contents entry.old entry.new }
     ensures unchanged { result ≢ 0 → entry.new ≡ entry.old }
 {
-    let opened = match rcu.engine() {
-        Ok(opened) => opened,
-        Err(refusal) => return refusal.number(),
-    };
+    let opened = accepted!(rcu.engine());
     if entry.len() != opened.map.plan().words {
         return Refusal::BadWords.number();
     }
@@ -172,10 +163,10 @@ pub extern "C" fn rcu_map_len(rcu: &mut Rcu) -> u64
     ensures value { result ≡
         entries_in (map_buckets rcu.old.contents) (map_nodes rcu.old.contents) }
 {
-    match rcu.engine() {
-        Ok(opened) => opened.map.len() as u64,
-        Err(_) => 0,
-    }
+    let Ok(opened) = rcu.engine() else {
+        return 0;
+    };
+    opened.map.len() as u64
 }
 
 /// Reclaims nodes, after one look at the number: the nodes of entries that were replaced or removed
@@ -192,14 +183,10 @@ pub extern "C" fn rcu_map_age(rcu: &mut Rcu, cookie: &mut u64) -> u32
     ensures unchanged { result ≢ 0 →
         BothStay rcu.old.contents rcu.new.contents cookie.old cookie.new }
 {
-    match rcu.engine() {
-        Ok(opened) => {
-            let number = opened.map.age();
-            *cookie = Cookie::of(Tag::of_first_epoch(number)).number;
-            0
-        }
-        Err(refusal) => refusal.number(),
-    }
+    let opened = accepted!(rcu.engine());
+    let number = opened.map.age();
+    *cookie = Cookie::of(Tag::of_first_epoch(number)).number;
+    0
 }
 
 /// One step of waiting for a free node, for the driver: it looks at the number, as `rcu_map_age`.
@@ -224,10 +211,7 @@ pub extern "C" fn rcu_map_wait_unfenced(rcu: &mut Rcu) -> u32
     ensures waited { ¬ AreAllLive (map_nodes rcu.old.contents) →
         HasWaitedInC rcu.old.contents result rcu.new.contents }
 {
-    let opened = match rcu.engine() {
-        Ok(opened) => opened,
-        Err(refusal) => return refusal.number(),
-    };
+    let opened = accepted!(rcu.engine());
     if opened.map.is_all_live() {
         return Refusal::MapFull.number();
     }
@@ -264,9 +248,7 @@ pub extern "C" fn rcu_seat_map_wait_unfenced(rcu: &mut Rcu, seat: &mut RcuSeat) 
         ¬ AreAllLive (map_nodes rcu.old.contents) →
         HasWaitedInC rcu.old.contents result rcu.new.contents }
 {
-    if let Err(refusal) = rcu.has_dealt(seat) {
-        return refusal.number();
-    }
+    accepted!(rcu.has_dealt(seat));
     if seat.open_seat().cpu.depth() > 0 {
         return code(Fault::InSection);
     }

@@ -11,6 +11,7 @@ ghost use Rattle.rcu_c.specs.Refusals.{deal_refusal, engine_number, engine_refus
 ghost use Rattle.rcu_c.specs.Refusals.{return_refusal, seat_refusal, tested_refusal};
 ghost use Rattle.rcu_c.specs.Staying.{BothStay};
 
+use crate::codes::accepted;
 use crate::contents::Contents;
 use crate::handle::{Handle, Rcu, RcuSeat};
 use crate::identity::Identity;
@@ -103,10 +104,7 @@ pub extern "C" fn rcu_open_map_as(
         (wishes_of rcu.new.contents).words (plan_of_sizes sizes.now) cpus last }
     ensures unchanged { result ≢ 0 → rcu.new.contents ≡ rcu.old.contents }
 {
-    let contents = match box_engine(alloc, cpus, last, identity, *sizes) {
-        Ok(contents) => contents,
-        Err(refusal) => return refusal.number(),
-    };
+    let contents = accepted!(box_engine(alloc, cpus, last, identity, *sizes));
     put(rcu, contents);
     0
 }
@@ -192,17 +190,10 @@ pub extern "C" fn rcu_seat_open(alloc: Global, rcu: &mut Rcu, cpu: u32, seat: &m
     ensures unchanged { result ≢ 0 →
         BothStay rcu.old.contents rcu.new.contents seat.old.contents seat.new.contents }
 {
-    let opened = match rcu.engine() {
-        Ok(opened) => opened,
-        Err(refusal) => return refusal.number(),
-    };
-    match deal_seat(alloc, opened, cpu) {
-        Ok(contents) => {
-            put(seat, contents);
-            0
-        }
-        Err(refusal) => refusal.number(),
-    }
+    let opened = accepted!(rcu.engine());
+    let contents = accepted!(deal_seat(alloc, opened, cpu));
+    put(seat, contents);
+    0
 }
 
 /// Returns whether `rcu_seat_open` can deal the seat of the processor: there is such a processor,
@@ -213,10 +204,10 @@ pub extern "C" fn rcu_has_seat(rcu: &mut Rcu, cpu: u32) -> bool
     ensures unchanged { rcu.new.contents ≡ rcu.old.contents }
     ensures value { result ≡ is_some (seat_at (opened_of rcu.old.contents) cpu) }
 {
-    match rcu.engine() {
-        Ok(opened) => opened.has_seat(cpu),
-        Err(_) => false,
-    }
+    let Ok(opened) = rcu.engine() else {
+        return false;
+    };
+    opened.has_seat(cpu)
 }
 
 /// Returns a seat to its engine, which can deal it again, and closes it: for a thread that ends.
@@ -234,9 +225,7 @@ pub extern "C" fn rcu_seat_return(alloc: Global, rcu: &mut Rcu, seat: &mut RcuSe
     ensures unchanged { result ≢ 0 →
         BothStay rcu.old.contents rcu.new.contents seat.old.contents seat.new.contents }
 {
-    if let Err(refusal) = rcu.has_dealt(seat) {
-        return refusal.number();
-    }
+    accepted!(rcu.has_dealt(seat));
     let mut contents = seat.close(alloc).into_box();
     rcu.open_engine().take_back(contents.take_seat());
     0

@@ -8,7 +8,7 @@ ghost use Rattle.rcu_c.specs.Refusals.{seat_number};
 ghost use Rattle.rcu_c.specs.Seats.{closing};
 ghost use Rattle.rcu_c.specs.Staying.{BothStay};
 
-use crate::codes::{status, write_out};
+use crate::codes::{accepted, status, write_out};
 use crate::handle::RcuSeat;
 
 /// Opens a read section, or nests one deeper in the open one. An idle processor wakes first, by one
@@ -32,10 +32,8 @@ pub extern "C" fn rcu_seat_pin_unfenced(seat: &mut RcuSeat) -> u32
         (cpu_of seat.new.contents).view.seen seat.new.contents }
     ensures unchanged { result ≢ 0 → seat.new.contents ≡ seat.old.contents }
 {
-    match seat.seat() {
-        Ok(seat) => status(seat.cpu.pin(&**seat.map.board())),
-        Err(refusal) => refusal.number(),
-    }
+    let seat = accepted!(seat.seat());
+    status(seat.cpu.pin(&**seat.map.board()))
 }
 
 /// Leaves the innermost section. If it was the outermost one, the processor is idle from then on,
@@ -53,10 +51,8 @@ pub extern "C" fn rcu_seat_unpin(seat: &mut RcuSeat) -> u32
         (cpu_of seat.new.contents).view.seen seat.new.contents }
     ensures unchanged { result ≢ 0 → seat.new.contents ≡ seat.old.contents }
 {
-    match seat.seat() {
-        Ok(seat) => status(seat.cpu.unpin(&**seat.map.board())),
-        Err(refusal) => refusal.number(),
-    }
+    let seat = accepted!(seat.seat());
+    status(seat.cpu.unpin(&**seat.map.board()))
 }
 
 /// Renews the section that a pin opened, as `rcu_seat_renew`: no grace period that began before
@@ -76,8 +72,6 @@ pub extern "C" fn rcu_seat_repin_unfenced(seat: &mut RcuSeat, number: &mut u64) 
     ensures unchanged { result ≢ 0 →
         BothStay seat.old.contents seat.new.contents number.old number.new }
 {
-    match seat.seat() {
-        Ok(seat) => write_out(seat.cpu.repin(&**seat.map.board()), number),
-        Err(refusal) => refusal.number(),
-    }
+    let seat = accepted!(seat.seat());
+    write_out(seat.cpu.repin(&**seat.map.board()), number)
 }

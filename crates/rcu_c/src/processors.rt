@@ -12,7 +12,7 @@ ghost use Rattle.rcu_c.specs.Holding.{grace_of, on_cpu, on_engine, on_grace};
 ghost use Rattle.rcu_c.specs.Refusals.{coming_refusal, going_refusal};
 ghost use Rattle.rcu_c.specs.Staying.{BothStay};
 
-use crate::codes::{code, status, write_out};
+use crate::codes::{accepted, code, status, write_out};
 use crate::handle::{Rcu, RcuSeat};
 
 /// Brings the seat's processor online.
@@ -35,9 +35,7 @@ pub extern "C" fn rcu_arrive_unfenced(rcu: &mut Rcu, seat: &mut RcuSeat) -> u32
     ensures unchanged { result ≢ 0 →
         BothStay rcu.old.contents rcu.new.contents seat.old.contents seat.new.contents }
 {
-    if let Err(refusal) = rcu.has_dealt(seat) {
-        return refusal.number();
-    }
+    accepted!(rcu.has_dealt(seat));
     let (engine, seat) = (rcu.open_engine(), seat.open_seat());
     let arrived = seat.cpu.arrive(&**seat.map.board());
     if arrived.is_ok() {
@@ -88,13 +86,8 @@ pub extern "C" fn rcu_depart(rcu: &mut Rcu, seat: &mut RcuSeat, moved: &mut u64)
         (latest_word (engine_of rcu.new.contents))) rcu.old.contents }
     ensures unchanged_moved { result ≢ 0 → moved.new ≡ moved.old }
 {
-    if let Err(refusal) = rcu.has_dealt(seat) {
-        return refusal.number();
-    }
+    accepted!(rcu.has_dealt(seat));
     let (engine, seat) = (rcu.open_engine(), seat.open_seat());
-    let again = match seat.cpu.depart(&**seat.map.board()) {
-        Ok(again) => again,
-        Err(fault) => return code(fault),
-    };
+    let again = accepted!(seat.cpu.depart(&**seat.map.board()), code);
     write_out(engine.inner.leave(seat.cpu.cpu(), again), moved)
 }

@@ -19,10 +19,10 @@ pub extern "C" fn rcu_cpus(rcu: &mut Rcu) -> u32
     ensures unchanged { rcu.new.contents ≡ rcu.old.contents }
     ensures value { result ≡ (engine_of rcu.old.contents).cpus }
 {
-    match rcu.engine() {
-        Ok(opened) => opened.inner.cpus(),
-        Err(_) => 0,
-    }
+    let Ok(opened) = rcu.engine() else {
+        return 0;
+    };
+    opened.inner.cpus()
 }
 
 /// Returns the grace-period number: 4 for each grace period that ended, and 1 more while one runs.
@@ -31,10 +31,10 @@ pub extern "C" fn rcu_number(rcu: &mut Rcu) -> u64
     ensures unchanged { rcu.new.contents ≡ rcu.old.contents }
     ensures value { result ≡ number_of (grace_of rcu.old.contents).seq }
 {
-    match rcu.engine() {
-        Ok(opened) => opened.inner.grace().value(),
-        Err(_) => 0,
-    }
+    let Ok(opened) = rcu.engine() else {
+        return 0;
+    };
+    opened.inner.grace().value()
 }
 
 /// Returns whether a grace period runs.
@@ -43,10 +43,10 @@ pub extern "C" fn rcu_running(rcu: &mut Rcu) -> bool
     ensures unchanged { rcu.new.contents ≡ rcu.old.contents }
     ensures value { result ≡ (grace_of rcu.old.contents).seq.running }
 {
-    match rcu.engine() {
-        Ok(opened) => opened.inner.grace().is_running(),
-        Err(_) => false,
-    }
+    let Ok(opened) = rcu.engine() else {
+        return false;
+    };
+    opened.inner.grace().is_running()
 }
 
 /// Returns whether the engine has the processor as online. False if there is no such processor.
@@ -57,10 +57,10 @@ pub extern "C" fn rcu_online(rcu: &mut Rcu, cpu: u32) -> bool
         result ≡ is_in (grace_of rcu.old.contents).processors.online cpu }
     ensures no_such_cpu { (engine_of rcu.old.contents).cpus ≤ cpu → result ≡ false }
 {
-    match rcu.engine() {
-        Ok(opened) => cpu < opened.cpus() && opened.inner.grace().online(cpu),
-        Err(_) => false,
-    }
+    let Ok(opened) = rcu.engine() else {
+        return false;
+    };
+    cpu < opened.cpus() && opened.inner.grace().online(cpu)
 }
 
 /// Returns whether the running grace period awaits the processor. False if there is no such
@@ -72,10 +72,10 @@ pub extern "C" fn rcu_awaits(rcu: &mut Rcu, cpu: u32) -> bool
         result ≡ is_in (grace_of rcu.old.contents).processors.awaited cpu }
     ensures no_such_cpu { (engine_of rcu.old.contents).cpus ≤ cpu → result ≡ false }
 {
-    match rcu.engine() {
-        Ok(opened) => cpu < opened.cpus() && opened.inner.grace().awaited().awaits(cpu),
-        Err(_) => false,
-    }
+    let Ok(opened) = rcu.engine() else {
+        return false;
+    };
+    cpu < opened.cpus() && opened.inner.grace().awaited().awaits(cpu)
 }
 
 /// Returns how many processors the running grace period awaits.
@@ -84,10 +84,10 @@ pub extern "C" fn rcu_awaited(rcu: &mut Rcu) -> u32
     ensures unchanged { rcu.new.contents ≡ rcu.old.contents }
     ensures value { result ≡ awaited_in (grace_of rcu.old.contents) }
 {
-    match rcu.engine() {
-        Ok(opened) => opened.inner.grace().awaited().count(),
-        Err(_) => 0,
-    }
+    let Ok(opened) = rcu.engine() else {
+        return 0;
+    };
+    opened.inner.grace().awaited().count()
 }
 
 /// Takes a cookie: the number at which a grace period that begins from now on has ended. It
@@ -100,10 +100,10 @@ pub extern "C" fn rcu_take(rcu: &mut Rcu) -> u64
         result ≡ (cookie_of (grace_of rcu.old.contents).seq).number }
     ensures not_taken { engine_refusal rcu.old.contents ≢ None → result ≡ never_done }
 {
-    match rcu.engine() {
-        Ok(opened) => opened.inner.grace().take().number,
-        Err(_) => NEVER_DONE,
-    }
+    let Ok(opened) = rcu.engine() else {
+        return NEVER_DONE;
+    };
+    opened.inner.grace().take().number
 }
 
 /// Returns whether a cookie is done: the number has reached it, so each section that was open at
@@ -124,8 +124,8 @@ pub extern "C" fn rcu_poll(rcu: &mut Rcu, cookie: u64) -> bool
         epoch: 0,
         number: cookie,
     };
-    match rcu.engine() {
-        Ok(opened) => opened.inner.grace().done(cookie),
-        Err(_) => false,
-    }
+    let Ok(opened) = rcu.engine() else {
+        return false;
+    };
+    opened.inner.grace().done(cookie)
 }

@@ -14,7 +14,7 @@ ghost use Rattle.rcu_c.specs.Replicas.{HoldsReplica, after, answer_number, await
 ghost use Rattle.rcu_c.specs.Replicas.{replica_number, replica_of, replica_refusal, set_in};
 ghost use Rattle.rcu_c.specs.Staying.{BothStay};
 
-use crate::codes::{code, status, write_out};
+use crate::codes::{accepted, code, status, write_out};
 use crate::contents::Contents;
 use crate::driving::put_awaited;
 use crate::handle::Handle;
@@ -56,10 +56,7 @@ pub extern "C" fn rcu_replica_open(
     ensures state { result ≡ 0 → replica_of replica.new.contents ≡ at_first cpus last }
     ensures unchanged { result ≢ 0 → replica.new.contents ≡ replica.old.contents }
 {
-    let contents = match box_replica(alloc, cpus, last) {
-        Ok(contents) => contents,
-        Err(fault) => return code(fault),
-    };
+    let contents = accepted!(box_replica(alloc, cpus, last), code);
     *replica = Handle::of(RawBox::of(contents));
     0
 }
@@ -85,10 +82,8 @@ pub extern "C" fn rcu_replica_begin(
     ensures unchanged { result ≢ 0 → BothStay
         replica.old.contents replica.new.contents number.old number.new }
 {
-    match replica.replica() {
-        Ok(replica) => write_out(replica.begin(words), number),
-        Err(refusal) => refusal.number(),
-    }
+    let replica = accepted!(replica.replica());
+    write_out(replica.begin(words), number)
 }
 
 /// What a report did, as C sees it: an `rcu_answer`, as `RCU_ANSWER_TAKEN`.
@@ -124,10 +119,8 @@ pub extern "C" fn rcu_replica_report(
     ensures unchanged { result ≢ 0 → BothStay
         replica.old.contents replica.new.contents answer.old answer.new }
 {
-    match replica.replica() {
-        Ok(replica) => write_out(replica.report(cpu, number).map(answer_in_c), answer),
-        Err(refusal) => refusal.number(),
-    }
+    let replica = accepted!(replica.replica());
+    write_out(replica.report(cpu, number).map(answer_in_c), answer)
 }
 
 /// Takes a processor's departure: it is awaited no more in the running grace period. Its message
@@ -143,10 +136,8 @@ pub extern "C" fn rcu_replica_depart(replica: &mut RcuReplica, cpu: u32) -> u32
         replica.new.contents ≡ after (Depart cpu) replica.old.contents }
     ensures unchanged { result ≢ 0 → replica.new.contents ≡ replica.old.contents }
 {
-    match replica.replica() {
-        Ok(replica) => status(replica.depart(cpu)),
-        Err(refusal) => refusal.number(),
-    }
+    let replica = accepted!(replica.replica());
+    status(replica.depart(cpu))
 }
 
 /// Takes in what another replica of the same grace period has heard: the first one then awaits the
@@ -164,14 +155,9 @@ pub extern "C" fn rcu_replica_merge(replica: &mut RcuReplica, other: &mut RcuRep
     ensures unchanged { result ≢ 0 → replica.new.contents ≡ replica.old.contents }
     ensures other { other.new.contents ≡ other.old.contents }
 {
-    let mine = match replica.replica() {
-        Ok(mine) => mine,
-        Err(refusal) => return refusal.number(),
-    };
-    match other.replica() {
-        Ok(other) => status(mine.merge_from(other)),
-        Err(refusal) => refusal.number(),
-    }
+    let mine = accepted!(replica.replica());
+    let other = accepted!(other.replica());
+    status(mine.merge_from(other))
 }
 
 /// Lists the processors that a replica awaits, in order, `room` at most: writes them from `cpus`
@@ -191,13 +177,9 @@ pub extern "C" fn rcu_replica_awaited(
     ensures rest { result ≡ 0 → drop count.new cpus.new ≡ drop count.new cpus.old }
     ensures unchanged { result ≢ 0 → BothStay cpus.old cpus.new count.old count.new }
 {
-    match replica.replica() {
-        Ok(replica) => {
-            *count = put_awaited(replica.awaited(), cpus);
-            0
-        }
-        Err(refusal) => refusal.number(),
-    }
+    let replica = accepted!(replica.replica());
+    *count = put_awaited(replica.awaited(), cpus);
+    0
 }
 
 /// Ends the grace period. Writes the new number.
@@ -213,10 +195,8 @@ pub extern "C" fn rcu_replica_end(replica: &mut RcuReplica, number: &mut u64) ->
     ensures unchanged { result ≢ 0 → BothStay
         replica.old.contents replica.new.contents number.old number.new }
 {
-    match replica.replica() {
-        Ok(replica) => write_out(replica.end(), number),
-        Err(refusal) => refusal.number(),
-    }
+    let replica = accepted!(replica.replica());
+    write_out(replica.end(), number)
 }
 
 /// Closes a replica, and frees all that it has. If `replica` is not an open replica, it does

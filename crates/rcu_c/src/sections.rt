@@ -14,7 +14,7 @@ ghost use Rattle.rcu_c.specs.Refusals.{seat_number, seat_refusal};
 ghost use Rattle.rcu_c.specs.Seats.{closing};
 ghost use Rattle.rcu_c.specs.Staying.{BothStay};
 
-use crate::codes::{NEVER_DONE, NO_CPU, status, write_out};
+use crate::codes::{NEVER_DONE, NO_CPU, accepted, status, write_out};
 use crate::handle::RcuSeat;
 use rcu_seq::Cookie;
 
@@ -24,10 +24,10 @@ pub extern "C" fn rcu_seat_cpu(seat: &mut RcuSeat) -> u32
     ensures unchanged { seat.new.contents ≡ seat.old.contents }
     ensures value { result ≡ (cpu_of seat.old.contents).cpu }
 {
-    match seat.seat() {
-        Ok(seat) => seat.cpu.cpu(),
-        Err(_) => NO_CPU,
-    }
+    let Ok(seat) = seat.seat() else {
+        return NO_CPU;
+    };
+    seat.cpu.cpu()
 }
 
 /// Returns how deep the read sections of the seat nest: 0 if none is open, or if `seat` is not an
@@ -37,10 +37,10 @@ pub extern "C" fn rcu_seat_depth(seat: &mut RcuSeat) -> u32
     ensures unchanged { seat.new.contents ≡ seat.old.contents }
     ensures value { result ≡ (cpu_of seat.old.contents).depth }
 {
-    match seat.seat() {
-        Ok(seat) => seat.cpu.depth(),
-        Err(_) => 0,
-    }
+    let Ok(seat) = seat.seat() else {
+        return 0;
+    };
+    seat.cpu.depth()
 }
 
 /// Returns whether the seat's processor is online, awake or idle. False if `seat` is not an open
@@ -50,10 +50,10 @@ pub extern "C" fn rcu_seat_is_online(seat: &mut RcuSeat) -> bool
     ensures unchanged { seat.new.contents ≡ seat.old.contents }
     ensures value { result ≡ not ((cpu_of seat.old.contents).view.own_word == 0) }
 {
-    match seat.seat() {
-        Ok(seat) => seat.cpu.is_online(),
-        Err(_) => false,
-    }
+    let Ok(seat) = seat.seat() else {
+        return false;
+    };
+    seat.cpu.is_online()
 }
 
 /// Returns whether the seat's processor is idle. False if `seat` is not an open seat.
@@ -62,10 +62,10 @@ pub extern "C" fn rcu_seat_is_idle(seat: &mut RcuSeat) -> bool
     ensures unchanged { seat.new.contents ≡ seat.old.contents }
     ensures value { result ≡ ((cpu_of seat.old.contents).view.own_word == idle_word) }
 {
-    match seat.seat() {
-        Ok(seat) => seat.cpu.is_idle(),
-        Err(_) => false,
-    }
+    let Ok(seat) = seat.seat() else {
+        return false;
+    };
+    seat.cpu.is_idle()
 }
 
 /// Opens a read section by one load, or nests one deeper in the open one by none.
@@ -79,10 +79,8 @@ pub extern "C" fn rcu_seat_enter(seat: &mut RcuSeat) -> u32
         (cpu_of seat.new.contents).view.seen seat.new.contents }
     ensures unchanged { result ≢ 0 → seat.new.contents ≡ seat.old.contents }
 {
-    match seat.seat() {
-        Ok(seat) => status(seat.cpu.enter(&**seat.map.board())),
-        Err(refusal) => refusal.number(),
-    }
+    let seat = accepted!(seat.seat());
+    status(seat.cpu.enter(&**seat.map.board()))
 }
 
 /// Leaves the innermost section. One load closes the outermost one.
@@ -99,10 +97,8 @@ pub extern "C" fn rcu_seat_exit(seat: &mut RcuSeat) -> u32
         (cpu_of seat.new.contents).view.seen seat.new.contents }
     ensures unchanged { result ≢ 0 → seat.new.contents ≡ seat.old.contents }
 {
-    match seat.seat() {
-        Ok(seat) => status(seat.cpu.exit(&**seat.map.board())),
-        Err(refusal) => refusal.number(),
-    }
+    let seat = accepted!(seat.seat());
+    status(seat.cpu.exit(&**seat.map.board()))
 }
 
 /// Passes a quiescent state, by one load and one store: from here on the thread uses nothing that
@@ -127,10 +123,8 @@ pub extern "C" fn rcu_seat_quiesce_unfenced(seat: &mut RcuSeat, number: &mut u64
     ensures unchanged { result ≢ 0 →
         BothStay seat.old.contents seat.new.contents number.old number.new }
 {
-    match seat.seat() {
-        Ok(seat) => write_out(seat.cpu.quiesce(&**seat.map.board()), number),
-        Err(refusal) => refusal.number(),
-    }
+    let seat = accepted!(seat.seat());
+    write_out(seat.cpu.quiesce(&**seat.map.board()), number)
 }
 
 /// Passes a quiescent state by a load alone, if the last one still counts: if the number is the one
@@ -157,10 +151,8 @@ pub extern "C" fn rcu_seat_quiesce_since_unfenced(seat: &mut RcuSeat, number: &m
     ensures unchanged { result ≢ 0 →
         BothStay seat.old.contents seat.new.contents number.old number.new }
 {
-    match seat.seat() {
-        Ok(seat) => write_out(seat.cpu.quiesce_since(&**seat.map.board()), number),
-        Err(refusal) => refusal.number(),
-    }
+    let seat = accepted!(seat.seat());
+    write_out(seat.cpu.quiesce_since(&**seat.map.board()), number)
 }
 
 /// Renews the open section: closes it, passes a quiescent state, and opens the next one, by two
@@ -184,10 +176,8 @@ pub extern "C" fn rcu_seat_renew_unfenced(seat: &mut RcuSeat, number: &mut u64) 
     ensures unchanged { result ≢ 0 →
         BothStay seat.old.contents seat.new.contents number.old number.new }
 {
-    match seat.seat() {
-        Ok(seat) => write_out(seat.cpu.renew(&**seat.map.board()), number),
-        Err(refusal) => refusal.number(),
-    }
+    let seat = accepted!(seat.seat());
+    write_out(seat.cpu.renew(&**seat.map.board()), number)
 }
 
 /// Makes the processor idle by one store, until it wakes or departs: it opens no section, and no
@@ -205,10 +195,8 @@ pub extern "C" fn rcu_seat_idle(seat: &mut RcuSeat) -> u32
     ensures state { result ≡ 0 → seat.new.contents ≡ on_cpu after_idle seat.old.contents }
     ensures unchanged { result ≢ 0 → seat.new.contents ≡ seat.old.contents }
 {
-    match seat.seat() {
-        Ok(seat) => status(seat.cpu.idle(&**seat.map.board())),
-        Err(refusal) => refusal.number(),
-    }
+    let seat = accepted!(seat.seat());
+    status(seat.cpu.idle(&**seat.map.board()))
 }
 
 /// Wakes the processor, by one load and one store. Writes the number that it saw.
@@ -232,10 +220,8 @@ pub extern "C" fn rcu_seat_wake_unfenced(seat: &mut RcuSeat, number: &mut u64) -
     ensures unchanged { result ≢ 0 →
         BothStay seat.old.contents seat.new.contents number.old number.new }
 {
-    match seat.seat() {
-        Ok(seat) => write_out(seat.cpu.wake(&**seat.map.board()), number),
-        Err(refusal) => refusal.number(),
-    }
+    let seat = accepted!(seat.seat());
+    write_out(seat.cpu.wake(&**seat.map.board()), number)
 }
 
 /// Takes a cookie, as `rcu_take`, at the number that one load sees, which no later load is below.
@@ -256,10 +242,10 @@ pub extern "C" fn rcu_seat_take_unfenced(seat: &mut RcuSeat) -> u64
     ensures unchanged { seat_refusal seat.old.contents ≢ None →
         seat.new.contents ≡ seat.old.contents }
 {
-    match seat.seat() {
-        Ok(seat) => seat.watcher.take(&**seat.map.board()).number,
-        Err(_) => NEVER_DONE,
-    }
+    let Ok(seat) = seat.seat() else {
+        return NEVER_DONE;
+    };
+    seat.watcher.take(&**seat.map.board()).number
 }
 
 /// Returns whether a cookie is done, as `rcu_poll`, at the number that one load sees, which no
@@ -285,8 +271,8 @@ pub extern "C" fn rcu_seat_poll_unfenced(seat: &mut RcuSeat, cookie: u64) -> boo
         epoch: 0,
         number: cookie,
     };
-    match seat.seat() {
-        Ok(seat) => seat.watcher.poll(&**seat.map.board(), cookie),
-        Err(_) => false,
-    }
+    let Ok(seat) = seat.seat() else {
+        return false;
+    };
+    seat.watcher.poll(&**seat.map.board(), cookie)
 }

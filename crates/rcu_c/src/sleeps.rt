@@ -14,6 +14,7 @@ ghost use Rattle.rcu_c.specs.Refusals.{engine_number, seat_number};
 ghost use Rattle.rcu_c.specs.Sleeps.{IsForFirst, after_saying};
 ghost use Rattle.rcu_c.specs.Staying.{AllStay, BothStay};
 
+use crate::codes::accepted;
 use crate::driving::collect_all;
 use crate::handle::{Rcu, RcuSeat};
 use crate::open_engine::OpenEngine;
@@ -62,10 +63,7 @@ pub extern "C" fn rcu_may_sleep(rcu: &mut Rcu, sleeps: &mut u32, left: &mut u32)
     ensures unchanged { result ≢ 0 →
         AllStay rcu.old.contents rcu.new.contents sleeps.old sleeps.new left.old left.new }
 {
-    let opened = match rcu.engine() {
-        Ok(opened) => opened,
-        Err(refusal) => return refusal.number(),
-    };
+    let opened = accepted!(rcu.engine());
     *sleeps = u32::from(sleep_for_first(opened));
     *left = opened.inner.grace().awaited().count();
     0
@@ -87,12 +85,8 @@ pub extern "C" fn rcu_seat_wakes(seat: &mut RcuSeat, wakes: &mut u32) -> u32
     ensures unchanged { result ≢ 0 →
         BothStay seat.old.contents seat.new.contents wakes.old wakes.new }
 {
-    match seat.seat() {
-        Ok(seat) => {
-            let cpu = seat.cpu.cpu();
-            *wakes = u32::from(seat.wisher.is_slept_for(cpu));
-            0
-        }
-        Err(refusal) => refusal.number(),
-    }
+    let seat = accepted!(seat.seat());
+    let cpu = seat.cpu.cpu();
+    *wakes = u32::from(seat.wisher.is_slept_for(cpu));
+    0
 }

@@ -11,6 +11,7 @@ ghost use Rattle.rcu_c.specs.Holding.{HoldsEngine, on_wisher, on_wishes, wisher_
 ghost use Rattle.rcu_c.specs.Refusals.{engine_number, seat_number};
 ghost use Rattle.rcu_c.specs.Staying.{BothStay};
 
+use crate::codes::accepted;
 use crate::handle::{Rcu, RcuSeat};
 
 /// Wishes for the grace period of a cookie: if that is greater than each that was wished for
@@ -32,13 +33,9 @@ pub extern "C" fn rcu_seat_want(seat: &mut RcuSeat, cookie: u64, wakes: &mut u32
     ensures unchanged { result ≢ 0 →
         BothStay seat.old.contents seat.new.contents wakes.old wakes.new }
 {
-    match seat.seat() {
-        Ok(seat) => {
-            *wakes = u32::from(seat.wisher.wish(cookie));
-            0
-        }
-        Err(refusal) => refusal.number(),
-    }
+    let seat = accepted!(seat.seat());
+    *wakes = u32::from(seat.wisher.wish(cookie));
+    0
 }
 
 /// Says whether the driver sleeps from now on, and then writes the greatest cookie that was wished
@@ -55,11 +52,7 @@ pub extern "C" fn rcu_wanted(rcu: &mut Rcu, sleeps: bool, cookie: &mut u64) -> u
     ensures unchanged { result ≢ 0 →
         BothStay rcu.old.contents rcu.new.contents cookie.old cookie.new }
 {
-    match rcu.engine() {
-        Ok(opened) => {
-            *cookie = opened.wishes.find(sleeps);
-            0
-        }
-        Err(refusal) => refusal.number(),
-    }
+    let opened = accepted!(rcu.engine());
+    *cookie = opened.wishes.find(sleeps);
+    0
 }
