@@ -1,8 +1,9 @@
-/* Usage: instructions OPENED ONLINE [peak | CPU]
+/* Usage: instructions OPENED ONLINE [memory | peak | CPU]
  * One grace period over the lowest processors, ONLINE of OPENED: a begin, a section, collections
  * while all are awaited, their list, a quiescent state of each, and the step of driving that hears
  * of them and ends it. With a processor CPU, it is online too; with 'peak', all that were opened
- * have been online for a grace period before, and the others departed. */
+ * have been online for a grace period before, and the others departed. With 'memory' it prints how
+ * many KiB the engine with these processors keeps resident, and leaves the grace period out. */
 #include "rcu.h"
 #include <stdio.h>
 #include <stdlib.h>
@@ -13,6 +14,15 @@ static void must(uint32_t fault) {
         fprintf(stderr, "bench/instructions: fault %u\n", (unsigned)fault);
         exit(1);
     }
+}
+
+/* How many KiB of the process are resident. */
+static long resident(void) {
+    long size, pages = 0;
+    FILE *statm = fopen("/proc/self/statm", "r");
+    if (!statm || fscanf(statm, "%ld %ld", &size, &pages) != 2) exit(1);
+    fclose(statm);
+    return pages * 4;
 }
 
 /* The begin that is measured. */
@@ -42,18 +52,21 @@ int main(int count, char **words) {
     if (count < 3 || count > 4) return 2;
     uint32_t opened = (uint32_t)atoi(words[1]), online = (uint32_t)atoi(words[2]), awaited, found;
     bool peak = count > 3 && strcmp(words[3], "peak") == 0;
-    uint32_t also = count > 3 && !peak ? (uint32_t)atoi(words[3]) : 0;
+    bool memory = count > 3 && strcmp(words[3], "memory") == 0;
+    uint32_t also = count > 3 && !peak && !memory ? (uint32_t)atoi(words[3]) : 0;
     uint64_t number;
     rcu_t rcu = {0};
     rcu_turn_t turn;
     rcu_seat_t *seats = calloc(opened, sizeof *seats);
     uint32_t *cpus = calloc(opened, sizeof *cpus);
     if (!seats || !cpus) return 1;
+    long before = resident();
     must(rcu_open(opened, UINT64_C(1) << 62, &rcu));
     for (uint32_t cpu = 0; cpu < online; cpu++) {
         must(rcu_seat_open(&rcu, cpu, &seats[cpu]));
         if (cpu > 0) must(rcu_arrive(&rcu, &seats[cpu]));
     }
+    if (memory) return printf("%ld\n", resident() - before) < 0;
     if (peak) pass_peak(&rcu, seats, opened, online);
     if (also) {
         must(rcu_seat_open(&rcu, also, &seats[also]));
