@@ -1,5 +1,6 @@
 //! A collector and its handles.
 
+use crate::driver::PROCESS_SEATS;
 use crate::guard::Guard;
 use crate::local::Local;
 use crate::pool::Lent;
@@ -35,6 +36,13 @@ impl Collector {
     pub fn new() -> Self {
         Collector {
             global: Arc::new(Lent::new()),
+        }
+    }
+
+    /// The collector of the process.
+    pub(crate) fn of_process() -> Self {
+        Collector {
+            global: Arc::new(Lent::with_seats(PROCESS_SEATS)),
         }
     }
 

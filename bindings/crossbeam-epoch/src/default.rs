@@ -31,7 +31,7 @@ impl Drop for Own {
 /// ```
 pub fn default_collector() -> &'static Collector {
     static COLLECTOR: OnceLock<Collector> = OnceLock::new();
-    COLLECTOR.get_or_init(Collector::new)
+    COLLECTOR.get_or_init(Collector::of_process)
 }
 
 #[inline]

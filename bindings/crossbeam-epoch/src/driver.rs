@@ -7,14 +7,22 @@ use std::sync::Arc;
 
 /// How many grace periods one step ends at most.
 const ENDS: usize = 2;
-/// The seats of threads. (At most 4,093, by RCU_EPOCH_SEATS at the build. A begin looks at each.)
-pub(crate) const SEATS: usize = match option_env!("RCU_EPOCH_SEATS") {
-    None => 125,
-    Some(digits) => match usize::from_str_radix(digits, 10) {
-        Ok(seats) if seats <= 4093 => seats,
-        _ => panic!("RCU_EPOCH_SEATS is a number up to 4,093"),
-    },
-};
+/// The seats of threads, of the collector of the process and of any other one. (A begin looks at a
+/// word for every 64, and to open them takes memory for each.)
+pub(crate) const PROCESS_SEATS: usize = seats(1021);
+pub(crate) const SEATS: usize = seats(125);
+
+/// At most 4,093, by RCU_EPOCH_SEATS at the build; else so many.
+const fn seats(many: usize) -> usize {
+    match option_env!("RCU_EPOCH_SEATS") {
+        None => many,
+        Some(digits) => match usize::from_str_radix(digits, 10) {
+            Ok(seats) if seats <= 4093 => seats,
+            _ => panic!("RCU_EPOCH_SEATS is a number up to 4,093"),
+        },
+    }
+}
+
 /// Processor 0 is nobody's. The two behind it are the benches', for threads past the seats.
 const OWN: usize = 3;
 const FULL: &str = "out of memory";
@@ -22,6 +30,7 @@ const FULL: &str = "out of memory";
 pub(crate) struct Driver {
     rcu: EngineHandle,
     _boot: SeatHandle,
+    seats: usize,
     dealt: Vec<Arc<Seat>>,
     free: Vec<Arc<Seat>>,
     /// The processors that the grace period awaits.
@@ -31,15 +40,16 @@ pub(crate) struct Driver {
 }
 
 impl Driver {
-    /// A driver, and the seats of its benches.
-    pub(crate) fn open() -> (Driver, [Seat; 2]) {
-        let mut rcu = EngineHandle::open((SEATS + OWN) as u32).expect(FULL);
+    /// A driver with so many seats, and those of its benches.
+    pub(crate) fn open(seats: usize) -> (Driver, [Seat; 2]) {
+        let mut rcu = EngineHandle::open((seats + OWN) as u32).expect(FULL);
         let boot = rcu.seat(0).expect(FULL);
         boot.idle();
         let benches = [1, 2].map(|cpu| Seat::open(&mut rcu, cpu).expect(FULL));
         let driver = Driver {
             rcu,
             _boot: boot,
+            seats,
             dealt: Vec::new(),
             free: Vec::new(),
             awaited: Vec::new(),
@@ -49,13 +59,18 @@ impl Driver {
         (driver, benches)
     }
 
+    /// How many seats there are.
+    pub(crate) fn seats(&self) -> usize {
+        self.seats
+    }
+
     /// A seat that no thread has. None where all are taken, or there is no memory.
     pub(crate) fn seat(&mut self) -> Option<Arc<Seat>> {
         if let Some(seat) = self.free.pop() {
             return Some(seat);
         }
         let place = self.dealt.len();
-        if place == SEATS {
+        if place == self.seats {
             return None;
         }
         let seat = Arc::new(Seat::open(&mut self.rcu, OWN + place)?);
@@ -95,7 +110,7 @@ impl Driver {
     fn begin(&mut self) {
         self.rcu.begin();
         self.runs = true;
-        self.awaited.resize(SEATS + OWN, 0);
+        self.awaited.resize(self.dealt.len() + OWN, 0);
         let count = self.rcu.awaited(&mut self.awaited).len();
         self.awaited.truncate(count);
     }
@@ -121,5 +136,23 @@ impl Driver {
         global.tell_end(self.number + 4);
         self.number = self.rcu.end();
         self.runs = false;
+    }
+}
+
+#[cfg(test)]
+mod tests {
+    use super::{Driver, PROCESS_SEATS};
+
+    /// (1,021, where the build sets no other number. Past them threads share two.)
+    #[test]
+    fn each_seat_is_dealt_once() {
+        let (mut driver, _benches) = Driver::open(PROCESS_SEATS);
+        let mut all: Vec<_> = (0..PROCESS_SEATS).map(|_| driver.seat()).collect();
+        assert!(all.iter().all(Option::is_some) && driver.seat().is_none());
+        if let Some(Some(seat)) = all.pop() {
+            let cpu = seat.cpu();
+            driver.give_back(seat);
+            assert_eq!(driver.seat().map(|seat| seat.cpu()), Some(cpu));
+        }
     }
 }

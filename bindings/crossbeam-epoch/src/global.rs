@@ -39,8 +39,8 @@ pub(crate) struct Global {
 }
 
 impl Global {
-    pub(crate) fn new() -> Global {
-        let (driver, benches) = Driver::open();
+    pub(crate) fn new(seats: usize) -> Global {
+        let (driver, benches) = Driver::open(seats);
         Global {
             wanted: Apart(AtomicU64::new(0)),
             ended: Apart(AtomicU64::new(0)),
@@ -53,6 +53,11 @@ impl Global {
             left: Lock::new(VecDeque::new()),
             left_count: AtomicUsize::new(0),
         }
+    }
+
+    /// How many threads have a seat of their own at most.
+    pub(crate) fn seats(&mut self) -> usize {
+        self.driver.get_mut().seats()
     }
 
     /// A seat that no other thread has. None where all are taken, or there is no memory.

@@ -1,6 +1,7 @@
 //! Engines that wait for a collector. To open one takes as long as its processors are many. So one
 //! whose collector went is kept for the next.
 
+use crate::driver::SEATS;
 use crate::global::Global;
 use crate::lock::Lock;
 use std::ops::Deref;
@@ -17,7 +18,12 @@ pub(crate) struct Lent(Option<Box<Global>>);
 impl Lent {
     pub(crate) fn new() -> Lent {
         let waiting = WAITING.lock().pop();
-        Lent(waiting.or_else(|| Some(Box::new(Global::new()))))
+        Lent(waiting.or_else(|| Some(Box::new(Global::new(SEATS)))))
+    }
+
+    /// One with so many seats, which none waits for.
+    pub(crate) fn with_seats(seats: usize) -> Lent {
+        Lent(Some(Box::new(Global::new(seats))))
     }
 }
 
@@ -36,6 +42,9 @@ impl Drop for Lent {
             return;
         };
         global.run_all_left(); // where this panics, the engine is closed
+        if global.seats() != SEATS {
+            return;
+        }
         let mut waiting = WAITING.lock();
         if waiting.len() < MOST {
             return waiting.push(global);
