@@ -2,7 +2,7 @@
 link to its page. It lies beside the pages of docs/.
 
 Names of C are those of include/*.h; types of Rattle those that calls.md has (api_page.py); laws
-those of crates/*/src, as docs/PROMISES.md has them; faults those of docs/RULES.md.
+those of crates/*/src, as docs/PROMISES.md has them; faults those of docs/SCRIPTS.md.
 """
 import os
 import re
@@ -54,12 +54,12 @@ def laws():
 def written():
     """The page."""
     text, places = HEAD, {}
-    faults = re.findall(r"(?m)^- \*\*(\d+)\*\*, (\w+):", read("docs/RULES.md"))
+    faults = re.findall(r"(?m)^- \*\*(\d+)\*\*, (\w+):", read("docs/SCRIPTS.md"))
     groups = {"Calls of C": names_of_c(), "Laws": laws(),
               "Types of Rattle": names_of_rattle()}
     rows = [(title, sorted(set(its), key=lambda it: (it[0].lower(), it)))
             for title, its in groups.items()]
-    rows.append(("Faults", [(" ".join(it), "RULES.md#faults") for it in faults]))
+    rows.append(("Faults", [(" ".join(it), "SCRIPTS.md#faults") for it in faults]))
     for title, its in rows:
         names = [f"[`{name}`][{places.setdefault(place, len(places) + 1)}]" for name, place in its]
         lines = textwrap.fill(", ".join(it.replace(" ", "\0") for it in names), 100,

@@ -32,7 +32,7 @@ def members(mask):
 
 
 class Replica:
-    """What RULES.md says of the lines of a pair, in a few words a call."""
+    """What SCRIPTS.md says of the lines of a pair, in a few words a call."""
 
     def __init__(self, cpus, last=1 << 62):
         self.cpus, self.last = cpus, last
