@@ -28,6 +28,10 @@ def snapshot(number):
     return number // 4 * 4 + (8 if number % 4 else 4)
 
 
+class Unusable(Exception):
+    """The trace cannot be compared, and why."""
+
+
 class Difference(Exception):
     """The kernel and the engine disagree: at which event, and how, in Linux's words."""
 

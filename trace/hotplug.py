@@ -2,7 +2,7 @@
 arrival or a departure is a window, which the next masks settle."""
 import re
 
-from comparison import awaited_as_said
+from comparison import Unusable, awaited_as_said
 from quiescence import NO_READERS
 
 
@@ -57,6 +57,8 @@ class Hotplug:
                   f"CPU {cpu} comes online in Linux")
 
     def depart(self, cpu, event):
+        if cpu == 0:
+            raise Unusable(f"line {event.line}: CPU 0 goes offline, as the engine's never does")
         self.dying.discard(cpu)
         self.online.discard(cpu)
         self.idle.discard(cpu)

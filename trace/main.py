@@ -29,7 +29,7 @@ import sys
 HERE = os.path.dirname(os.path.realpath(__file__))
 sys.dont_write_bytecode = True
 sys.path.insert(0, HERE)
-from comparison import Difference, cpus
+from comparison import Difference, Unusable, cpus
 from doubts import Waiting, tie_before
 from engine import Engine, Stopped
 from events import Flavour, Order, read, windows
@@ -38,11 +38,8 @@ from picture import picture
 from replay import Replay, is_boot
 
 MOST_DRAWN = 200
+MOST_PROCESSORS = 4096  # of the engine
 MOST_LOSSES = 5  # that are told one by one
-
-
-class Unusable(Exception):
-    """The trace cannot be compared, and why."""
 
 
 class Trace:
@@ -81,8 +78,8 @@ class Trace:
         self.close()
         if not self.tree:
             raise Unusable("the trace has no rcu_grace_period 'start' with rcu_grace_period_init, "
-                           "so nobody knows who is awaited: record the events rcu:* on a kernel with "
-                           "CONFIG_RCU_TRACE")
+                           "so nobody knows who is awaited: record the events rcu:* on a kernel "
+                           "with CONFIG_RCU_TRACE")
         return not self.differences
 
     def lose(self, lost):
@@ -107,6 +104,9 @@ class Trace:
                 raise Unusable(f"grace period {period.number} starts, whose number is none of "
                                "gp_seq: the kernel is older than 4.19")
             self.tree = Tree(period, period.start.words[0] == "rcu_preempt")
+            if self.tree.processors() > MOST_PROCESSORS:
+                raise Unusable(f"the tree has {self.tree.cpus} CPUs: the engine takes "
+                               f"{MOST_PROCESSORS}, and of a preemptible kernel one for each leaf")
 
     # ---- one window: all events up to the end of a grace period
 

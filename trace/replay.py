@@ -1,6 +1,6 @@
 """A replay of a trace's stretch on the engine, from the start of a grace period on."""
 from callbacks import Callbacks
-from comparison import Comparison
+from comparison import Comparison, Unusable
 from grace_periods import GracePeriods
 from hotplug import Hotplug
 from quiescence import QuiescentStates
@@ -25,7 +25,9 @@ class Replay(GracePeriods, Hotplug, QuiescentStates, Callbacks, Comparison):
         self.event, self.place, self.ahead = None, 0, None
         self.is_boot = standing is None
         self.base = FIRST if self.is_boot else period.number - 1
-        online = {0} if self.is_boot else {0} | period.awaited()
+        online = {0} if self.is_boot else period.awaited()
+        if 0 not in online:
+            raise Unusable(f"line {period.start.line}: CPU 0 is offline, as the engine's never is")
         for cpu in sorted(online - {0}) + sorted(tree.readers.values()):
             self.say(f"online {cpu}")
         self.online = online
