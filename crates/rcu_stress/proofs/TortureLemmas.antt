@@ -1,5 +1,7 @@
 -- What a torture run counts, and the numbers of its workers.
-use Rattle.std.proofs.Common.{◌≡◌, ℕ, ◌<◌, List, [], ◌∷◌, All, cond, count_by, arith, subst}
+use Rattle.std.proofs.Common.{◌≡◌, ℕ, ◌<◌, List, [], ◌∷◌, All, cond, count_by, arith, map, subst}
+use Rattle.std.proofs.Common.{◌∙◌, ◌++◌, ◌-◌, ap, refl, suc, sym, zero}
+use Rattle.std.proofs.lemmas.List.{append_assoc, get_or-map, length-map, map_push}
 use Rattle.std.proofs.lemmas.Bool.{le-ltb}
 use Rattle.std.proofs.lemmas.List.Elements.{All-head, All-tail}
 use Rattle.std.specs.List.{range_with_len}
@@ -28,8 +30,42 @@ all_below n = λ k d inside.
     let at = get_or-range_with_len 0 n k d (omega (arith, inside, long)) in
     omega (arith, at, inside, long)
 
+-- where so many have the first numbers, each has one of them
+pub each_is_below : {X : Type 0} (f : X → ℕ) (n : ℕ) (xs : List X)
+    → map f xs ≡ range_with_len 0 n → All (λ x. f x < n) xs
+each_is_below f n xs are = λ k d inside.
+    let each = subst (All (λ i. i < n)) (sym are) (all_below n) in
+    let at = each k (f d) (omega (arith, length-map xs f, inside)) in
+    subst (λ i. i < n) (get_or-map f xs k d (f d) inside) at
+
+-- a job that is made of the next seat takes its place behind the others
+pub next_is_dealt : {J S : Type 0} (worker : J → ℕ) (cpu : S → ℕ) (jobs : List J) (job : J)
+    {more : List J} {seats rest : List S} {seat : S} {ks : List ℕ}
+    → more ≡ jobs ++ job ∷ [] → seats ≡ seat ∷ rest → worker job ≡ cpu seat
+    → map worker jobs ++ map cpu seats ≡ ks → map worker more ++ map cpu rest ≡ ks
+next_is_dealt worker cpu jobs job {more} {seats} {rest} {seat} pushed taken same dealt =
+    let at_end = ap (map worker) pushed ∙ map_push worker jobs job
+    ∙ ap (λ k. map worker jobs ++ k ∷ []) same in
+    ap (λ xs. xs ++ map cpu rest) at_end
+    ∙ append_assoc (map worker jobs) (cpu seat ∷ []) (map cpu rest)
+    ∙ ap (λ xs. map worker jobs ++ map cpu xs) (sym taken) ∙ dealt
+
 -- what all are, the first one is, and those behind it are
 pub first_and_rest_are : {X : Type 0} (P : X → Type 0) {x : X} {xs ys : List X}
     → xs ≡ x ∷ ys → All P xs → P x × All P ys
 first_and_rest_are P {x} {xs} {ys} is each =
     let all = subst (All P) is each in (All-head P x ys all, All-tail P x ys all)
+
+-- the first of so many, and the others
+pub range_from_0 : (n : ℕ) → 0 < n → range_with_len 0 n ≡ 0 ∷ range_with_len 1 (n - 1)
+range_from_0 zero some = absurd (omega arith)
+range_from_0 (suc n) some =
+    let same : n ≡ suc n - 1 = omega arith in ap (λ k. 0 ∷ range_with_len 1 k) same
+
+-- what is made of numbers, one each, has them
+pub numbers_made : {X : Type 0} (number : X → ℕ) (make : ℕ → X) → ((k : ℕ) → number (make k) ≡ k)
+    → (ks : List ℕ) → map number (map make ks) ≡ ks
+numbers_made number make same [] = refl
+numbers_made number make same (k ∷ ks) =
+    ap (λ n. n ∷ map number (map make ks)) (same k)
+    ∙ ap (λ ns. k ∷ ns) (numbers_made number make same ks)

@@ -1,12 +1,14 @@
 -- A worker of a torture run: what its words say, and what it does in a round.
 use Rattle.std.specs.Prelude.{◌≡◌, ℕ, ◌+◌, ◌*◌, ◌/◌, ◌%◌, ◌<◌, ◌≤◌, ◌==◌, ◌&&◌, ◌⊎◌, Bool, false}
-use Rattle.std.specs.Prelude.{not, true, if◌then◌else◌, All, IsSomeAnd, List, length}
+use Rattle.std.specs.Prelude.{not, true, if◌then◌else◌, All, IsSomeAnd, List, length, map}
+use Rattle.std.specs.List.{range_with_len}
 use Rattle.rand_pcg.specs.Lcg.{Lcg}
 use Rattle.rand_pcg.specs.Pcg.{pcg32}
 use Rattle.rcu_live.specs.Board.{Object}
 use Rattle.rcu_live.specs.CpuSeat.{Seated}
 use Rattle.rcu_live.specs.Watcher.{Watching}
 use Rattle.rcu_live.specs.declared.engine_lists.Ran.{Ran}
+use Rattle.rcu_stress.specs.Draws.{generator_of}
 use Rattle.rcu_stress.specs.Engine.{LockedAnswer, Collecting, Departing, Queueing, Running}
 use Rattle.rcu_stress.specs.Engine.{Tending, Turning}
 use Rattle.rcu_stress.specs.Ledger.{Counts, after_run, most_in_round}
@@ -24,16 +26,23 @@ pub record Worker : Type 0 where
   pub seat : Seated (Unit {0})
   pub watcher : Watching (Unit {0})
 
--- a seat and a watcher of this engine for each of so many workers; each seat is of a worker's
--- processor
+-- a seat and a watcher of this engine for each of so many workers; the seats are of the workers'
+-- processors, in order
 pub record AreOfWorkers (engine : Object (Unit {0})) (workers : ℕ)
     (seats : List (Seated (Unit {0})))
     (watchers : List (Watching (Unit {0}))) : Type 0 where
   pub seat_count : length seats ≡ workers
   pub watcher_count : length watchers ≡ workers
   pub each_seat : All (λ seat. seat.table ≡ engine.table) seats
-  pub each_cpu : All (λ seat. seat.cpu < workers) seats
+  pub cpus : map (λ seat. seat.cpu) seats ≡ range_with_len 0 workers
   pub each_watcher : All (λ watcher. watcher.table ≡ engine.table) watchers
+
+-- the jobs of a run with these settings: its workers', in order, each with the draws of the seed
+-- and of its worker
+pub record AreJobs (settings : RunSettings) (jobs : List Worker) : Type 0 where
+  pub workers : map (λ job. job.worker) jobs ≡ range_with_len 0 settings.workers
+  pub each_settings : All (λ job. job.settings ≡ settings) jobs
+  pub each_draws : All (λ job. job.draws ≡ generator_of settings.seed job.worker) jobs
 
 -- the word of a worker's next round
 abbrev pub word_of : Worker → ℕ

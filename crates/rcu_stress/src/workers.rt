@@ -1,8 +1,8 @@
 //! The workers of a run, each on a thread of its own.
-ghost use Rattle.std.specs.Prelude.{◌≡◌, ◌+◌, ◌<◌, ◌≤◌, IfOk, vec_capacity, vec_len};
+ghost use Rattle.std.specs.Prelude.{◌≡◌, ◌+◌, ◌<◌, ◌≤◌, ◌∷◌, IfOk, vec_capacity, vec_len};
 ghost use Rattle.std.specs.Thread.{IsSync};
 ghost use Rattle.rcu_stress.specs.Ledger.{most_rounds};
-ghost use Rattle.rcu_stress.specs.Worker.{AreOfWorkers};
+ghost use Rattle.rcu_stress.specs.Worker.{AreJobs, AreOfWorkers};
 ghost use Rattle.rcu_stress.specs.WorkerResults.{HasAdded};
 
 use crate::engine::Engine;
@@ -63,7 +63,8 @@ pub(crate) fn deal_jobs<'a, R: Wait>(
     requires some { 0 < settings.workers }
     requires rounds { settings.rounds ≤ most_rounds }
     requires seats { AreOfWorkers live.now settings.workers seats.items watchers.items }
-    ensures { IfOk result (λ jobs. vec_len jobs.1 + 1 ≡ settings.workers) }
+    ensures jobs { IfOk result (λ jobs. AreJobs settings (jobs.0 ∷ jobs.1.items)) }
+    ensures len { IfOk result (λ jobs. vec_len jobs.1 + 1 ≡ settings.workers) }
 {
     let Ok(mut others) = Vec::with_capacity(alloc, settings.workers as usize) else {
         return Err(Fault::NoMemory);
