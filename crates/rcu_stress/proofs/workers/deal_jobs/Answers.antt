@@ -125,7 +125,8 @@ returns-clause-jobs g c =
     let none : length rest ≡ 0 = omega (arith, all, kept.seats_left) in
     let others =
     sym (append-nil (map (λ j. j.worker) jobs))
-    ∙ ap (λ xs. map (λ j. j.worker) jobs ++ map (λ seat. seat.cpu) xs) (sym (nil_from_length rest none))
+    ∙ ap (λ xs. map (λ j. j.worker) jobs ++ map (λ seat. seat.cpu) xs)
+    (sym (nil_from_length rest none))
     ∙ kept.workers in
     record {
       workers =
