@@ -12,7 +12,7 @@ ghost use Rattle.rcu_c.specs.Holding.{HoldsEngine, engine_of, on_engine};
 ghost use Rattle.rcu_c.specs.Refusals.{engine_number, engine_refusal};
 
 use crate::barriers::left_in_c;
-use crate::codes::{accepted, code, write_out};
+use crate::codes::{code, write_out};
 use crate::handle::Rcu;
 use crate::open_engine::TreeEngine;
 use rcu_barrier::Visit;
@@ -117,7 +117,12 @@ pub extern "C" fn rcu_barrier_wait_unfenced(rcu: &mut Rcu, left: &mut u64) -> u3
         rcu.new.contents ≡ rcu.old.contents }
     ensures unwritten { result ≢ 0 → left.new ≡ left.old }
 {
-    let engine = &mut accepted!(rcu.engine()).inner;
-    accepted!(make_ready(engine), code);
+    let engine = match rcu.engine() {
+        Ok(opened) => &mut opened.inner,
+        Err(refusal) => return refusal.number(),
+    };
+    if let Err(fault) = make_ready(engine) {
+        return code(fault);
+    }
     write_out(drive_and_test(engine), left)
 }

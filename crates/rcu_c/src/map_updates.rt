@@ -14,7 +14,7 @@ ghost use Rattle.rcu_c.specs.Maps.{map_nodes, waiting_refusal, width_refusal};
 ghost use Rattle.rcu_c.specs.Refusals.{engine_number};
 ghost use Rattle.rcu_c.specs.Staying.{BothStay};
 
-use crate::codes::{accepted, code, status};
+use crate::codes::{accepted, code};
 use crate::handle::{Rcu, RcuSeat};
 use crate::keyed_words::tell;
 use crate::refusal::Refusal;
@@ -219,7 +219,10 @@ pub extern "C" fn rcu_map_wait_unfenced(rcu: &mut Rcu) -> u32
     if opened.map.has_free_node() {
         return 0;
     }
-    status(opened.inner.drive_for(cookie))
+    match opened.inner.drive_for(cookie) {
+        Ok(_) => 0,
+        Err(fault) => code(fault),
+    }
 }
 
 /// One step of waiting for a free node, as `rcu_map_wait`, by the thread of a seat: in a section of
