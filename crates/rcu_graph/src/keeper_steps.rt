@@ -1,4 +1,4 @@
-//! The steps of who keeps a graph, by a watcher's seat.
+//! The steps of the writer of a graph, by a watcher's seat.
 ghost use Rattle.std.specs.Prelude.{◌≡◌, ◌≤◌, ◌<◌, ◌+◌, [], true};
 ghost use Rattle.rcu_live.specs.Numbers.{is_number_word};
 ghost use Rattle.rcu_live.specs.InPart.{watcher_part};

@@ -59,7 +59,7 @@ impl<P: Client> Model for Board<P> {
 
 /// A store of an own word by which a grace period may hear of its processor. Only [`Board::store`]
 /// makes one, and it cannot be let go: behind the store, [`Shared::stored`](crate::Shared::stored)
-/// takes it and wakes who sleeps until then.
+/// takes it and wakes the waiters that sleep until then.
 pub struct Stored {
     cpu: u32,
 }
@@ -73,7 +73,7 @@ impl Model for Stored {
 }
 
 impl Stored {
-    /// Wakes who sleeps until this processor reports.
+    /// Wakes the waiters that sleep until this processor reports.
     #[inline]
     pub(crate) fn wakes<P: Client>(self, board: &Board<P>, sleepers: &Sleepers) {
         let Stored { cpu } = self;
@@ -206,8 +206,8 @@ impl<P: Client> Board<P> {
         self.table.shared.load::<Close<P>>(seat, NUMBER)
     }
 
-    /// Own-word store by which a grace period may hear of the processor. Returns what wakes who
-    /// sleeps until then.
+    /// Own-word store by which a grace period may hear of the processor. Returns what wakes the
+    /// waiters that sleep until then.
     pub fn store(&self, seat: &mut TableSeat<P>, cpu: u32, word: u64) -> Stored
         requires table { seat.old.table_id ≡ self.now.table }
         requires inside { own_word_index cpu < seat.old.table_id.words }

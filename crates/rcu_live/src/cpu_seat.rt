@@ -28,7 +28,8 @@ const IDLE_WORD: u64 = 1 << 63;
 /// A processor's seat, for one thread.
 ///
 /// Behind each store of its own word, but that of a wake, of a pin or of an arrival, a call looks
-/// once whether it has to wake who sleeps until then: [`Shared::stored`] says what that costs.
+/// once whether it has to wake the waiters that sleep until then: [`Shared::stored`] says what that
+/// costs.
 #[derive(Drop)]
 pub struct CpuSeat<P: Client = NoClient> {
     /// Whether the processor is online and whether it is idle, how deep its sections nest, and the

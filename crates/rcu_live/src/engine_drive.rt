@@ -92,7 +92,7 @@ impl<A: Awaited, T: Drop, P: Client> Engine<A, T, P> {
         self.step(is_wanted)
     }
 
-    /// The same for who waits for this cookie: where none runs, one begins if the cookie is not
+    /// The same for a waiter for this cookie: if none runs, one begins if the cookie is not
     /// done yet.
     ///
     /// Fault `Exhausted` (11): one would begin, and the number is the last one.

@@ -29,7 +29,7 @@ impl<const LEAF: u32, const FAN: u32, T: Drop, P: Client> Live<LEAF, FAN, T, P> 
         self.engine.lock(rt).drive()
     }
 
-    /// The same for who waits for this cookie, as [`Engine::drive_for`](crate::engine::Engine).
+    /// The same for a waiter for this cookie, as [`Engine::drive_for`](crate::engine::Engine).
     ///
     /// Fault `Exhausted` (11): a grace period would begin, and the number is the last one.
     pub fn drive_for(&self, rt: &impl Wait, cookie: Cookie) -> Result<Turned, Fault>

@@ -123,9 +123,9 @@ pub fn no_callback_runs_early<T: Drop, P: Client>()
 
 /// No quiescent state is slept through. A processor was asked last to wake the thread that sleeps.
 /// Its own word is always what its seat stored last: the collection behind the asking finds what
-/// was stored before. If the seat has stored since, and looked who is asked behind its latest
-/// store, as each report does, that look found it asked, or the asking was taken back. A thread
-/// that finds its processor asked, or takes an asking back, wakes all.
+/// was stored before. If the seat has stored since, and looked which processor is asked behind its
+/// latest store, as each report does, that look found it asked, or the asking was taken back. A
+/// thread that finds its processor asked, or takes an asking back, wakes all.
 pub fn no_quiescent_state_is_slept_through<P: Client>()
     ensures before { (plan : P.Plan) (cpus : ℕ) (s : State (Unit {0}) (View P.Known)) (k : ℕ)
         (seat : View P.Known) → IsMoment (P.holds plan) cpus s →

@@ -122,7 +122,8 @@ impl<S, C> Play<S, View<C>> for End {
     ghost then = { λ step me _ now. (now.0 ≡ after_end_store me.0 step.first) × (now.1 ≡ me.1) };
 }
 
-/// A processor is asked to wake who sleeps: an exchange, which makes the seat of that asking.
+/// A processor is asked to wake the sleeping waiters: an exchange, which makes the seat of that
+/// asking.
 pub struct Ask;
 
 impl<S, C> Play<S, View<C>> for Ask {
@@ -132,7 +133,7 @@ impl<S, C> Play<S, View<C>> for Ask {
     ghost then = { λ step _ _ now. (now.0.role ≡ Asker) × (step.first ≡ now.0.cpu + 1) };
 }
 
-/// A look at who is asked: a load, which makes the seat of that look.
+/// A look at which processor is asked: a load, which makes the seat of that look.
 pub struct LookAtAsked;
 
 impl<S, C> Play<S, View<C>> for LookAtAsked {

@@ -18,9 +18,9 @@ pub trait Shared<P: Client> {
         ensures { result.now ≡ object self.now };
 
     /// What a seat calls once behind each store by which an awaited processor is heard of: it wakes
-    /// who sleeps until then, if somebody does. With a [`Live`](crate::Live) that costs one load,
-    /// and if the processor is asked to wake who sleeps, an exchange, an addition and a wake. By
-    /// the words alone it costs nothing.
+    /// the waiters that sleep until then, if there are any. With a [`Live`](crate::Live) that costs
+    /// one load, and if the processor is asked to wake the sleeping waiters, an exchange, an
+    /// addition and a wake. By the words alone it costs nothing.
     fn stored(&self, stored: Stored);
 }
 

@@ -7,7 +7,8 @@ use crate::client::Client;
 use crate::wake_words::{Asked, NotHeard, WakeCount};
 use std::sync::Wait;
 
-/// The word by which who sleeps is woken. Who is asked to do so stands beside the number.
+/// The word that wakes sleeping waiters. The processor that is asked to do so is in a word beside
+/// the number.
 #[derive(Drop)]
 #[repr(C)]
 pub(crate) struct Sleepers {
@@ -27,7 +28,8 @@ impl Sleepers {
         }
     }
 
-    /// Asks this processor to wake who sleeps. Who sleeps since another one was asked is woken.
+    /// Asks this processor to wake the sleeping waiters. Waiters that sleep since another one was
+    /// asked are woken.
     pub(crate) fn ask<P: Client>(&self, board: &Board<P>, cpu: u32) -> Asked
         ensures { result ≡ cpu }
     {

@@ -49,7 +49,7 @@ impl<P: Client> UndealtSeat<P> {
         }
     }
 
-    /// The seat.
+    /// Returns the seat.
     pub fn into_seat(self) -> CpuSeat<P>
         ensures { result ≡ self }
     {

@@ -8,7 +8,7 @@ pub enum Role {
     Engine,
     /// An asking: it is made by that step, and takes no other.
     Asker,
-    /// A look at who is asked: so is it.
+    /// A look at which processor is asked: so is it.
     Looker,
 }
 
@@ -16,17 +16,18 @@ pub enum Role {
 pub struct View<C> {
     pub role: Role,
     /// Of a processor's seat its processor; of the engine's the first processor with no seat yet.
-    /// Of an asking and of a look at who is asked, the processor that was asked, or looked so.
+    /// Of an asking and of a look at which processor is asked, the processor that was asked, or
+    /// looked so.
     pub cpu: u32,
     /// The greatest number seen; of the engine's seat the number.
     pub seen: u64,
     /// How many loads the seat made. One of an online mask counts once for each own word of which
     /// it says.
     pub loads: u64,
-    /// How many times the seat stored its processor's own word. Of an asking, and of a look at who
-    /// is asked, how many times that had happened by then.
+    /// How many times the seat stored its processor's own word. Of an asking, and of a look at
+    /// which processor is asked, how many times that had happened by then.
     pub stores: u64,
-    /// The processor's own word. Of a look at who is asked, what it found.
+    /// The processor's own word. Of a look at which processor is asked, what it found.
     pub own_word: u64,
     /// The number at which the open section began.
     pub section: Option<u64>,

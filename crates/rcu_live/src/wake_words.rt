@@ -1,5 +1,5 @@
-//! The two words by which who sleeps is woken, and what a step on one of them gives to the next
-//! step: nothing else makes it, so no body takes the steps in another order. Each step is
+//! The two words by which sleeping waiters are woken, and what a step on one of them gives to the
+//! next step: nothing else makes it, so no body takes the steps in another order. Each step is
 //! sequentially consistent, and so is each store of an own word: either the look behind that finds
 //! who is asked, or the collection behind the asking finds what was stored.
 ghost use Rattle.std.specs.Prelude.{◌≡◌, ◌≢◌, ◌<◌, IfSome, None};
@@ -30,7 +30,7 @@ pub(crate) struct TakenBack {
     asked: u64,
 }
 
-/// A processor that is asked to wake who sleeps. [`hear`](Asked::hear) alone takes it.
+/// A processor that is asked to wake the sleeping waiters. [`hear`](Asked::hear) alone takes it.
 pub struct Asked {
     cpu: u32,
     counted: Counted,
@@ -108,8 +108,8 @@ impl WakeCount {
 }
 
 impl<P: Client> Board<P> {
-    /// Asks this processor to wake who sleeps, once the wakes are counted. If another one was
-    /// asked, that is taken back: it may have stored, and find somebody else asked.
+    /// Asks this processor to wake the sleeping waiters, once the wakes are counted. If another one
+    /// was asked, that is taken back: it may have stored, and find somebody else asked.
     pub(crate) fn ask(&self, cpu: u32, counted: Counted) -> (Asked, Option<TakenBack>)
         ensures { result.0 ≡ cpu }
     {

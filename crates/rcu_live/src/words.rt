@@ -7,8 +7,9 @@ use std::alloc::{AllocError, Global};
 /// The place of the number word.
 pub const NUMBER: usize = 0;
 
-/// The place of the word that says which processor is asked to wake who sleeps: in the number's
-/// cache line, which a report has loaded. It changes where a wait sleeps or is woken alone.
+/// The place of the word that says which processor is asked to wake the sleeping waiters: in the
+/// number's cache line, which a report has loaded. It changes where a wait sleeps or is woken
+/// alone.
 pub const ASKED: usize = 1;
 
 /// How many words a cache line has. The second line of each 128 bytes is none of an own word, and
