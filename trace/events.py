@@ -127,7 +127,9 @@ class Order:
         window, place = list(window), 0
         while place < len(window):
             event = window[place]
-            if event.name == "rcu_grace_period_init":
+            if is_start(event):
+                self.masks.clear()
+            elif event.name == "rcu_grace_period_init":
                 self.masks[event.words[1], event.words[2], event.words[3]] = int(event.words[5], 16)
             elif event.name == "rcu_quiescent_state_report":
                 then = self.next_of_its_node(window, place)

@@ -6,7 +6,8 @@ from hotplug import Hotplug
 from quiescence import QuiescentStates
 
 FIRST = -300 * 4  # rcu_state.gp_seq as a kernel boots
-# A script takes 1,000,000 callbacks: some before that a replay begins anew.
+# A script takes 1,000,000 callbacks, and its program keeps each report: some before that a replay
+# begins anew.
 MOST_CALLBACKS = 900_000
 
 
@@ -70,4 +71,4 @@ class Replay(GracePeriods, Hotplug, QuiescentStates, Callbacks, Comparison):
         self.seen["stall warnings of Linux"] += 1
 
     def is_long(self):
-        return self.ids > MOST_CALLBACKS
+        return max(self.ids, self.reports) > MOST_CALLBACKS
