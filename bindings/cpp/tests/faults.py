@@ -24,11 +24,14 @@ FAULTS = {
         HEADER, "        if (__builtin_expect(is_wished, 0)) urcu_cpp_wake_maker();\n", "",
         "general_4_region"),
     "a region without membarrier(2) has no fence": (
-        SHOWN, "is_busy() || self.beside || !by_system;", "is_busy() || self.beside;", MODEL),
+        SHOWN, "is_busy() || self.beside || (BY_WORD && !by_system);", "is_busy() || self.beside;",
+        MODEL),
     "a handler's region takes a busy thread's place": (
-        SHOWN, "is_busy() || self.beside || !by_system;", "self.beside || !by_system;", MODEL),
+        SHOWN, "is_busy() || self.beside || (BY_WORD && !by_system);",
+        "self.beside || (BY_WORD && !by_system);", MODEL),
     "a region beside ends as one of the place": (
-        SHOWN, "is_busy() || self.beside || !by_system;", "is_busy() || !by_system;", MODEL),
+        SHOWN, "is_busy() || self.beside || (BY_WORD && !by_system);",
+        "is_busy() || (BY_WORD && !by_system);", MODEL),
     "try_lock opens no region": (
         HEADER, "        lock();\n        return true;", "        return true;",
         "domain_lock_opens"),

@@ -115,8 +115,8 @@ FAULTS = {
         "callbacks.c", "    if (!milliseconds) return;\n", "    return;\n",
         "memb", "gathers", False),
     "who goes offline is waited for": (
-        "readers_by_state.c", "    self.online = false;\n    close_seat(self.place);",
-        "    self.online = false;", "qsbr", "quiet", HANGS),
+        "readers_by_state.c", "    mark_release();\n    close_seat(self.place);",
+        "    mark_release();", "qsbr", "quiet", HANGS),
     "the line of a misuse is not kept": (
         "base.c", "    keep(line);\n", "", "memb", "misuse", False),
     "a daemon's misuse is not heard": (
