@@ -3,9 +3,11 @@
  * It rests on callbacks.c: a worker runs its callbacks in the order in which they were pushed. */
 #include "workers.h"
 
+/* Under the lock. */
 static pthread_cond_t barrier_over = PTHREAD_COND_INITIALIZER;
 static unsigned markers_left;
 
+/* By a worker, once it has run all callbacks that were pushed before the marker. */
 static void pass_marker(struct rcu_head *head) {
     (void)head;
     hold();
@@ -29,6 +31,8 @@ static void mark(struct call_rcu_data *worker) {
     let_go();
 }
 
+/* A worker runs its marker only after the callback that it is in, so that callback would wait for
+ * good. */
 static void look_for_own_worker(void) {
     hold();
     for (struct call_rcu_data *it = workers; it; it = it->next)
@@ -48,13 +52,13 @@ void CALL(barrier)(void) {
         say("rcu_barrier", "the thread is in a section");
         return;
     }
-    bool was_online = leave("rcu_barrier");
+    bool was_online = leave("rcu_barrier"); /* else a grace period would wait for the caller */
     look_for_own_worker();
-    pthread_mutex_lock(&visits);
+    pthread_mutex_lock(&visits); /* no worker goes meanwhile, and no other barrier has markers */
     hold();
     struct call_rcu_data *first = workers; /* one that is made later stands before it */
     for (struct call_rcu_data *it = first; it; it = it->next) markers_left++;
-    let_go();
+    let_go(); /* all markers are counted before the first one can run */
     for (struct call_rcu_data *it = first; it; it = it->next) mark(it);
     hold();
     while (markers_left) sleep_on(&barrier_over);

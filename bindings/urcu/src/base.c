@@ -11,6 +11,7 @@ static atomic_bool writing;
 static void (*_Atomic misuse_report)(const char *line, void *context);
 static void *_Atomic misuse_context;
 
+/* The context comes first: a thread that finds the report finds its context. */
 void CALL(on_misuse)(void (*report)(const char *line, void *context), void *context) {
     atomic_store(&misuse_context, context);
     atomic_store(&misuse_report, report);
@@ -18,7 +19,7 @@ void CALL(on_misuse)(void (*report)(const char *line, void *context), void *cont
 
 /* A debugger shows the line, in a core too. Of two threads at once the first one's is kept. */
 static void keep(const char *line) {
-    if (atomic_exchange(&writing, true)) return;
+    if (atomic_exchange(&writing, true)) return; /* a signal handler cannot wait for its thread */
     snprintf(CALL(misuse), sizeof CALL(misuse), "%s", line);
     atomic_store(&writing, false);
 }
@@ -45,6 +46,7 @@ void fail_by(const char *call, uint32_t fault) {
 
 /* ---- conditions, with the lock held */
 
+/* By the monotonic clock: who sets the time ends no sleep. */
 void make_condition(pthread_cond_t *condition) {
     pthread_condattr_t attributes;
     pthread_condattr_init(&attributes);
@@ -53,6 +55,7 @@ void make_condition(pthread_cond_t *condition) {
     pthread_condattr_destroy(&attributes);
 }
 
+/* A thread that was cancelled in the wait would end with the lock held. */
 void sleep_on(pthread_cond_t *condition) {
     int was;
     pthread_setcancelstate(PTHREAD_CANCEL_DISABLE, &was);

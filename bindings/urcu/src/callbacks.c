@@ -9,13 +9,14 @@
 #include "workers.h"
 #include <sched.h>
 
-static atomic_uint rest_milliseconds = 10;
+static atomic_uint rest_milliseconds = 10; /* an older value makes one rest longer or shorter */
 uint64_t callbacks_run;
 
 void CALL(call_rcu_rest)(unsigned milliseconds) {
     atomic_store(&rest_milliseconds, milliseconds);
 }
 
+/* By the lock: the worker sleeps already, or it looks at the list after this. */
 static SLOW void wake_worker(struct call_rcu_data *worker) {
     hold();
     clock_gettime(CLOCK_MONOTONIC, &worker->since);
@@ -23,6 +24,8 @@ static SLOW void wake_worker(struct call_rcu_data *worker) {
     let_go();
 }
 
+/* The head's words, and the unlink before it, come before the store that lists it (release), which
+ * the worker's exchange reads (acquire). Behind a first one nobody wakes: that one's push does. */
 void push(struct call_rcu_data *worker, struct rcu_head *head) {
     struct rcu_head *last = atomic_load_explicit(&worker->last, memory_order_relaxed);
     do head->next = last;
@@ -31,6 +34,7 @@ void push(struct call_rcu_data *worker, struct rcu_head *head) {
     if (unlikely(!last)) wake_worker(worker);
 }
 
+/* Each head leads to the one that was pushed before it. */
 static struct rcu_head *in_order(struct rcu_head *last, unsigned long *count) {
     struct rcu_head *first = 0;
     for (*count = 0; last; ++*count) {
@@ -66,12 +70,14 @@ void CALL(call_rcu)(struct rcu_head *head, void (*func)(struct rcu_head *head)) 
 
 /* ---- a worker's thread, with the lock held but where callbacks run */
 
+/* An older `ended` makes one grace period too many, and none too few. */
 static bool is_asked_for_a_round(struct call_rcu_data *worker) {
     return worker == atomic_load(&main_worker) &&
            all.asked_for > atomic_load_explicit(&all.ended, memory_order_relaxed);
 }
 
-/* As liburcu's, a worker lets callbacks gather before it takes them. */
+/* As liburcu's, a worker lets callbacks gather before it takes them. Who waits for it hurries it, or
+ * stops or pauses it, with the lock held: so it looks at all three after each wake. */
 static void rest(struct call_rcu_data *worker) {
     unsigned milliseconds = atomic_load_explicit(&rest_milliseconds, memory_order_relaxed);
     struct timespec until;
@@ -83,9 +89,9 @@ static void rest(struct call_rcu_data *worker) {
 
 static void run_all(struct call_rcu_data *worker, struct rcu_head *head) {
     while (head) {
-        struct rcu_head *next = head->next;
+        struct rcu_head *next = head->next; /* the callback may free the head */
         head->func(head);
-        CALL(quiescent_state)();
+        CALL(quiescent_state)(); /* in qsbr a long batch holds no grace period up */
         head = next;
     }
     atomic_store(&worker->running, 0);
@@ -97,6 +103,9 @@ static bool is_marker_alone(struct call_rcu_data *worker, struct rcu_head *first
     return first == &worker->marker && !first->next;
 }
 
+/* The list is taken before the grace period begins. So of each callback that was taken the unlink
+ * comes before that begin. The worker is online while callbacks run, which may read, and offline in
+ * all waits, so that no grace period waits for it. */
 static void run_batch(struct call_rcu_data *worker) {
     struct rcu_head *last = atomic_exchange_explicit(&worker->last, 0, memory_order_acquire);
     unsigned long count;
@@ -116,6 +125,7 @@ static void run_batch(struct call_rcu_data *worker) {
     callbacks_run += count;
 }
 
+/* With the lock held: who forks knows that the worker is in no change of its list. */
 static void pause_for_fork(struct call_rcu_data *worker) {
     worker->paused = true;
     pthread_cond_broadcast(&all.paused);
@@ -131,6 +141,9 @@ static void bind_to(int cpu) {
     sched_setaffinity(0, sizeof set, &set);
 }
 
+/* It looks at the list with the lock held before it sleeps. Who pushes the first callback takes the
+ * lock to wake it: so that look sees the callback, or the sleep ends. A fork comes first, as it
+ * waits for all workers. */
 void *work(void *it) {
     struct call_rcu_data *worker = it;
     bind_to(worker->cpu);

@@ -38,12 +38,14 @@ static struct ring *rings; /* under the lock; none goes */
 
 /* A deferred call may wait for a round. So who waits for its end is offline. */
 static void start_draining(void) {
-    bool was_online = self.online;
+    bool was_online = self.online; /* in qsbr; the other flavours have no online state */
     CALL(thread_offline)();
     pthread_mutex_lock(&draining);
     come_back(was_online);
 }
 
+/* What a call needs is copied before its room is given back (release), which the adding thread loads
+ * (acquire) before it writes there. It is given back before the call is made, as that may defer. */
 static void make_calls(struct ring *ring, unsigned long limit) {
     unsigned long at = atomic_load_explicit(&ring->made, memory_order_relaxed);
     for (; (long)(limit - at) > 0; at++) {
@@ -55,7 +57,8 @@ static void make_calls(struct ring *ring, unsigned long limit) {
 
 static void drain(struct rcu_head *head);
 
-/* By who found that it was not queued, or by its callback. */
+/* By who found that it was not queued, or by its callback: one at a time, so `limit` needs no order
+ * of its own. It is read before the callback's grace period begins. */
 static void queue(struct ring *ring) {
     ring->limit = atomic_load(&ring->added);
     CALL(call_rcu)(&ring->head, drain);
@@ -67,7 +70,7 @@ static void drain(struct rcu_head *head) {
     start_draining();
     make_calls(ring, limit);
     pthread_mutex_unlock(&draining);
-    atomic_store(&ring->queued, false);
+    atomic_store(&ring->queued, false); /* before the last look, as a thread adds before its look */
     if (atomic_load(&ring->added) != limit && !atomic_exchange(&ring->queued, true)) queue(ring);
 }
 
@@ -95,7 +98,7 @@ static struct ring *add_ring(void) {
 }
 
 static SLOW struct ring *take_ring(void) {
-    tell_end();
+    tell_end(); /* at the thread's end the ring is given to the next one */
     hold();
     struct ring *ring = find_ring();
     let_go();
@@ -111,6 +114,7 @@ void give_back_ring(void) {
     let_go();
 }
 
+/* The limit comes before the grace period: a call that is added later is not covered by it. */
 static SLOW void make_all(struct ring *ring) {
     unsigned long limit = atomic_load(&ring->added);
     CALL(synchronize_rcu)();
@@ -121,7 +125,7 @@ static SLOW void make_all(struct ring *ring) {
 
 void CALL(defer_rcu)(void (*func)(void *p), void *p) {
     struct ring *ring = likely(self.deferred) ? self.deferred : take_ring();
-    if (unlikely(!ring)) {
+    if (unlikely(!ring)) { /* out of memory: the call is made now, and the caller waits for it */
         CALL(synchronize_rcu)();
         func(p);
         return;
@@ -131,7 +135,7 @@ void CALL(defer_rcu)(void (*func)(void *p), void *p) {
         make_all(ring);
     mark_release();
     ring->calls[at % RING] = (struct deferred){func, p};
-    atomic_store(&ring->added, at + 1);
+    atomic_store(&ring->added, at + 1); /* after the call's words, and before the look */
     if (unlikely(!atomic_load(&ring->queued)) && !atomic_exchange(&ring->queued, true)) queue(ring);
 }
 
@@ -150,6 +154,7 @@ void CALL(defer_unregister_thread)(void) {
     give_back_ring();
 }
 
+/* All limits come before the grace period. A ring that is added meanwhile has no earlier call. */
 void CALL(defer_barrier)(void) {
     bool was_online = leave("rcu_defer_barrier");
     pthread_mutex_lock(&barriers);

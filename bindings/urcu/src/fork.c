@@ -37,6 +37,7 @@ static void start_without_workers(void) {
 
 static void renew(bool keeps_workers) {
     struct place *old = self.place;
+    /* Threads that the child does not have may hold the lock, or sleep on a condition. */
     pthread_mutex_init(&all.lock, 0);
     make_condition(&all.quiet);
     pthread_cond_init(&all.round_over, 0);
@@ -50,8 +51,8 @@ static void renew(bool keeps_workers) {
     self.thread = 0;
     self.place = 0;
     show_place();
-    renew_room();
-    if (BY_WORD) set_up_readers();
+    renew_room(); /* before the first engine of the child takes some */
+    if (BY_WORD) set_up_readers(); /* membarrier(2) registers a process, and the child is another */
     if (old) {
         take_place(old->registered_at);
         stay_as_in(old);
@@ -73,6 +74,7 @@ void set_up_forks(void) {
 
 /* ---- liburcu's handlers */
 
+/* A worker that pauses holds no lock and is in no change of a list, so the child has it whole. */
 static void pause_workers(void) {
     hold();
     all.pausing = true;
@@ -88,8 +90,10 @@ static void pause_workers(void) {
     let_go();
 }
 
+/* The locks in the order in which all take them: those of workers, and within them the layer's. They
+ * are held over the fork, so that the child finds no list of workers half changed. */
 void CALL(call_rcu_before_fork)(void) {
-    if (self.forks++) return;
+    if (self.forks++) return; /* a program may call it, and a library that registered it too */
     self.was_online = leave("call_rcu_before_fork");
     set_up();
     if (table) table->before_fork(table->priv);
@@ -114,7 +118,7 @@ void CALL(call_rcu_after_fork_parent)(void) {
  * anew. */
 static void go_on_with_default_worker(void) {
     struct call_rcu_data *gone = workers, *worker = atomic_load(&main_worker);
-    if (worker) make_condition(&worker->work);
+    if (worker) make_condition(&worker->work); /* its thread slept on it in the parent */
     forget_workers_of_cpus();
     self.worker = 0;
     workers = worker;
@@ -124,7 +128,7 @@ static void go_on_with_default_worker(void) {
         push_all(default_worker(), atomic_load(&it->last));
         free(it);
     }
-    if (!worker) return;
+    if (!worker) return; /* none was needed yet: the first callback makes one */
     worker->next = 0;
     worker->paused = false;
     start_worker(worker);

@@ -3,8 +3,9 @@
  * bp, and in seats.h for mb and qsbr. When the objects are joined all names are hidden
  * but those of liburcu's interface (the Makefile).
  *
- * A thread that is registered has a place: the open seat of a processor that is online. A place
- * that is free is idle, so no grace period waits for it. */
+ * A reader, a thread that is registered, has a place: the open seat of a processor that is online. A
+ * place that is free is idle, so no grace period waits for it. A round is a grace period of each
+ * engine that has a reader; its maker, the gp_thread, is the thread that waits for it. */
 #ifndef URCU_LAYER_H
 #define URCU_LAYER_H
 #ifndef _GNU_SOURCE

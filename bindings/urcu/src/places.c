@@ -56,8 +56,8 @@ static void take_free_place(const void *registered_at) {
     if (!self.thread) self.thread = (int)syscall(SYS_gettid);
     place->thread = self.thread;
     place->registered_at = registered_at;
-    if (BY_WORD) open_seat(place);
-    self.place = place;
+    if (BY_WORD) open_seat(place); /* from here on grace periods that begin wait for the place */
+    self.place = place; /* the last step: a section may open in it */
 }
 
 void take_place(const void *registered_at) {
@@ -74,11 +74,11 @@ void give_back_place(void) {
     if (!place) return;
     hold();
     if (BY_WORD || !rcu_seat_is_idle(&place->seat)) close_seat(place);
-    atomic_store_explicit(&place->depth, 0, memory_order_relaxed);
+    atomic_store_explicit(&place->depth, 0, memory_order_relaxed); /* the lock orders it */
     place->next = place->engine->free_places;
     place->engine->free_places = place;
     if (!--place->engine->taken) all.used--;
     self.place = 0;
     let_go();
-    got_quiet(place);
+    got_quiet(place); /* a grace period may sleep until this reader is quiet */
 }

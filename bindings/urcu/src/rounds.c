@@ -61,8 +61,8 @@ static void finish(struct engine *engine) {
     for (unsigned looks = 1; still_goes_on(engine); looks++) {
         __builtin_ia32_pause();
         if (looks % LOOKS) continue;
-        goes_on(engine, wish);
-        if (BY_WORD) fence_readers();
+        goes_on(engine, wish);        /* the wish comes before the last look, .. */
+        if (BY_WORD) fence_readers(); /* .. also for a reader whose fence is this one */
         if (still_goes_on(engine)) sleep_or_report(engine);
     }
 }
@@ -88,11 +88,12 @@ static void make_round(void) {
     struct engine *round = begin_all();
     tell_begun(all.begun); /* a thread that sees it sees the number of the begun grace period */
     time_round(round != 0);
+    /* A reader whose word says now that it is in no section sees, in its next one, what came before. */
     if (BY_WORD && round) fence_readers();
     for (struct engine *it = round; it; it = it->next_in_round) finish(it);
     rcu_fence();
     while (atomic_load(&all.beside)) sched_yield();
-    atomic_store_explicit(&all.ended, all.begun, memory_order_release);
+    atomic_store_explicit(&all.ended, all.begun, memory_order_release); /* for polls: no lock */
     time_end_of_round(round != 0);
     all.making = false;
     pthread_cond_broadcast(&all.round_over);
@@ -100,7 +101,7 @@ static void make_round(void) {
 
 /* Until a round has ended that began after now. The thread's own seat is idle meanwhile. */
 void wait_for_round(void) {
-    uint64_t wanted = all.begun + 1;
+    uint64_t wanted = all.begun + 1; /* one that runs may have begun before the caller's unlink */
     if (BY_WORD && self.place) close_seat(self.place);
     while (atomic_load_explicit(&all.ended, memory_order_relaxed) < wanted) {
         if (all.making) sleep_on(&all.round_over);

@@ -16,19 +16,21 @@ static inline void set_depth(struct place *place, unsigned long depth) {
 /* A signal handler that comes in the midst of a call on the seat finds the thread busy. The section
  * is open before its depth says so, and after. */
 static inline void enters(struct place *place) {
-    set_busy(1);
+    set_busy(1); /* before the call, in whose midst a handler makes no other */
     open_seat(place);
-    set_depth(place, 1);
+    set_depth(place, 1); /* a handler that sees it nests in an open section */
     set_busy(-1u);
 }
 
 static inline void exits(struct place *place) {
     set_busy(1);
-    set_depth(place, 0);
+    set_depth(place, 0); /* before the close: a handler that sees the old depth would nest in none */
     close_seat(place);
     set_busy(-1u);
 }
 #else
+/* Between the word and what the section reads. By membarrier(2) the gp_thread makes the processor's
+ * fence, and only the compiler has to keep the order here. */
 static inline void fence(void) {
     if (!by_system) rcu_fence();
     else atomic_signal_fence(memory_order_seq_cst);
@@ -36,21 +38,25 @@ static inline void fence(void) {
 
 static inline void enters(struct place *place) {
     set_depth(place, 1);
-    fence();
+    fence(); /* the section reads after its word is stored: else a grace period may not see it */
 }
 
 static inline void exits(struct place *place) {
+    /* Release: the section comes before what follows a grace period that sees the word. */
     atomic_store_explicit(&place->depth, 0, memory_order_release);
-    fence();
+    fence(); /* the word is stored before the look for a wish: else both may sleep */
 }
 #endif
 
+/* The count, a fence, and then the section; a grace period makes a fence, and then looks at the
+ * count: so it sees the section, or the section sees what came before. */
 static SLOW void open_beside(void) {
     self.beside++;
     atomic_fetch_add(&all.beside, 1);
     rcu_fence();
 }
 
+/* The place is shown to inlined sections again before the count goes, which orders the section. */
 static SLOW void close_beside(void) {
     self.beside--;
     show_place();
@@ -62,6 +68,7 @@ static SLOW void open_first(const void *registered_at) {
     enters(self.place);
 }
 
+/* An inner section is covered by the outer one, so it needs no fence, also in a signal handler. */
 void CALL(read_lock)(void) {
     struct place *place = self.place;
     unsigned long depth = likely(place) ? depth_of(place) : 0;
@@ -102,7 +109,7 @@ int CALL(read_ongoing)(void) {
 void stay_as_in(struct place *old) {
     if (!depth_of(old)) return;
     enters(self.place);
-    set_depth(self.place, depth_of(old));
+    set_depth(self.place, depth_of(old)); /* as deep as the parent's, so that its ends match */
 }
 
 void CALL(quiescent_state)(void) {}

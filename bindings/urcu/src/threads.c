@@ -14,6 +14,7 @@ struct shared all = {
     .paused = PTHREAD_COND_INITIALIZER,
     .resumed = PTHREAD_COND_INITIALIZER,
 };
+/* The key tells the layer of a thread's end, as a thread may end without unregistering. */
 static pthread_once_t once = PTHREAD_ONCE_INIT;
 static pthread_key_t ends;
 
@@ -27,6 +28,7 @@ static void at_end(void *it) {
 }
 
 static void set_up_once(void) {
+    /* With no lock but that of pthread_once: it comes before all that the flavour does. */
     if (pthread_key_create(&ends, at_end)) fail("register", "no key of a thread is left");
     make_condition(&all.quiet);
     if (BY_WORD) set_up_readers();

@@ -21,7 +21,7 @@ static long machine_cpus;
 
 void start_worker(struct call_rcu_data *worker) {
     sigset_t every, before;
-    sigfillset(&every);
+    sigfillset(&every); /* a handler of the program's is no part of a worker */
     pthread_sigmask(SIG_SETMASK, &every, &before);
     if (pthread_create(&worker->thread, 0, work, worker)) fail("call_rcu", "no thread is left");
     pthread_sigmask(SIG_SETMASK, &before, 0);
@@ -33,7 +33,7 @@ struct call_rcu_data *CALL(create_call_rcu_data)(unsigned long flags, int cpu) {
     if (!worker) fail("call_rcu", "out of memory");
     *worker = (struct call_rcu_data){.cpu = cpu};
     make_condition(&worker->work);
-    start_worker(worker);
+    start_worker(worker); /* not with the lock held, as the thread takes it */
     hold();
     while (all.pausing) sleep_on(&all.resumed); /* else a child may have half of the change */
     worker->next = workers;
@@ -42,6 +42,7 @@ struct call_rcu_data *CALL(create_call_rcu_data)(unsigned long flags, int cpu) {
     return worker;
 }
 
+/* Who finds it finds it whole (acquire, release). Two threads that both find none take turns. */
 struct call_rcu_data *default_worker(void) {
     struct call_rcu_data *worker = atomic_load_explicit(&main_worker, memory_order_acquire);
     if (likely(worker)) return worker;
@@ -65,6 +66,8 @@ bool has_worker_of_a_cpu(void) {
     return atomic_load_explicit(&of_cpus, memory_order_acquire) != 0;
 }
 
+/* The table is whole once it is found (acquire). One that is found in it stays, for a caller in a
+ * section. */
 struct call_rcu_data *CALL(get_cpu_call_rcu_data)(int cpu) {
     worker_of_cpu *each = atomic_load_explicit(&of_cpus, memory_order_acquire);
     return each && cpu >= 0 && cpu < machine_cpus ? atomic_load(&each[cpu]) : 0;
@@ -91,7 +94,7 @@ pthread_t CALL(get_call_rcu_thread)(struct call_rcu_data *it) {
 
 /* ---- one for each processor of the machine */
 
-/* Once they are made they stay. */
+/* Once they are made they stay. Of two threads that make them one is first, by the exchange. */
 static worker_of_cpu *make_of_cpus(void) {
     worker_of_cpu *each = atomic_load(&of_cpus), *other = 0;
     if (each) return each;
@@ -102,6 +105,7 @@ static worker_of_cpu *make_of_cpus(void) {
     return other;
 }
 
+/* By the lock, so that of two workers for one processor one is refused. */
 int CALL(set_cpu_call_rcu_data)(int cpu, struct call_rcu_data *it) {
     int fault = 0;
     worker_of_cpu *each = make_of_cpus();
@@ -122,7 +126,7 @@ int CALL(create_all_cpu_call_rcu_data)(unsigned long flags) {
         struct call_rcu_data *worker = CALL(create_call_rcu_data)(flags, cpu);
         int fault = CALL(set_cpu_call_rcu_data)(cpu, worker);
         if (!fault) continue;
-        pthread_t thread = worker->thread;
+        pthread_t thread = worker->thread; /* the worker's memory goes */
         CALL(call_rcu_data_free)(worker); /* another thread was first, or no memory is left */
         pthread_join(thread, 0);
         if (fault == -EEXIST) continue;
@@ -160,6 +164,7 @@ static void stop(struct call_rcu_data *worker) {
     let_go();
 }
 
+/* With `visits` held: no barrier and no fork has it in hand. */
 static void take_out(struct call_rcu_data *worker) {
     struct call_rcu_data **at = &workers;
     hold();
@@ -170,8 +175,8 @@ static void take_out(struct call_rcu_data *worker) {
 
 /* The callbacks that it did not run go to the default worker, in their order. */
 void CALL(call_rcu_data_free)(struct call_rcu_data *it) {
-    if (!it || it == default_worker()) return;
-    bool was_online = leave("call_rcu_data_free");
+    if (!it || it == default_worker()) return; /* that one takes over what the others leave */
+    bool was_online = leave("call_rcu_data_free"); /* the worker may wait for a grace period */
     pthread_mutex_lock(&visits);
     stop(it);
     take_out(it);
