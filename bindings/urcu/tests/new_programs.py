@@ -10,6 +10,17 @@ import subprocess
 
 HERE = os.path.dirname(os.path.realpath(__file__))
 EXAMPLES = os.path.join(os.path.dirname(HERE), "examples")
+MANUAL = os.path.join(HERE, "../../../docs/rcu.3")
+MAIN = """
+int main(void) {
+    replace(1);
+    replace(2);
+    int value = read_setting();
+    rcu_barrier();
+    free(shown);
+    return value != 2;
+}
+"""
 # (liburcu-cds is built without a sanitizer, so that of threads sees no step of a table)
 SANITIZERS = {"setting": ("address", "undefined", "thread"), "table": ("address", "undefined")}
 CMAKE = """cmake_minimum_required(VERSION 3.13)
@@ -73,6 +84,19 @@ class Install:
             status, said = run(words, env=self.environment)
             yield f"{name}: under valgrind", status == 0 and said == printed(source), said
 
+    def outcome_of_manual(self, folder):
+        """The program of rcu(3), with a main that makes its calls."""
+        with open(MANUAL, encoding="utf-8") as file:
+            code = re.search(r"(?s)\.EX\n(.*?)\.EE", file.read())[1].replace("\\-", "-")
+        source = f"{folder}/manual.c"
+        with open(source, "w", encoding="utf-8") as file:
+            file.write(f"#include <stdlib.h>\n#include <urcu-bp.h>\n{code}{MAIN}")
+        status, said = run(["cc", "-Wall", "-Wextra", "-Werror", *self.says("--cflags"), source, "-o",
+                            f"{folder}/manual", *self.says("--libs")])
+        if status == 0:
+            status, said = run([f"{folder}/manual"], env=self.environment)
+        return "the program of rcu(3)", status == 0, said
+
     def outcomes_by_cmake(self, folder):
         shutil.copy(f"{EXAMPLES}/setting.c", folder)
         with open(f"{folder}/CMakeLists.txt", "w", encoding="utf-8") as file:
@@ -92,6 +116,7 @@ def outcomes(prefix, folder, table):
     headers and libraries, or None."""
     install = Install(prefix)
     yield from install.outcomes_of("setting", folder)
+    yield install.outcome_of_manual(folder)
     if table is not None:
         yield from install.outcomes_of("table", folder, [*table, "-lurcu-cds"])
     if shutil.which("cmake"):
