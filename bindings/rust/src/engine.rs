@@ -11,7 +11,9 @@ use std::fmt;
 use std::hash::{BuildHasher, Hash, RandomState};
 use std::sync::Arc;
 
-/// How many readers an engine has at most. The library has 4,096 processors, and 0 is nobody's.
+/// How many readers an engine has at most, if its opener does not say: it takes some 600 KiB.
+const READERS: u32 = 1023;
+/// How many it may have. The library has 4,096 processors, and 0 is nobody's.
 const MOST: u32 = 4095;
 
 /// An engine, for all its readers. Clones are the same engine. It goes when the last clone, the last
@@ -44,7 +46,7 @@ impl fmt::Debug for Engine {
 }
 
 impl Engine {
-    /// An engine, for up to 4,095 readers at a time.
+    /// An engine, for up to 1,023 readers at a time.
     ///
     /// # Errors
     /// [`Error::NoMemory`] where memory is out.
@@ -57,11 +59,11 @@ impl Engine {
     /// # }
     /// ```
     pub fn new() -> Result<Engine, Error> {
-        Engine::with_limit(MOST)
+        Engine::with_limit(READERS)
     }
 
-    /// An engine as [`Engine::new`], for up to so many readers at a time, from 1 to 4,095. It takes
-    /// memory for so many, and its grace periods take less time the lower the limit is.
+    /// An engine as [`Engine::new`], for up to so many readers at a time, from 1 to 4,095. The lower
+    /// the limit is, the less memory it takes, and the less time its grace periods take.
     ///
     /// # Errors
     /// [`Error::BadCount`] for another number, [`Error::NoMemory`] where memory is out.
@@ -92,7 +94,7 @@ impl Engine {
     /// # }
     /// ```
     pub fn with_map<K: Key, V: Value>(sizes: MapSizes) -> Result<(Engine, Map<K, V>), Error> {
-        Engine::with_map_and_limit(sizes, MOST)
+        Engine::with_map_and_limit(sizes, READERS)
     }
 
     /// An engine as [`Engine::with_map`], for up to so many readers, as [`Engine::with_limit`].
@@ -157,7 +159,7 @@ impl Engine {
         V: Send + Sync + 'static,
         S: BuildHasher,
     {
-        let engine = Engine::open(MOST, Some((sizes, <[u64; 2]>::COUNT)))?;
+        let engine = Engine::open(READERS, Some((sizes, <[u64; 2]>::COUNT)))?;
         let map = HashMap::of(&engine.inner, hasher);
         Ok((engine, map))
     }

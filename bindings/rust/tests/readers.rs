@@ -259,9 +259,11 @@ fn an_engine_has_1_to_4095_readers() {
     assert_eq!(Engine::with_limit(0).err(), Some(Error::BadCount));
     assert_eq!(Engine::with_limit(4096).err(), Some(Error::BadCount));
     assert_eq!(Engine::with_limit(u32::MAX).err(), Some(Error::BadCount));
-    let engine = Engine::new().unwrap();
-    let all: Vec<_> = (0..4095).map(|_| engine.reader().unwrap()).collect();
-    assert_eq!(engine.reader().err(), Some(Error::AllTaken));
-    drop(all);
-    engine.synchronize();
+    for (engine, most) in [(Engine::with_limit(4095), 4095), (Engine::new(), 1023)] {
+        let engine = engine.unwrap();
+        let all: Vec<_> = (0..most).map(|_| engine.reader().unwrap()).collect();
+        assert_eq!(engine.reader().err(), Some(Error::AllTaken));
+        drop(all);
+        engine.synchronize();
+    }
 }
