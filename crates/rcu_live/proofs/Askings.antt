@@ -1,7 +1,7 @@
 -- The rule of askings: steps that ask nobody keep it, and those that ask, look or take back.
 use Rattle.std.proofs.Common.{◌≡◌, ◌≢◌, ◌⊎◌, ℕ, zero, suc, ◌+◌, ◌<◌, ◌≤◌, Bool, true, false, List}
-use Rattle.std.proofs.Common.{[], ◌∷◌, ◌++◌, if◌then◌else◌, length, get_or, set, inl, inr, ⊎_elim}
-use Rattle.std.proofs.Common.{refl}
+use Rattle.std.proofs.Common.{[]}
+use Rattle.std.proofs.Common.{◌∷◌, ◌++◌, if◌then◌else◌, length, get_or, set, inl, inr, ⊎_elim, refl}
 use Rattle.std.proofs.Common.{sym, ap, ◌∙◌, subst, arith, length-set, length-append}
 use mathlib.Core.Logic.{dite}
 use mathlib.Core.Option.{Option, some, some-injective, some-ne-none}
@@ -9,7 +9,7 @@ use native.Mathlib.Decide.{ℕ_discrete}
 use lib.ListN.{get_elem?}
 use Rattle.atomic_table.specs.Table.{State}
 use Rattle.atomic_table.proofs.Lists.{at_longer, at_set, set_else, set_here}
-use Rattle.rcu_live.specs.Asking.{IsAwake, IsFound, IsLastAsking, asked_at, is_seat_of, stores_by}
+use Rattle.rcu_live.specs.Asking.{IsAwake, IsLastAsking, is_seat_of, stores_by}
 use Rattle.rcu_live.specs.Asking.{stores_of}
 use Rattle.rcu_live.specs.View.{after_deal}
 use Rattle.rcu_live.specs.declared.view.Role.{Role}

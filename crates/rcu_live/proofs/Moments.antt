@@ -1,18 +1,17 @@
 -- Steps keep both rules: that of sections, as their own lemmas say, and that of askings.
-use Rattle.std.proofs.Common.{◌≡◌, ◌≢◌, ℕ, ◌+◌, ◌<◌, ◌≤◌, true, false, List, [], ◌∷◌, ◌++◌, None}
-use Rattle.std.proofs.Common.{length, get_or, set, map, drop, ⊎_elim, refl, sym, ap, ◌∙◌, subst}
+use Rattle.std.proofs.Common.{◌≡◌, ◌≢◌, ℕ, ◌+◌, ◌<◌, ◌≤◌, true, false, List, [], ◌∷◌, ◌++◌}
+use Rattle.std.proofs.Common.{None, length, get_or, set, map, drop, ⊎_elim, refl, sym, ◌∙◌, subst}
 use Rattle.std.proofs.Common.{arith, length-set, ◌%◌, ◌*◌, ◌^◌}
 use Rattle.std.specs.Prelude.{bit_and, bit_or}
 use Rattle.std.specs.Int.{bit_not, w64}
 use Rattle.std.proofs.lemmas.List.{drop-set-lt, get_or-set_other, get_or-set_same, set-get_or}
-use mathlib.Core.List.{map-append}
-use mathlib.Core.Option.{some, some-ne-none}
+use mathlib.Core.Option.{some}
 use lib.ListN.{get_elem?}
 use Rattle.atomic_table.specs.Table.{Allows, Arrives, Enters, Me, Splits, State, carried_after}
 use Rattle.atomic_table.specs.Table.{keeps, opening}
 use Rattle.atomic_table.proofs.Lists.{set_again}
 use Rattle.rcu_node.specs.Words.{has_bit}
-use Rattle.rcu_live.specs.Asking.{IsAwake, IsMoment, stores_by, stores_of}
+use Rattle.rcu_live.specs.Asking.{IsMoment, stores_of}
 use Rattle.rcu_live.specs.Client.{IsStable, Views}
 use Rattle.rcu_live.specs.Rule.{Fits, IsKept, IsSound}
 use Rattle.rcu_live.specs.View.{Closed, Loaded, Opened, OwnWordLoaded, SteppedOnNumber}
@@ -22,7 +21,6 @@ use Rattle.rcu_live.specs.View.{after_open}
 use Rattle.rcu_live.specs.View.{after_online_mask_load, after_own_word_load, after_store, asking_of}
 use Rattle.rcu_live.specs.View.{client_view, engine_seat, look_of, watcher_seat, with_client}
 use Rattle.rcu_live.specs.Words.{base_of, first_words, mask_index, own_word_index}
-use Rattle.rcu_live.specs.declared.view.Role.{Role}
 use Rattle.rcu_live.specs.declared.view.Role.TheVariants.{Asker, Cpu, Engine, Looker, Watcher}
 use Rattle.rcu_live.specs.declared.view.View.{View}
 use Rattle.rcu_live.proofs.Askings.{Alike, alike_as, alike_stored_as, awake_asks, awake_back}
