@@ -24,7 +24,7 @@ void forget_markers(void) {
 /* A worker with a marker does not rest before it runs it. */
 static void mark(struct call_rcu_data *worker) {
     worker->marker.func = pass_marker;
-    push(worker, &worker->marker);
+    push(worker, &worker->marker); /* with no lock held: the first push takes it */
     hold();
     worker->hurried = true;
     pthread_cond_signal(&worker->work);

@@ -12,6 +12,7 @@
 static atomic_uint rest_milliseconds = 10; /* an older value makes one rest longer or shorter */
 uint64_t callbacks_run;
 
+/* From the next rest on: one that has begun keeps its length. */
 void CALL(call_rcu_rest)(unsigned milliseconds) {
     atomic_store(&rest_milliseconds, milliseconds);
 }
@@ -109,7 +110,7 @@ static bool is_marker_alone(struct call_rcu_data *worker, struct rcu_head *first
 static void run_batch(struct call_rcu_data *worker) {
     struct rcu_head *last = atomic_exchange_explicit(&worker->last, 0, memory_order_acquire);
     unsigned long count;
-    worker->hurried = false;
+    worker->hurried = false; /* what hurried it was pushed before this taking */
     worker->running_since = worker->since;
     atomic_store(&worker->running, last != 0); /* under the lock; how many is counted below */
     let_go();
@@ -147,8 +148,8 @@ static void bind_to(int cpu) {
 void *work(void *it) {
     struct call_rcu_data *worker = it;
     bind_to(worker->cpu);
-    take_place((const void *)(uintptr_t)work);
-    self.worker = worker;
+    take_place((const void *)(uintptr_t)work); /* a report of a stall names this function */
+    self.worker = worker; /* what a callback defers comes to the same worker */
     hold();
     while (!worker->stop) {
         bool asked = is_asked_for_a_round(worker);
@@ -164,6 +165,6 @@ void *work(void *it) {
     let_go();
     self.worker = 0;
     give_back_place();
-    tell_over(worker);
+    tell_over(worker); /* the last step: from here on its memory may go */
     return 0;
 }

@@ -12,7 +12,7 @@
 #include <errno.h>
 #include <stdlib.h>
 
-enum { RING = 1024 };
+enum { RING = 1024 }; /* calls that wait; who adds one more waits for a grace period itself */
 
 struct deferred {
     void (*func)(void *p);
@@ -66,7 +66,7 @@ static void queue(struct ring *ring) {
 
 static void drain(struct rcu_head *head) {
     struct ring *ring = caa_container_of(head, struct ring, head);
-    unsigned long limit = ring->limit;
+    unsigned long limit = ring->limit; /* until the callback is queued anew nobody sets it */
     start_draining();
     make_calls(ring, limit);
     pthread_mutex_unlock(&draining);
@@ -90,7 +90,7 @@ static struct ring *add_ring(void) {
     atomic_init(&ring->made, 0);
     atomic_init(&ring->queued, false);
     ring->taken = true;
-    hold();
+    hold(); /* the ring is whole before it is listed: a barrier walks the list with no lock */
     ring->next = rings;
     rings = ring;
     let_go();
@@ -109,7 +109,7 @@ static SLOW struct ring *take_ring(void) {
 void give_back_ring(void) {
     if (!self.deferred) return;
     hold();
-    self.deferred->taken = false;
+    self.deferred->taken = false; /* by the lock the next thread sees what was added */
     self.deferred = 0;
     let_go();
 }

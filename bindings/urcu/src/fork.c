@@ -53,7 +53,7 @@ static void renew(bool keeps_workers) {
     show_place();
     renew_room(); /* before the first engine of the child takes some */
     if (BY_WORD) set_up_readers(); /* membarrier(2) registers a process, and the child is another */
-    if (old) {
+    if (old) { /* a section that is open goes on, in an engine of the child's own */
         take_place(old->registered_at);
         stay_as_in(old);
     }
@@ -96,7 +96,7 @@ void CALL(call_rcu_before_fork)(void) {
     if (self.forks++) return; /* a program may call it, and a library that registered it too */
     self.was_online = leave("call_rcu_before_fork");
     set_up();
-    if (table) table->before_fork(table->priv);
+    if (table) table->before_fork(table->priv); /* first, as in liburcu: its worker still may defer */
     pthread_mutex_lock(&visits);
     pthread_mutex_lock(&making_default);
     pause_workers();
@@ -137,7 +137,7 @@ static void go_on_with_default_worker(void) {
 void CALL(call_rcu_after_fork_child)(void) {
     if (--self.forks) return;
     if (owner != getpid()) renew(true);
-    pthread_mutex_init(&visits, 0);
+    pthread_mutex_init(&visits, 0); /* the parent's thread holds them, and lets them go there */
     pthread_mutex_init(&making_default, 0);
     renew_deferral();
     go_on_with_default_worker();

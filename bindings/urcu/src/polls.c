@@ -9,7 +9,7 @@ struct urcu_gp_poll_state CALL(start_poll_synchronize_rcu)(void) {
     struct urcu_gp_poll_state state;
     struct call_rcu_data *worker = default_worker();
     hold();
-    state.grace_period_id = all.begun + 1;
+    state.grace_period_id = all.begun + 1; /* one that runs may have begun before the unlink */
     if (all.asked_for < all.begun + 1) all.asked_for = all.begun + 1;
     worker->hurried = true;
     pthread_cond_signal(&worker->work);
@@ -17,6 +17,7 @@ struct urcu_gp_poll_state CALL(start_poll_synchronize_rcu)(void) {
     return state;
 }
 
+/* With no lock (acquire): what follows a poll that is true comes after each section that was open. */
 bool CALL(poll_state_synchronize_rcu)(struct urcu_gp_poll_state state) {
     bool has_ended = atomic_load_explicit(&all.ended, memory_order_acquire) >= state.grace_period_id;
     if (has_ended) mark_acquire();

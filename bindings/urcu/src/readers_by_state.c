@@ -30,7 +30,7 @@ void CALL(thread_offline)(void) {
     self.online = false;
     mark_release();
     close_seat(self.place);
-    got_quiet(self.place);
+    got_quiet(self.place); /* after the close: who waits for this reader may sleep */
 }
 
 void CALL(quiescent_state)(void) {
@@ -38,7 +38,7 @@ void CALL(quiescent_state)(void) {
     unsigned long begun = atomic_load_explicit(&latest_begun, memory_order_acquire);
     uint64_t number;
     if (likely(begun == self.begun) || !self.online) return;
-    self.begun = begun;
+    self.begun = begun; /* the round that was seen: one that begins now is seen at the next look */
     mark_release();
     must("renew", rcu_seat_renew_unfenced(&place->seat, &number));
     got_quiet(place);

@@ -63,6 +63,7 @@ static SLOW void close_beside(void) {
     atomic_fetch_sub(&all.beside, 1);
 }
 
+/* With the place taken in a call of its own: a handler that comes then has its section beside. */
 static SLOW void open_first(const void *registered_at) {
     take_place(registered_at);
     enters(self.place);
@@ -81,7 +82,7 @@ void CALL(read_lock)(void) {
 void CALL(read_unlock)(void) {
     struct place *place = self.place;
     unsigned long depth = likely(place) ? depth_of(place) : 0;
-    if (unlikely(self.beside)) close_beside();
+    if (unlikely(self.beside)) close_beside(); /* the innermost one, as a handler ends its own */
     else if (unlikely(!depth)) fail("rcu_read_unlock", "the thread is in no section");
     else if (depth > 1) set_depth(place, depth - 1);
     else {
@@ -91,7 +92,7 @@ void CALL(read_unlock)(void) {
 }
 
 #ifdef MAY_INLINE_SECTIONS
-/* An inlined section has ended, and a grace period waits for that. */
+/* An inlined section has ended, and a grace period waits for that: it wishes to be woken. */
 void CALL(got_quiet_1)(void) {
     got_quiet(self.place);
 }

@@ -46,7 +46,7 @@ __attribute__((constructor(101))) void set_up(void) {
 void tell_end(void) {
     if (likely(self.has_key)) return;
     set_up();
-    set_busy(1);
+    set_busy(1); /* a handler keeps away: the C library may be in the midst of taking memory */
     if (pthread_setspecific(ends, &self)) fail("register", "out of memory");
     self.has_key = true;
     set_busy(-1u);

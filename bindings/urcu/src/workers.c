@@ -81,6 +81,8 @@ void CALL(set_thread_call_rcu_data)(struct call_rcu_data *it) {
     self.worker = it;
 }
 
+/* The thread's own one, else that of the processor that it runs on, else the default one. The thread
+ * may move to another processor meanwhile: the worker serves it as well. */
 struct call_rcu_data *CALL(get_call_rcu_data)(void) {
     struct call_rcu_data *worker = self.worker;
     if (!worker && unlikely(has_worker_of_a_cpu()))
@@ -98,7 +100,7 @@ pthread_t CALL(get_call_rcu_thread)(struct call_rcu_data *it) {
 static worker_of_cpu *make_of_cpus(void) {
     worker_of_cpu *each = atomic_load(&of_cpus), *other = 0;
     if (each) return each;
-    machine_cpus = sysconf(_SC_NPROCESSORS_CONF);
+    machine_cpus = sysconf(_SC_NPROCESSORS_CONF); /* before the exchange, by which it is seen */
     each = calloc((size_t)machine_cpus, sizeof *each);
     if (!each || atomic_compare_exchange_strong(&of_cpus, &other, each)) return each;
     free(each);
@@ -157,7 +159,7 @@ void tell_over(struct call_rcu_data *worker) {
 
 /* The thread is not joined: as in liburcu 0.13 that is left to the program. */
 static void stop(struct call_rcu_data *worker) {
-    hold();
+    hold(); /* the worker looks with the lock held before each sleep */
     worker->stop = true;
     pthread_cond_signal(&worker->work);
     while (!worker->is_over) sleep_on(&worker_over);
