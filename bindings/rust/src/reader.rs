@@ -203,10 +203,12 @@ impl Reader {
     /// Ends the sections that are open. They are of forgotten guards: no guard borrows the reader.
     #[inline]
     fn leave_sections(&mut self) {
-        while self.seat.is_in_section() {
-            self.seat.exit();
+        if self.seat.is_in_section() {
+            while self.seat.is_in_section() {
+                self.seat.exit();
+            }
+            self.mark.clear();
         }
-        self.mark.clear();
     }
 }
 
