@@ -12,7 +12,7 @@ const ENDS: usize = 2;
 pub(crate) const PROCESS_SEATS: usize = seats(1021);
 pub(crate) const SEATS: usize = seats(125);
 
-/// At most 4,093, by RCU_EPOCH_SEATS at the build; else so many.
+/// How many seats a driver has: RCU_EPOCH_SEATS at the build, at most 4,093, or this number.
 const fn seats(many: usize) -> usize {
     match option_env!("RCU_EPOCH_SEATS") {
         None => many,
@@ -40,7 +40,7 @@ pub(crate) struct Driver {
 }
 
 impl Driver {
-    /// A driver with so many seats, and those of its benches.
+    /// A driver with `seats` seats, and those of its benches.
     pub(crate) fn open(seats: usize) -> (Driver, [Seat; 2]) {
         let mut rcu = EngineHandle::open((seats + OWN) as u32).expect(FULL);
         let boot = rcu.seat(0).expect(FULL);
@@ -64,7 +64,7 @@ impl Driver {
         self.seats
     }
 
-    /// A seat that no thread has. None where all are taken, or there is no memory.
+    /// A seat that no thread has. None if all are taken, or there is no memory.
     pub(crate) fn seat(&mut self) -> Option<Arc<Seat>> {
         if let Some(seat) = self.free.pop() {
             return Some(seat);

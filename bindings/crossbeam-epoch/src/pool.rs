@@ -21,7 +21,7 @@ impl Lent {
         Lent(waiting.or_else(|| Some(Box::new(Global::new(SEATS)))))
     }
 
-    /// One with so many seats, which none waits for.
+    /// One with `seats` seats, which none waits for.
     pub(crate) fn with_seats(seats: usize) -> Lent {
         Lent(Some(Box::new(Global::new(seats))))
     }

@@ -49,7 +49,7 @@ impl Engine {
     /// An engine, for up to 1,023 readers at a time.
     ///
     /// # Errors
-    /// [`Error::NoMemory`] where memory is out.
+    /// [`Error::NoMemory`] if memory is out.
     ///
     /// ```
     /// # fn main() -> Result<(), rcu::Error> {
@@ -62,11 +62,11 @@ impl Engine {
         Engine::with_limit(READERS)
     }
 
-    /// An engine as [`Engine::new`], for up to so many readers at a time, from 1 to 4,095. The lower
-    /// the limit is, the less memory it takes, and the less time its grace periods take.
+    /// An engine as [`Engine::new`], for up to `readers` readers at a time, from 1 to 4,095. The
+    /// lower the limit is, the less memory it takes, and the less time its grace periods take.
     ///
     /// # Errors
-    /// [`Error::BadCount`] for another number, [`Error::NoMemory`] where memory is out.
+    /// [`Error::BadCount`] for another number, [`Error::NoMemory`] if memory is out.
     ///
     /// ```
     /// assert!(rcu::Engine::with_limit(8).is_ok());
@@ -79,7 +79,7 @@ impl Engine {
     /// An engine as [`Engine::new`], with a map, which its readers read without a lock.
     ///
     /// # Errors
-    /// [`Error::BadSizes`], and [`Error::NoMemory`] where memory is out.
+    /// [`Error::BadSizes`], and [`Error::NoMemory`] if memory is out.
     ///
     /// ```
     /// use rcu::{Engine, MapSizes};
@@ -97,10 +97,10 @@ impl Engine {
         Engine::with_map_and_limit(sizes, READERS)
     }
 
-    /// An engine as [`Engine::with_map`], for up to so many readers, as [`Engine::with_limit`].
+    /// An engine as [`Engine::with_map`], for up to `readers` readers, as [`Engine::with_limit`].
     ///
     /// # Errors
-    /// [`Error::BadCount`], [`Error::BadSizes`], and [`Error::NoMemory`] where memory is out.
+    /// [`Error::BadCount`], [`Error::BadSizes`], and [`Error::NoMemory`] if memory is out.
     ///
     /// ```
     /// use rcu::{Engine, MapSizes};
@@ -175,8 +175,8 @@ impl Engine {
     /// A reader, for this thread or another one. It takes the engine's lock for a moment.
     ///
     /// # Errors
-    /// [`Error::AllTaken`] where as many readers are there as the engine has at most,
-    /// [`Error::NoMemory`] where memory is out.
+    /// [`Error::AllTaken`] if the engine has as many readers as its limit,
+    /// [`Error::NoMemory`] if memory is out.
     ///
     /// ```
     /// # fn main() -> Result<(), rcu::Error> {

@@ -28,7 +28,7 @@ use std::sync::{Arc, Mutex, MutexGuard, PoisonError};
 ///
 /// Updates take a lock of the map while they compare keys, and the engine's for moments. So a key's
 /// `Eq` and `Hash`, and the closures that this map is given, must not update the same map: they
-/// would wait for themselves. An entry that is put in needs free room. Where none is free, but some
+/// would wait for themselves. An entry that is put in needs free room. If none is free, but some
 /// will be, [`HashMap::insert`], [`HashMap::replace`] and [`HashMap::put`] wait for a grace period,
 /// as [`Map`](crate::Map) says.
 ///
@@ -121,7 +121,7 @@ where
     /// The value of a key, as the section finds it: one that it had at some moment of the section.
     ///
     /// # Panics
-    /// Where the section is of another engine.
+    /// If the section is of another engine.
     #[must_use]
     pub fn get<'a, Q: Eq + Hash + ?Sized>(&'a self, guard: &'a Guard<'_>, key: &Q) -> Option<&'a V>
     where
@@ -137,10 +137,10 @@ where
         other.map(|it| &it.value)
     }
 
-    /// Whether the section finds an entry of the key, as [`HashMap::get`].
+    /// Returns whether the section finds an entry of the key, as [`HashMap::get`].
     ///
     /// # Panics
-    /// Where the section is of another engine.
+    /// If the section is of another engine.
     #[must_use]
     pub fn contains_key<Q: Eq + Hash + ?Sized>(&self, guard: &Guard<'_>, key: &Q) -> bool
     where
@@ -153,7 +153,7 @@ where
     /// the map as long as the section lasts is among them.
     ///
     /// # Panics
-    /// Where the section is of another engine.
+    /// If the section is of another engine.
     pub fn iter<'a>(&'a self, guard: &'a Guard<'_>) -> Pairs<'a, K, V> {
         Pairs::of(self.seat(guard))
     }
@@ -232,17 +232,17 @@ where
         }
     }
 
-    /// Puts an entry in where none has its key. Else returns the one that has it: then nothing
+    /// Puts an entry in if none has its key. Otherwise returns the one that has it: then nothing
     /// happened.
     ///
     /// # Errors
-    /// [`NotPut::Full`] where no entry has the key, and there are as many as the map has room for;
-    /// [`NotPut::InSection`] where it would wait, and the thread has a section open.
+    /// [`NotPut::Full`] if no entry has the key, and there are as many as the map has room for;
+    /// [`NotPut::InSection`] if it would wait, and the thread has a section open.
     pub fn insert(&self, key: K, value: V) -> Result<Option<Arc<Pair<K, V>>>, NotPut> {
         self.put_by(key, value, |old| old.is_none())
     }
 
-    /// Puts an entry in the place of the one that has its key, and returns that. Where none has it,
+    /// Puts an entry in the place of the one that has its key, and returns that. If none has it,
     /// nothing happens.
     ///
     /// # Errors
@@ -279,7 +279,7 @@ where
         Ok(is_current(old.as_deref()))
     }
 
-    /// Puts an entry in, in the place of the one that has its key where there is one. Returns that.
+    /// Puts an entry in, in the place of the one that has its key, if there is one. Returns that.
     ///
     /// # Errors
     /// As of [`HashMap::insert`].
@@ -287,14 +287,14 @@ where
         self.put_by(key, value, |_| true)
     }
 
-    /// The value of a key, as the section finds it; where it finds none, one is made and put in. It
-    /// waits for nobody. Where another thread puts one in meanwhile, that is the one.
+    /// The value of a key, as the section finds it; if it finds none, one is made and put in. It
+    /// waits for nobody. If another thread puts one in meanwhile, that is the one.
     ///
     /// # Errors
-    /// [`Full`] where there is no room for an entry, or none yet.
+    /// [`Full`] if there is no room for an entry, or none yet.
     ///
     /// # Panics
-    /// Where the section is of another engine, or the closure panics.
+    /// If the section is of another engine, or the closure panics.
     ///
     /// ```
     /// # use rcu::{Engine, MapSizes};

@@ -12,7 +12,7 @@ use std::num::NonZeroU64;
 /// How an entry is put into the map.
 #[derive(Clone, Copy)]
 pub(crate) enum How<W> {
-    /// Where none has its key.
+    /// If none has its key.
     Insert,
     /// In the place of the one that has its key.
     Replace,
@@ -78,7 +78,7 @@ impl Inner {
         Ok(())
     }
 
-    /// Puts an entry into the map. Where no node is free, but one will be, it waits for that.
+    /// Puts an entry into the map. If no node is free, but one will be, it waits for that.
     pub(crate) fn put<W: Words>(
         &self,
         how: How<W>,
@@ -94,7 +94,7 @@ impl Inner {
         }
     }
 
-    /// Puts an entry into the map. Where no node is free it goes on with the grace periods, and
+    /// Puts an entry into the map. If no node is free, it goes on with the grace periods, and
     /// waits for none.
     pub(crate) fn try_put<W: Words>(
         &self,
