@@ -22,6 +22,9 @@ class Callbacks:
         self.ids = 0
         self.queued = {}  # of a callback's address: its id (0: in no list), its cookie, the event
         self.handed = []  # ids that the engine handed out, and Linux has not invoked yet
+        # Of a CPU that went offline: the last id that was queued before. The engine moved its list
+        # to CPU 0; Linux moves it to another CPU, or leaves it if the callbacks are offloaded.
+        self.moved = {}
         self.taken_at = None  # the number at which a cookie was taken last
         self.in_barrier = False
 
@@ -61,15 +64,17 @@ class Callbacks:
 
     def hand_out(self, event):
         """The engine hands out what is done of the CPU's list."""
+        self.hand_out_list(list_of(event), "batches", event)
+
+    def hand_out_list(self, cpu, kind, event):
         def take_ids(reply):
             self.handed.extend(int(it) for it in reply.split()[1:] if it != "none")
-        cpu = list_of(event)
         self.say(f"tend {cpu}")
-        self.say(f"run {cpu} 1000000", "batches", event, take_ids)
+        self.say(f"run {cpu} 1000000", kind, event, take_ids)
 
     def is_early_leaf(self):
         """Between the end in a leaf and that in the root, a leaf's gp_seq is ahead."""
-        return bool(self.period and self.period.rooted)
+        return bool(self.period and (self.period.rooted or self.may_be_over()))
 
     def rcu_batch_start(self, event):
         if not self.is_early_leaf():
@@ -99,6 +104,8 @@ class Callbacks:
         self.want(f"poll {cookie}", "callbacks invoked", event, "done",
                   f"{words}, before grace period {waits_for} has ended")
         if number:
+            if number <= self.moved.get(at.cpu, 0) and list_of(event) != 0:
+                self.hand_out_list(0, None, event)
             self.say("", "callbacks handed out", event,
                      lambda _: None if number in self.handed else
                      f"{words} on CPU {at.cpu}; in the engine's list it still waits, for grace "

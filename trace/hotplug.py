@@ -74,6 +74,13 @@ class Hotplug:
                  lambda it: None if it.startswith("offline moved") else
                  f"CPU {cpu} goes offline in Linux; the engine says '{it}'")
         self.say("tend 0")
+        self.moved[cpu] = self.ids
+
+    def may_be_over(self):
+        """Whether a grace period waits for CPUs alone that are being taken down: their reports have
+        no event, nor has the root's report if theirs are the last ones."""
+        return self.without_readers(self.waits) <= self.dying - self.may_die \
+            and not any(self.blockers.values())
 
     def hear_departed(self, first, last, event):
         """A CPU of this range that is being taken down is heard of silently."""

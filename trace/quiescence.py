@@ -77,7 +77,7 @@ class QuiescentStates:
                      f"grace period {running} runs, but Linux takes a report for grace period "
                      f"{number}")
         mask, left = (int(it, 16) for it in event.words[2].split(">"))
-        if level == 0 and left == 0:
+        if level == 0 and left == 0 and event.words[6] == "0":
             self.period.rooted = event
         if level < self.tree.depth:
             self.report_to_inner(event, (level, first, last), mask, left)

@@ -4,6 +4,8 @@ Each takes the lines of a trace and a grace period, and changes the lines in one
 are a part of the first difference that has to be found."""
 import re
 
+from harmless import tree_of_one_node
+
 
 def find(lines, pattern, first=0, last=None):
     last = len(lines) if last is None else last
@@ -100,6 +102,11 @@ def inner_mask_lacks_a_child(lines, number):
 
 def callback_is_early(lines, number):
     """A batch of callbacks that waited for this grace period comes before its first report."""
+    bring_batch_forward(lines, number, "rcu_quiescent_state_report")
+
+
+def bring_batch_forward(lines, number, event):
+    """A batch of callbacks that waited for this grace period comes before such an event of it."""
     start, end = period(lines, number)
     queued = {re.search(r"rhp=\w+", lines[at])[0]
               for at in find(lines, r"rcu_callback: ", period(lines, number - 4)[0], start)}
@@ -113,7 +120,7 @@ def callback_is_early(lines, number):
     taken = [lines[at] for at in moved]
     for at in reversed(moved):
         del lines[at]
-    at = find(lines, r"rcu_quiescent_state_report", start, end)[0]
+    at = find(lines, event, start, end)[0]
     lines[at:at] = taken
 
 
@@ -217,6 +224,18 @@ def end_comes_before_a_blocked_reader(lines, number):
     lines[end - 1:end - 1] = taken
 
 
+def one_node_with_a_reader(lines, number):
+    """The same in a kernel with one rcu_node: its root has no CPU left while the reader blocks."""
+    lines[:] = tree_of_one_node(lines, number)
+    reader_blocks(lines, number)
+
+
+def callback_comes_before_a_blocked_reader(lines, number):
+    """A batch comes when the last CPU has reported, and a reader still blocks the grace period."""
+    bring_batch_forward(lines, number, "rcu_unlock_preempted_task")
+
+
+callback_comes_before_a_blocked_reader.made = one_node_with_a_reader
 blocked_reader_is_forgotten.made = end_comes_before_a_blocked_reader.made = reader_blocks
 
 
@@ -245,4 +264,5 @@ PLANTS = {
     note_of_a_period_that_is_over: "so that one does not run there",
     blocked_reader_is_forgotten: "not blocked by preempted readers; by .* it is by task 77",
     end_comes_before_a_blocked_reader: "are done, while the engine waits there for task 77",
+    callback_comes_before_a_blocked_reader: "before grace period .* has ended",
 }
