@@ -92,10 +92,11 @@ enum rcu_fault {
     RCU_OTHER_ENGINE = 26,   /* the seat is of another engine */
     RCU_CLOSED = 27,         /* the handle is closed, or was never opened */
     RCU_OTHER_KIND = 28,     /* the handle is of another kind */
-    RCU_BAD_SIZES = 29,      /* a map can't have so many buckets, words an entry and nodes */
+    RCU_BAD_SIZES = 29,      /* a map can't have these sizes (buckets, words an entry, entries) */
     RCU_BAD_KEY = 30,        /* an entry has the key 0 */
-    RCU_MAP_FULL = 31,       /* no node of the map is free */
-    RCU_BAD_WORDS = 32       /* an entry of the map has another number of words */
+    RCU_MAP_FULL = 31,       /* the map has no room for an entry, or none yet */
+    RCU_BAD_WORDS = 32,      /* an entry of the map has another number of words */
+    RCU_ENTRY_CHANGED = 33   /* the entry of the map is not as it was read */
 };
 
 /* A sentence for a fault, without a full stop. At 0 it says that there is none. */
@@ -126,10 +127,11 @@ static inline const char *rcu_fault_text(uint32_t fault) {
     case RCU_OTHER_ENGINE: return "the seat is of another engine";
     case RCU_CLOSED: return "the handle is closed, or was never opened";
     case RCU_OTHER_KIND: return "the handle is of another kind";
-    case RCU_BAD_SIZES: return "a map can't have so many buckets, words an entry and nodes";
+    case RCU_BAD_SIZES: return "a map can't have these sizes (buckets, words an entry, entries)";
     case RCU_BAD_KEY: return "an entry has the key 0";
-    case RCU_MAP_FULL: return "no node of the map is free";
+    case RCU_MAP_FULL: return "the map has no room for an entry, or none yet";
     case RCU_BAD_WORDS: return "an entry of the map has another number of words";
+    case RCU_ENTRY_CHANGED: return "the entry of the map is not as it was read";
     default: return "no fault has this number";
     }
 }
@@ -236,15 +238,15 @@ void __tsan_acquire(void *place);
 /* ---- opening and closing */
 
 /* Opens an engine of 1 to 4,096 processors at number 0. Processor 0 alone is online, no callback is
- * queued, and no seat is dealt. No grace period begins at `last`, a multiple of 4 from 4 to 2^62.
- * Needs: `rcu` is closed.
+ * queued, and no seat is dealt. No grace period begins at `max_number`, a multiple of 4 from 4 to
+ * 2^62. Needs: `rcu` is closed.
  * The identity is one that no other engine of the process has: an engine takes no seat of another
  * one (26), and compares identities for that. rcu_open makes it, of a counter and the place of
  * that. A program in another language makes its own.
- * Faults: 17 for no processor or more than 4,096; 19 if `last` is no such number; 16.
+ * Faults: 17 for no processor or more than 4,096; 19 if `max_number` is no such number; 16.
  * Laws in crates/rcu_c/src/: dealt_seats_are_of_their_engine (laws.rt#L48),
  * seats_stay_of_their_engine (laws.rt#L73), returned_seats_are_dealt_again (laws.rt#L61). */
-uint32_t rcu_open_as(uint32_t cpus, uint64_t last, rcu_identity_t identity, rcu_t *rcu);
+uint32_t rcu_open_as(uint32_t cpus, uint64_t max_number, rcu_identity_t identity, rcu_t *rcu);
 
 /* Closes an engine, and frees all that it has; values that are still queued are not handed out.
  * Seats that are open go on, and are closed in turn. If `rcu` is not an open engine, it does
@@ -253,8 +255,8 @@ void rcu_close(rcu_t *rcu);
 
 /* Deals the seat of a processor; each has one. The seat of processor 0 is online at first, any
  * other offline; one that was returned is as it was then. Processor 0 is awaited like any other: if
- * no thread reads on it, make its seat idle once. Needs: `rcu` is under the caller's lock, and
- * `seat` is closed.
+ * no thread reads on it, make its seat idle once. A seat takes its memory when it is dealt for the
+ * first time. Needs: `rcu` is under the caller's lock, and `seat` is closed.
  * Faults: 1 if there is no such processor; 25 if its seat is dealt; 16.
  * Laws in crates/rcu_c/src/: dealt_seats_are_of_their_engine (laws.rt#L48),
  * seats_stay_of_their_engine (laws.rt#L73), returned_seats_are_dealt_again (laws.rt#L61). */
@@ -375,7 +377,8 @@ static inline uint32_t rcu_arrive(rcu_t *rcu, rcu_seat_t *seat) {
  * a_run_goes_on_from_the_end_of_another (laws.rt#L209), no_callback_runs_twice (laws.rt#L228),
  * no_callback_is_lost (laws.rt#L237), barrier_covers_earlier_callbacks (laws.rt#L249),
  * a_barrier_waited_for_covers_earlier_callbacks (laws.rt#L262), no_callback_runs_early
- * (laws.rt#L284). */
+ * (laws.rt#L284), a_seat_can_tell_of_itself (progress.rt#L88),
+ * a_word_is_the_one_that_the_seat_stored (progress.rt#L114). */
 uint32_t rcu_depart(rcu_t *rcu, rcu_seat_t *seat, uint64_t *moved);
 
 /* ---- queries of an engine: `rcu` is under the caller's lock. On a handle that is not an open
@@ -440,7 +443,9 @@ uint32_t rcu_queue(rcu_t *rcu, uint32_t cpu, uint64_t value, uint64_t *place);
  * waiting_for_a_barrier_is_a_run (laws.rt#L220), a_run_goes_on_from_the_end_of_another
  * (laws.rt#L209), no_callback_runs_twice (laws.rt#L228), no_callback_is_lost (laws.rt#L237),
  * barrier_covers_earlier_callbacks (laws.rt#L249), a_barrier_waited_for_covers_earlier_callbacks
- * (laws.rt#L262), no_callback_runs_early (laws.rt#L284). */
+ * (laws.rt#L262), no_callback_runs_early (laws.rt#L284), ended_grace_periods_are_counted
+ * (progress.rt#L123), two_tends_and_two_grace_periods_finish_callbacks (progress.rt#L135),
+ * four_calls_finish_a_list (progress.rt#L165). */
 uint32_t rcu_tend(rcu_t *rcu, uint32_t cpu, uint64_t *done, uint64_t *waiting);
 
 /* Hands out done callbacks of the processor, in order, `room` at most: writes their values from
@@ -452,7 +457,9 @@ uint32_t rcu_tend(rcu_t *rcu, uint32_t cpu, uint64_t *done, uint64_t *waiting);
  * a_run_goes_on_from_the_end_of_another (laws.rt#L209), no_callback_runs_twice (laws.rt#L228),
  * no_callback_is_lost (laws.rt#L237), barrier_covers_earlier_callbacks (laws.rt#L249),
  * a_barrier_waited_for_covers_earlier_callbacks (laws.rt#L262), no_callback_runs_early
- * (laws.rt#L284). */
+ * (laws.rt#L284), ended_grace_periods_are_counted (progress.rt#L123),
+ * two_tends_and_two_grace_periods_finish_callbacks (progress.rt#L135), four_calls_finish_a_list
+ * (progress.rt#L165), the_fourth_wait_for_a_barrier_writes_0 (progress.rt#L187). */
 uint32_t rcu_run(rcu_t *rcu, uint32_t cpu, uint64_t *values, size_t room, uint64_t *count);
 
 /* Gives back the memory that the processor's list does not need, at a step for each item that
@@ -534,7 +541,9 @@ uint32_t rcu_seat_exit(rcu_seat_t *seat);
  * load, so the number tests a cookie as rcu_seat_poll does. Unfenced the last does not hold, and
  * what came before an rcu_seat_take is sure to be seen by sequentially consistent loads alone.
  * Faults: 2 if the processor is offline; 23 if it is idle; 4 if a section is open.
- * Fence: before and behind. */
+ * Fence: before and behind.
+ * Laws in crates/rcu_c/src/: a_seat_can_tell_of_itself (progress.rt#L88),
+ * a_word_is_the_one_that_the_seat_stored (progress.rt#L114). */
 uint32_t rcu_seat_quiesce_unfenced(rcu_seat_t *seat, uint64_t *number);
 static inline uint32_t rcu_seat_quiesce(rcu_seat_t *seat, uint64_t *number) {
     rcu_fence();
@@ -586,7 +595,9 @@ static inline uint32_t rcu_seat_renew(rcu_seat_t *seat, uint64_t *number) {
  * block.
  * All that the thread did before comes before what follows the collection or the begin that finds
  * it idle.
- * Faults: 2 if the processor is offline; 23 if it is idle; 4 if a section is open. */
+ * Faults: 2 if the processor is offline; 23 if it is idle; 4 if a section is open.
+ * Laws in crates/rcu_c/src/: a_seat_can_tell_of_itself (progress.rt#L88),
+ * a_word_is_the_one_that_the_seat_stored (progress.rt#L114). */
 uint32_t rcu_seat_idle(rcu_seat_t *seat);
 
 /* Wakes the processor, by one load and one store. Writes the number that it saw.
@@ -710,7 +721,11 @@ uint32_t rcu_defer_shrink(rcu_seat_t *seat, uint64_t *room);
  * The driver calls this again and again, and lets other threads run in between while it awaits
  * someone. It orders what rcu_begin, rcu_collect and rcu_end order.
  * Fault 11: one would begin, and the number is the last one.
- * Fence: behind. */
+ * Fence: behind.
+ * Laws in crates/rcu_c/src/: a_drive_ends_a_quiet_grace_period (progress.rt#L46),
+ * ended_grace_periods_are_counted (progress.rt#L123),
+ * two_tends_and_two_grace_periods_finish_callbacks (progress.rt#L135), four_calls_finish_a_list
+ * (progress.rt#L165). */
 uint32_t rcu_drive_unfenced(rcu_t *rcu, rcu_turn_t *turn);
 static inline uint32_t rcu_drive(rcu_t *rcu, rcu_turn_t *turn) {
     uint32_t result = rcu_drive_unfenced(rcu, turn);
@@ -790,24 +805,24 @@ static inline uint32_t rcu_seat_repin(rcu_seat_t *seat, uint64_t *number) {
  * shared object may compare the two. */
 uint32_t rcu_version(void);
 
-/* ---- wishes for grace periods. A thread wishes by its seat, with no lock, beside all calls on
- * other handles: in a section or not, online or not. The driver reads the greatest wish, under the
- * caller's lock, and drives for it (rcu_drive_for).
- * No wish is slept through: a thread that makes the greatest wish while the driver says that it
- * sleeps, and has not found a wish as great, learns that it has to wake the driver. */
+/* ---- requests for grace periods. A thread requests by its seat, with no lock, beside all calls on
+ * other handles: in a section or not, online or not. The driver reads the greatest request, under
+ * the caller's lock, and drives for it (rcu_drive_for).
+ * No request is slept through: a thread that makes the greatest request while the driver says that
+ * it sleeps, and has not found a request as great, learns that it has to wake the driver. */
 
-/* Wishes for the grace period of a cookie: if that is greater than each that was wished for before,
- * rcu_wanted finds it from then on. Writes 1 if it is, and the driver says that it sleeps: then the
- * caller wakes it, by means of the program's own. Else 0. It orders nothing else: a taking does. No
- * wish is taken back: for a cookie that no taking returned, as 2^64 - 1, the driver makes grace
- * periods without end. */
-uint32_t rcu_seat_want(rcu_seat_t *seat, uint64_t cookie, uint32_t *wakes);
+/* Requests the grace period of a cookie: if that is greater than each that was requested before,
+ * rcu_requested_gp finds it from then on. Writes 1 if it is, and the driver says that it sleeps:
+ * then the caller wakes it, by means of the program's own. Else 0. It orders nothing else: a taking
+ * does. No request is taken back: for a cookie that no taking returned, as 2^64 - 1, the driver
+ * makes grace periods without end. */
+uint32_t rcu_seat_request_gp(rcu_seat_t *seat, uint64_t cookie, uint32_t *wakes);
 
-/* Says whether the driver sleeps from now on, and then writes the greatest cookie that was wished
- * for: 1, which is done at any number, if none was. The next step is rcu_drive_for of it; or, if
- * rcu_poll says that it is done, to sleep until a thread wakes the caller, which lets go of the
+/* Says whether the driver sleeps from now on, and then writes the greatest cookie that was
+ * requested: 1, which is done at any number, if none was. The next step is rcu_drive_for of it; or,
+ * if rcu_poll says that it is done, to sleep until a thread wakes the caller, which lets go of the
  * lock and sleeps in one step, as a condition variable does. */
-uint32_t rcu_wanted(rcu_t *rcu, bool sleeps, uint64_t *cookie);
+uint32_t rcu_requested_gp(rcu_t *rcu, bool sleeps, uint64_t *cookie);
 
 /* ---- waiting for a barrier, if the caller is the driver: `rcu` is under the caller's lock */
 
@@ -828,7 +843,8 @@ uint32_t rcu_wanted(rcu_t *rcu, bool sleeps, uint64_t *cookie);
  * waiting_for_a_barrier_is_a_run (laws.rt#L220), a_run_goes_on_from_the_end_of_another
  * (laws.rt#L209), no_callback_runs_twice (laws.rt#L228), no_callback_is_lost (laws.rt#L237),
  * barrier_covers_earlier_callbacks (laws.rt#L249), a_barrier_waited_for_covers_earlier_callbacks
- * (laws.rt#L262), no_callback_runs_early (laws.rt#L284). */
+ * (laws.rt#L262), no_callback_runs_early (laws.rt#L284), the_fourth_wait_for_a_barrier_writes_0
+ * (progress.rt#L187). */
 uint32_t rcu_barrier_wait_unfenced(rcu_t *rcu, uint64_t *left);
 static inline uint32_t rcu_barrier_wait(rcu_t *rcu, uint64_t *left) {
     uint32_t result = rcu_barrier_wait_unfenced(rcu, left);
@@ -844,22 +860,22 @@ static inline uint32_t rcu_barrier_wait(rcu_t *rcu, uint64_t *left) {
 
 /* Says that the driver sleeps for the first processor that is awaited, and then collects from each
  * that is, as rcu_collect_all. Writes 1 if that first one is awaited still: then the caller sleeps,
- * by means of the program's own, until a thread has to wake it (rcu_seat_wakes). It lets go of the
- * lock and sleeps in one step, as a condition variable does. Else writes 0. Writes how many are
- * awaited still; if none is, it says that it sleeps for none. Until then call it again, also if the
- * caller woke by chance.
+ * by means of the program's own, until a thread has to wake it (rcu_seat_should_wake_driver). It
+ * lets go of the lock and sleeps in one step, as a condition variable does. Else writes 0. Writes
+ * how many are awaited still; if none is, it says that it sleeps for none. Until then call it
+ * again, also if the caller woke by chance.
  * Laws in crates/rcu_c/src/: calls_are_steps_of_a_run (laws.rt#L140),
  * waiting_for_a_barrier_is_a_run (laws.rt#L220), a_run_goes_on_from_the_end_of_another
  * (laws.rt#L209), no_callback_runs_twice (laws.rt#L228), no_callback_is_lost (laws.rt#L237),
  * barrier_covers_earlier_callbacks (laws.rt#L249), a_barrier_waited_for_covers_earlier_callbacks
  * (laws.rt#L262), no_callback_runs_early (laws.rt#L284). */
-uint32_t rcu_may_sleep(rcu_t *rcu, uint32_t *sleeps, uint32_t *left);
+uint32_t rcu_driver_prepare_wait(rcu_t *rcu, uint32_t *sleeps, uint32_t *left);
 
 /* Looks whether the driver sleeps for the seat's processor. A thread looks so after each call by
  * which its processor got quiet, idle or offline. After rcu_seat_quiesce_since and rcu_seat_renew
  * it need not where the number is as it was, or is a multiple of 4, at which no grace period runs.
  * Writes 1 if the caller has to wake the driver, under the lock. Else 0. It costs a load. */
-uint32_t rcu_seat_wakes(rcu_seat_t *seat, uint32_t *wakes);
+uint32_t rcu_seat_should_wake_driver(rcu_seat_t *seat, uint32_t *wakes);
 
 /* <<< */
 
@@ -913,8 +929,30 @@ static inline rcu_identity_t rcu_new_identity(void) {
 }
 
 /* Opens an engine as rcu_open_as, under an identity that no other engine of the process has. */
-static inline uint32_t rcu_open(uint32_t cpus, uint64_t last, rcu_t *rcu) {
-    return rcu_open_as(cpus, last, rcu_new_identity(), rcu);
+static inline uint32_t rcu_open(uint32_t cpus, uint64_t max_number, rcu_t *rcu) {
+    return rcu_open_as(cpus, max_number, rcu_new_identity(), rcu);
+}
+
+/* ---- names of 0.2.0, which go in 0.4.0 */
+
+__attribute__((deprecated("use rcu_seat_request_gp")))
+static inline uint32_t rcu_seat_want(rcu_seat_t *seat, uint64_t cookie, uint32_t *wakes) {
+    return rcu_seat_request_gp(seat, cookie, wakes);
+}
+
+__attribute__((deprecated("use rcu_requested_gp")))
+static inline uint32_t rcu_wanted(rcu_t *rcu, bool sleeps, uint64_t *cookie) {
+    return rcu_requested_gp(rcu, sleeps, cookie);
+}
+
+__attribute__((deprecated("use rcu_driver_prepare_wait")))
+static inline uint32_t rcu_may_sleep(rcu_t *rcu, uint32_t *sleeps, uint32_t *left) {
+    return rcu_driver_prepare_wait(rcu, sleeps, left);
+}
+
+__attribute__((deprecated("use rcu_seat_should_wake_driver")))
+static inline uint32_t rcu_seat_wakes(rcu_seat_t *seat, uint32_t *wakes) {
+    return rcu_seat_should_wake_driver(seat, wakes);
 }
 
 #ifdef __cplusplus

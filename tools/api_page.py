@@ -14,7 +14,7 @@ import doc_comments as source
 from checks import read
 
 PAGE = "calls.md"
-CRATES = "rcu_state rcu_core rcu_live rcu_defer rcu_wish rcu_cell rcu_graph rcu_map".split()
+CRATES = "rcu_state rcu_core rcu_live rcu_defer rcu_request rcu_cell rcu_graph rcu_map".split()
 UNLISTED = {"rcu_live": "board client client_words in_part parts reading shared within words".split(),
             "rcu_graph": ["known", "places"]}
 WIDTH = 100

@@ -2,25 +2,19 @@
 link to its page. It lies beside the pages of docs/.
 
 Names of C are those of include/*.h; types of Rattle those that calls.md has (api_page.py); laws
-those of crates/*/src, as docs/PROMISES.md has them; faults those of docs/SCRIPTS.md.
+those of laws.md (account.py); faults those of docs/SCRIPTS.md.
 """
-import os
 import re
 import textwrap
 
+import account
 import api_page
-import links
 from checks import files, read
+from laws import laws_of
 
 PAGE = "names.md"
 HEAD = "# Names\n\nEach call of C, law, type of Rattle and fault, with a link to the page that says more.\n"
 C_CALL = re.compile(r"(?m)^(?:static inline )?[\w ]+?\*?\b(rcu_\w+)\([^;{]*[;{]")
-
-
-def parts(page, text):
-    """The parts of a page: the place of each, and its text."""
-    for part in re.split(r"(?m)^## ", text)[1:]:
-        yield f"{os.path.basename(page)}#{links.anchor(part.partition(chr(10))[0])}", part
 
 
 def sources(pattern):
@@ -42,20 +36,16 @@ def names_of_rattle():
                 yield name, f"{api_page.PAGE}#{crate}"
 
 
-def laws():
-    sections = list(parts("docs/PROMISES.md", read("docs/PROMISES.md")))
-    for path in (it for it in files() if re.fullmatch(r"crates/\w+/src/.*laws\.rt", it)):
-        for name in re.findall(r"(?m)^pub fn (\w+)", read(path)):
-            own = [it for it in sections if it[0].endswith(path.split("/")[1])]
-            said = [it for it in own or sections if re.search(rf"\b{name}\b", it[1])]
-            yield name, (said or own)[0][0]
+def names_of_laws():
+    for crate in account.crates_in_order():
+        yield from ((it.split("::")[-1], f"{account.PAGE}#{crate}") for it in laws_of(crate))
 
 
 def written():
     """The page."""
     text, places = HEAD, {}
     faults = re.findall(r"(?m)^- \*\*(\d+)\*\*, (\w+):", read("docs/SCRIPTS.md"))
-    groups = {"Calls of C": names_of_c(), "Laws": laws(),
+    groups = {"Calls of C": names_of_c(), "Laws": names_of_laws(),
               "Types of Rattle": names_of_rattle()}
     rows = [(title, sorted(set(its), key=lambda it: (it[0].lower(), it)))
             for title, its in groups.items()]

@@ -1,24 +1,21 @@
-"""Where each law stands, and the calls that keep it, for tools/write_calls and tools/names.
+"""The laws: where each begins, its words, and the calls that keep it, for the tools beside.
 
-A law is a function of a module whose name ends in 'laws' or is 'progress'. In the sections of
-docs/PROMISES.md that name a crate, the contracts of an item that are laws are links to their lines.
-The calls of C keep the laws of rcu_c that name them behind 'Kept by'.
+A law is a function of a module whose name ends in 'laws' or is 'progress'; those of definition_laws
+pin the definitions, and no call keeps them. tools/kept_by has, below a line '[CRATE]', a line
+'LAW: CALL, CALL' for each other law, which goes on in lines that begin with blanks.
+
+The notes of the calls of C name the laws of rcu_c that they keep.
 """
 import functools
 import os
 import re
-import textwrap
 
-import promises
+import doc_comments
 from checks import ROOT, files, headers, read
 
-PAGE = promises.PAGE
+KEPT_BY = "tools/kept_by"
 FOLDER = "crates/rcu_c/src/"  # of the laws that the calls of C keep
-WIDTH = 100
 FUNCTION = re.compile(r"\s*(?:pub(?:\(crate\))? )?fn (\w+)")
-LINKED = re.compile(r"\[(`[^`]+`)\]\([^)\s]*/src/[^)\s]*\.rt#L\d+\)")
-SECTION = re.compile(r"(?ms)^## [^\n]*\(`(rcu_\w+)`\).*?(?=^## |\Z)")
-ITEM = re.compile(r"(?m)^- .+\n(?: {2}.+\n)*")
 # A link to a line, in a page or in a note of the header.
 TO_LINE = re.compile(r"\[`([^`]+)`\]\(([^)\s]+\.rt)#L(\d+)\)|\b(\w+) \((\w+\.rt)#L(\d+)\)")
 
@@ -36,34 +33,41 @@ def laws_of(crate):
 
 
 def place_of(crate, name):
-    """Where a law of that path stands, or None."""
+    """Where a law of that path begins, or None."""
     return laws_of(crate).get(name.removeprefix(f"{crate}::"))
 
 
-def with_links(crate, item):
-    """An item of the page, with links at the laws before its colon."""
-    words = " ".join(LINKED.sub(r"\1", item).split())
-    head, colon, text = words.partition(": ")
-
-    def linked(found):
-        place = place_of(crate, found[1])
-        path = place and os.path.relpath(place[0], os.path.dirname(PAGE))
-        return f"[`{found[1]}`]({path}#L{place[1]})" if place else found[0]
-
-    made = re.sub(r"`([\w:]+)`", linked, head) + colon + text
-    if made == words and LINKED.sub(r"\1", item) == item:
-        return item
-    return textwrap.fill(made, WIDTH, subsequent_indent="  ", break_long_words=False,
-                         break_on_hyphens=False) + "\n"
+def is_of_definitions(name):
+    return "definition_laws::" in name
 
 
-def written(page):
-    """The page, with its links as they are to be."""
-    return SECTION.sub(lambda part: ITEM.sub(lambda it: with_links(part[1], it[0]), part[0]), page)
+@functools.lru_cache(maxsize=None)
+def words_in(path):
+    """The doc comment of each function of a file, as paragraphs."""
+    return {it.name: it.paragraphs for it in doc_comments.calls_in(read(path))}
+
+
+def words_of(crate, name):
+    """The paragraphs of a law's doc comment."""
+    path, _ = place_of(crate, name)
+    return words_in(path).get(name.rpartition("::")[2]) or [""]
+
+
+@functools.lru_cache(maxsize=None)
+def kept_by():
+    """Of each crate the rows of tools/kept_by: a law, or 'broken', with its calls."""
+    text = re.sub(r"(?m)^#.*\n", "", read(KEPT_BY))
+    rows = {}
+    for part in re.split(r"(?m)^\[", text)[1:]:
+        crate, _, its = part.partition("]\n")
+        lines = re.sub(r"\n +", " ", its).split("\n")
+        rows[crate] = {law: [] if calls == "none" else calls.split(", ")
+                       for law, _, calls in (it.partition(": ") for it in lines if it)}
+    return rows
 
 
 def renumbered(text):
-    """Another page, with the lines of the laws that it links to."""
+    """A page, with the lines of the laws that it links to."""
     def line(found):
         for name, (path, number) in laws_of(found["crate"]).items():
             if path.endswith(f"/{found['file']}") and name.split("::")[-1] == found["name"]:
@@ -75,21 +79,20 @@ def renumbered(text):
 
 
 @functools.lru_cache(maxsize=None)
-def kept_by():
+def kept_in_c():
     """The laws that each call of C keeps, with their places."""
     kept = {}
-    for promise in (it for it in promises.promises() if it.crate == "rcu_c"):
-        for name in promise.contracts:
-            if place := place_of("rcu_c", name):
-                for call in promise.calls:
-                    kept.setdefault(call.removesuffix("_unfenced"), []).append(
-                        (name.split("::")[-1], *place))
+    for name, calls in kept_by()["rcu_c"].items():
+        if place := place_of("rcu_c", name):
+            for call in calls:
+                kept.setdefault(call.removesuffix("_unfenced"), []).append(
+                    (name.split("::")[-1], *place))
     return kept
 
 
 def note_of(call):
-    """The laws that a call of C keeps, as a paragraph of its note; no paragraph where it keeps none."""
-    kept = kept_by().get(call.removesuffix("_unfenced"), [])
+    """The laws that a call of C keeps, as a paragraph of its note; no paragraph if it keeps none."""
+    kept = kept_in_c().get(call.removesuffix("_unfenced"), [])
     rows = ", ".join(f"{name} ({path.removeprefix(FOLDER)}#L{line})" for name, path, line in kept)
     return [f"Law{'s' * (len(kept) > 1)} in {FOLDER}: {rows}."] if kept else []
 

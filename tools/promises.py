@@ -1,16 +1,17 @@
 #!/usr/bin/env python3
-"""Reads docs/PROMISES.md beside the wrong bodies that would break what it promises.
+"""Reads tools/kept_by beside the laws, and the wrong bodies that would break them.
 
 Use: tools/promises.py [CRATE ..]     (no CRATE: all)
 
-prints each promise of a crate, the calls that keep it, and the wrong bodies that name it.
+prints each law of a crate, the calls that keep it, and the wrong bodies that name it; and then, of
+the functions whose contract a wrong body has to break ('broken:' in tools/kept_by), the wrong
+bodies of each.
 
-The promises of a crate stand in sections whose heading names it, as '(`rcu_seq`)'. Each is an item
-of a list: '- **Title.** `Contract`, `contract`: what is promised. Kept by `Call`, `call`.', whose
-title and last sentence only some have. What stands in parentheses before the colon is no contract.
-A wrong body (crates/*/must-fail, crates/*/wrong: edits.py) has a line 'promise: NAME', or several. NAME is a title, a contract of the page or a function of the crate, or a law that it breaks
-in a crate above, behind that crate's name: `rcu_core::laws::no_callback_runs_early`.
+A wrong body (crates/*/must-fail, crates/*/wrong: edits.py) has a line 'promise: NAME', or several.
+NAME is a function or a type of the crate, a law of it, or a law of another crate behind that
+crate's name: `rcu_core::laws::no_callback_runs_early`.
 """
+import collections
 import functools
 import os
 import re
@@ -20,34 +21,9 @@ import textwrap
 sys.dont_write_bytecode = True
 from checks import files, read
 from edits import every_edit
+from laws import KEPT_BY, is_of_definitions, kept_by, laws_of, place_of
 
-PAGE = "docs/PROMISES.md"
-ITEM = re.compile(r"(?:\*\*(?P<title>.+?)\.\*\* )?(?P<head>.+?): (?P<text>.+)")
-KEPT_BY = re.compile(r"Kept by ((?:`[^`]+`(?:, | and )?)+)\.$")
-
-
-def spans(text):
-    return re.findall(r"`([^`]+)`", text)
-
-
-class Promise:
-    """An item of the page: its title and contracts, and the calls that keep it."""
-
-    def __init__(self, crate, text):
-        said = ITEM.fullmatch(text)
-        kept = said and KEPT_BY.search(said["text"])
-        self.crate, self.is_read, self.title = crate, bool(said), said and said["title"]
-        self.contracts = spans(re.sub(r"\(.*?\)", "", said["head"])) if said else []
-        self.calls = spans(kept[1]) if kept else []
-        self.name = self.title or ", ".join(self.contracts) or text[:60]
-
-
-def promises():
-    """Each promise of the page."""
-    for section in re.split(r"(?m)^## ", read(PAGE)):
-        crate = re.search(r"\(`(rcu_\w+)`\)", section.partition("\n")[0])
-        items = re.findall(r"(?m)^- ((?:.+\n)(?: {2}.+\n)*)", section) if crate else []
-        yield from (Promise(crate[1], " ".join(it.split())) for it in items)
+BROKEN = "broken"
 
 
 def edits():
@@ -63,63 +39,73 @@ def words_of(crate):
     words = set()
     for path in (it for it in files() if re.fullmatch(rf"crates/{crate}/src/.*\.rt", it)):
         words.add(os.path.basename(path).removesuffix(".rt"))
-        words |= set(re.findall(r"\b(?:fn|struct|enum|trait|mod) (\w+)", read(path)))
+        words |= set(re.findall(r"\b(?:fn|struct|enum|trait|type|mod) (\w+)", read(path)))
     return words
 
 
 def is_function(crate, name):
+    """Whether it names a function, a type or all functions of one, in the crate or, behind its
+    name, in another one."""
+    other, _, rest = name.partition("::")
+    crate, name = (other, rest) if words_of(other) else (crate, name)
     return set(re.findall(r"\w+", name)) <= words_of(crate)
 
 
-def named(every, crate, name):
-    """The promises of that title or contract, in the crate or in the one before the name."""
+def law_of(crate, name):
+    """The law that an edit of the crate names, as its crate and its path; or None."""
     other, _, rest = name.partition("::")
-    for at, called in ((crate, name), (other, rest)):
-        own = [it for it in every if it.crate == at]
-        found = [it for it in own if it.title == called] or [
-            it for it in own if called in it.contracts]
-        # (a contract of several promises is meant without their titles)
-        if found:
-            return [it for it in found if not it.title] or found
-    return []
+    found = [(at, it) for at, it in ((crate, name), (other, rest)) if place_of(at, it)]
+    return found[0] if found else None
+
+
+def unnamed_promises():
+    """The wrong bodies that break nothing with a name."""
+    for crate, edit, own in edits():
+        if not own:
+            yield f"{crate}/{edit} names no promise (a line 'promise: NAME')"
+        yield from (f"{crate}/{edit}: no law and no function of {crate} is named {name}"
+                    for name in own if not law_of(crate, name) and not is_function(crate, name))
+
+
+def crates():
+    return sorted({it.split("/")[1] for it in files() if re.match(r"crates/\w+/src/", it)})
 
 
 def mismatches():
     """What does not fit together: a row for each."""
-    every, broken = list(promises()), set()
+    yield from unnamed_promises()
+    named = {(crate, name) for crate, _, own in edits() for name in own}
+    for crate in crates():
+        rows = kept_by().get(crate, {})
+        own = {it for it in laws_of(crate) if not is_of_definitions(it)}
+        yield from (f"{KEPT_BY}: {crate} has no row for {it}" for it in sorted(own - rows.keys()))
+        for law, calls in rows.items():
+            if law not in own | {BROKEN}:
+                yield f"{KEPT_BY}: {law} is no law of {crate}"
+            for call in calls:
+                if not is_function(crate, call):
+                    yield f"{KEPT_BY}: {law} of {crate} is kept by {call}, which is no function"
+                if law == BROKEN and (crate, call) not in named:
+                    yield f"{KEPT_BY}: no wrong body of {crate} breaks {call}"
+
+
+def tell(asked):
+    of_name = collections.defaultdict(list)
     for crate, edit, own in edits():
-        if not own:
-            yield f"{crate}/{edit} names no promise (a line 'promise: NAME')"
         for name in own:
-            of_name = named(every, crate, name)
-            broken |= set(of_name)
-            if not of_name and not is_function(crate, name):
-                yield f"{crate}/{edit}: no promise and no function of {crate} is named {name}"
-    for promise in every:
-        if not promise.is_read:
-            yield f"{PAGE}: an item of {promise.crate} names no contract before ': ': {promise.name}"
-        for call in promise.calls:
-            other, _, rest = call.partition("::")
-            if not (named(every, promise.crate, call) or is_function(promise.crate, call)
-                    or is_function(other, rest)):
-                yield f"{PAGE}: {promise.name} is kept by {call}, which is no function"
-        if promise.title and promise not in broken and not promise.calls:
-            yield f"{PAGE}: no wrong body breaks {promise.name} of {promise.crate}, and no call keeps it"
-
-
-def tell(crates):
-    every, of_promise = list(promises()), {}
-    for crate, edit, own in edits():
-        for promise in {it for name in own for it in named(every, crate, name)}:
-            shown = edit if promise.crate == crate else f"{crate}/{edit}"
-            of_promise.setdefault(promise, []).append(shown)
-    for crate in dict.fromkeys(it.crate for it in every if not crates or it.crate in crates):
+            at, it = law_of(crate, name) or (crate, name)
+            of_name[at, it].append(edit if at == crate else f"{crate}/{edit}")
+    for crate in (it for it in kept_by() if not asked or it in asked):
         print(crate)
-        for promise in (it for it in every if it.crate == crate):
-            keepers = f" (kept by {', '.join(promise.calls)})" if promise.calls else ""
-            for text, indent in ((promise.name + keepers, "  "),
-                                 (" ".join(of_promise.get(promise, [])), " " * 6)):
-                print(textwrap.fill(text, 100, initial_indent=indent, subsequent_indent=indent))
+        rows = dict(kept_by()[crate])
+        broken = rows.pop(BROKEN, [])
+        told = [(law, f"{law} (kept by {', '.join(calls)})" if calls else law)
+                for law, calls in rows.items()]
+        for name, text in told + [(it, it) for it in broken]:
+            for words, indent in ((text, "  "), (" ".join(of_name[crate, name]), " " * 6)):
+                if words:
+                    print(textwrap.fill(words, 100, initial_indent=indent,
+                                        subsequent_indent=indent))
 
 
 if __name__ == "__main__":

@@ -14,7 +14,7 @@ sys.dont_write_bytecode = True
 from model import try_all
 from steps import Sources
 
-# A reader gets quiet, and then looks whether the maker sleeps for it.
+# A reader gets quiet, and then looks whether the driver sleeps for it.
 GETS_QUIET = """
     quietME = 1
     fence !
@@ -27,8 +27,8 @@ wakes:
     signal !
 over:
 """
-# The maker says for which reader it sleeps, the first that it did not find quiet, and then looks at
-# each that it did not: by the call SAYS, and then by WAITS.
+# The driver says for which reader it sleeps, the first that it did not find quiet, and then looks
+# at each that it did not: by the call SAYS, and then by WAITS.
 SLEEPS = """
     lock
 again:
@@ -54,15 +54,15 @@ sleeps:
 woken:
     slept = 0
     one = quiet1
-    must one: the maker goes on before a reader is quiet
+    must one: the driver goes on before a reader is quiet
     two = quiet2
-    must two: the maker goes on before a reader is quiet
+    must two: the driver goes on before a reader is quiet
     unlock
 """
 
 
 def sleeps(says, waits):
-    """What the maker does, by these calls."""
+    """What the driver does, by these calls."""
     return SLEEPS.replace("SAYS", says).replace("WAITS", waits)
 
 
@@ -74,13 +74,13 @@ PROTOCOLS = {
                  "(true, _) => locked = self.sleep(&self.quiet, locked)")]),
 }
 OWN = f"{HERE}/../../crates/rcu_c/src"
-# What says for whom the maker sleeps, in the order in which it stands in `sleep_for_first`.
+# What says for whom the driver sleeps, in the order in which it stands in `sleep_for_first`.
 QUOTES = {
     "let first = opened.inner.next_awaited(0);": ("find the first",),
-    "opened.wishes.sleep_for(first);": ("say it",),
+    "opened.requests.sleep_for(first);": ("say it",),
     "collect_all(&mut opened.inner);": ("look at each",),
     "if awaited.count() == 0 {": ("none is awaited",),
-    "opened.wishes.sleep_for(None);": ("say none",),
+    "opened.requests.sleep_for(None);": ("say none",),
 }
 WANTED = ["find the first", "say it", "look at each", ("none is awaited", ("say none",))]
 

@@ -75,8 +75,8 @@ static void *read_all(void *it) {
     return 0;
 }
 
-/* Sleeps until the cookie is done. The wish to be woken is stored before the poll, so who ends the
- * grace period sees it, or the poll is done. */
+/* Sleeps until the cookie is done. The request to be woken is stored before the poll, so who ends
+ * the grace period sees it, or the poll is done. */
 static void wait_for(uint64_t cookie, struct slot *slot, rcu_seat_t *seat) {
     for (;;) {
         atomic_store_explicit(&slot->wants, true, memory_order_release);

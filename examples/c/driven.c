@@ -1,4 +1,4 @@
-/* One thread drives an engine by steps: a grace period that a cookie asks for; wishes for some; a
+/* One thread drives an engine by steps: a grace period that a cookie asks for; requests for some; a
  * sleep until a processor is quiet; sections that are pinned and renewed; links and values that a
  * seat defers, and what a departure and a return leave of them. */
 #include "rcu.h"
@@ -51,55 +51,56 @@ static void driven(void) {
     printf("driven for it at once: %s\n", yes_or_no(turn.what == RCU_TURN_ENDED));
 }
 
-static uint32_t want(uint32_t cpu, uint64_t cookie) {
+static uint32_t request(uint32_t cpu, uint64_t cookie) {
     uint32_t wakes = 9;
-    must("want", rcu_seat_want(&seats[cpu], cookie, &wakes), 0);
+    must("request", rcu_seat_request_gp(&seats[cpu], cookie, &wakes), 0);
     return wakes;
 }
 
-static uint64_t wanted(bool sleeps) {
+static uint64_t requested(bool sleeps) {
     uint64_t cookie = 0;
-    must("wanted", rcu_wanted(&rcu, sleeps, &cookie), 0);
+    must("requested", rcu_requested_gp(&rcu, sleeps, &cookie), 0);
     return cookie;
 }
 
-/* Two threads wish for grace periods, with no lock: who wishes for a later one than all before
+/* Two threads request grace periods, with no lock: who requests a later one than all before
  * wakes who drives, where that sleeps. */
-static void wished(void) {
-    printf("none wished: %" PRIu64 "\n", wanted(true));
-    uint32_t first = want(1, 8), same = want(0, 8), later = want(0, 12);
+static void requests(void) {
+    printf("none requested: %" PRIu64 "\n", requested(true));
+    uint32_t first = request(1, 8), same = request(0, 8), later = request(0, 12);
     printf("wakes: %" PRIu32 ", %" PRIu32 ", %" PRIu32 "\n", first, same, later);
-    printf("wished: %" PRIu64 "\n", wanted(false));
-    uint32_t awake = want(1, 16), less = want(1, 12);
-    printf("wakes: %" PRIu32 ", %" PRIu32 "; wished: %" PRIu64 "\n", awake, less, wanted(true));
+    printf("requested: %" PRIu64 "\n", requested(false));
+    uint32_t awake = request(1, 16), less = request(1, 12);
+    printf("wakes: %" PRIu32 ", %" PRIu32 "; requested: %" PRIu64 "\n", awake, less,
+           requested(true));
 }
 
-static uint32_t wakes(uint32_t cpu) {
+static uint32_t should_wake(uint32_t cpu) {
     uint32_t it = 9;
-    must("wakes", rcu_seat_wakes(&seats[cpu], &it), 0);
+    must("should wake", rcu_seat_should_wake_driver(&seats[cpu], &it), 0);
     return it;
 }
 
 /* Who drives says for which processor it sleeps: the first that is awaited, which wakes it. */
-static void may_sleep(void) {
+static void prepare_wait(void) {
     uint32_t sleeps = 9, left = 9;
-    must("may sleep", rcu_may_sleep(&rcu, &sleeps, &left), 0);
+    must("prepare wait", rcu_driver_prepare_wait(&rcu, &sleeps, &left), 0);
     printf("sleeps: %" PRIu32 ", left %" PRIu32 ", wakes: %" PRIu32 ", %" PRIu32 "\n", sleeps, left,
-           wakes(0), wakes(1));
+           should_wake(0), should_wake(1));
 }
 
 static void slept(void) {
     uint64_t number, seen;
     uint32_t awaited;
     for (uint32_t cpu = 0; cpu < 2; cpu++) must("wake", rcu_seat_wake(&seats[cpu], &seen), 0);
-    may_sleep();
+    prepare_wait();
     must("begin", rcu_begin(&rcu, &number, &awaited), 0);
-    may_sleep();
+    prepare_wait();
     must("quiesce", rcu_seat_quiesce(&seats[0], &seen), 0);
-    may_sleep();
-    may_sleep();
+    prepare_wait();
+    prepare_wait();
     must("quiesce", rcu_seat_quiesce(&seats[1], &seen), 0);
-    may_sleep();
+    prepare_wait();
     must("end", rcu_end(&rcu, &number), 0);
     for (uint32_t cpu = 0; cpu < 2; cpu++) must("idle", rcu_seat_idle(&seats[cpu]), 0);
 }
@@ -189,7 +190,7 @@ int main(void) {
         must("seat", rcu_seat_open(&rcu, cpu, &seats[cpu]), 0);
     must("arrive", rcu_arrive(&rcu, &seats[1]), 0);
     driven();
-    wished();
+    requests();
     slept();
     pinned();
     links();

@@ -39,8 +39,8 @@ static void refuse_engine(rcu_t *none, uint32_t fault) {
     must("rcu_turn", rcu_turn(none, &out.turn), fault);
     must("rcu_drive", rcu_drive(none, &out.turn), fault);
     must("rcu_drive_for", rcu_drive_for(none, 8, &out.turn), fault);
-    must("rcu_wanted", rcu_wanted(none, true, &out.number), fault);
-    must("rcu_may_sleep", rcu_may_sleep(none, &out.found, &out.left), fault);
+    must("rcu_requested_gp", rcu_requested_gp(none, true, &out.number), fault);
+    must("rcu_driver_prepare_wait", rcu_driver_prepare_wait(none, &out.found, &out.left), fault);
     must("rcu_collect", rcu_collect(none, 0, &out.found), fault);
     must("rcu_collect_all", rcu_collect_all(none, &out.found), fault);
     must("rcu_arrive", rcu_arrive(none, &seat), fault);
@@ -68,8 +68,10 @@ static void refuse_engine(rcu_t *none, uint32_t fault) {
     must("rcu_map_put", rcu_map_put(none, entry, 2, out.values, 2), fault);
     must("rcu_map_remove", rcu_map_remove(none, 7, out.values, 2), fault);
     must("rcu_map_find", rcu_map_find(none, 7, out.values, 2), fault);
+    must("rcu_map_compare_replace", rcu_map_compare_replace(none, entry, 2, out.values, 2), fault);
+    must("rcu_map_compare_remove", rcu_map_compare_remove(none, out.values, 2), fault);
     must("rcu_map_len", rcu_map_len(none), 0);
-    must("rcu_map_age", rcu_map_age(none, &out.number), fault);
+    must("rcu_map_reclaim", rcu_map_reclaim(none, &out.number), fault);
     must("rcu_map_wait", rcu_map_wait(none), fault);
     must("rcu_seat_map_wait", rcu_seat_map_wait(none, &seat), fault);
     rcu_close(none);
@@ -99,8 +101,8 @@ static void refuse_seat(rcu_seat_t *none, uint32_t fault) {
     must("rcu_seat_wake", rcu_seat_wake(none, &out.number), fault);
     must("rcu_seat_take", rcu_seat_take(none), UINT64_MAX);
     must("rcu_seat_poll", rcu_seat_poll(none, 0), false);
-    must("rcu_seat_want", rcu_seat_want(none, 8, &out.found), fault);
-    must("rcu_seat_wakes", rcu_seat_wakes(none, &out.found), fault);
+    must("rcu_seat_request_gp", rcu_seat_request_gp(none, 8, &out.found), fault);
+    must("rcu_seat_should_wake_driver", rcu_seat_should_wake_driver(none, &out.found), fault);
     must("rcu_defer", rcu_defer(none, 7), fault);
     must("rcu_defer_run", rcu_defer_run(none, out.values, 2, &out.number), fault);
     must("rcu_defer_shrink", rcu_defer_shrink(none, &out.number), fault);

@@ -81,8 +81,8 @@ static void *read_tables(void *own) {
 
 /* ---- who updates: the main thread */
 
-static void open_table(struct table *table, uint64_t most) {
-    rcu_map_sizes_t sizes = {.buckets = BUCKETS, .nodes = BUCKETS + most, .seed = 1};
+static void open_table(struct table *table, uint64_t max_entries) {
+    rcu_map_sizes_t sizes = {.buckets = BUCKETS, .entries = max_entries, .seed = 1};
     must("open", rcu_open_map(CPUS, UINT64_C(1) << 62, &sizes, &table->rcu));
     for (uint32_t cpu = 0; cpu < CPUS; cpu++)
         must("seat", rcu_seat_open(&table->rcu, cpu, &table->seats[cpu]));

@@ -308,7 +308,7 @@ static void driver_ends_late(void) {
     if (rcu_running(&rcu)) end();
 }
 
-/* ---- a wish to be woken before a poll that is not done */
+/* ---- a request to be woken before a poll that is not done */
 
 static void driver_takes_and_begins(void) {
     pthread_mutex_lock(&lock);
@@ -547,15 +547,15 @@ static const struct test {
     {"a section before what follows a done poll", judge_section,
      {[PREPARE] = {driver_fills_both_nodes, 0, 0},
       [ACT] = {driver_drives_until_the_end, updater_replaces, reader_reads_until_the_end}}},
-    {"a wish to be woken before a poll", judge_wake_up,
+    {"a request to be woken before a poll", judge_wake_up,
      {[PREPARE] = {driver_takes_and_begins, 0, 0},
       [READY] = {take_lines, updater_looks, reader_quiesces},
       [ACT] = {driver_ends_and_looks, updater_wants_and_polls, 0}}},
-    {"a wish to be woken before a poll, for who finds it done", judge_wake_up,
+    {"a request to be woken before a poll, for who finds it done", judge_wake_up,
      {[PREPARE] = {driver_takes_and_begins, 0, 0},
       [READY] = {take_lines, updater_looks, reader_quiesces},
       [ACT] = {driver_ends, updater_wants_and_polls, reader_finds_it_done_and_looks}}},
-    {"a wish to be woken before a quiescent state", judge_wake_up,
+    {"a request to be woken before a quiescent state", judge_wake_up,
      {[PREPARE] = {driver_takes_and_begins, 0, 0},
       [READY] = {take_lines, 0, reader_quiesces},
       [ACT] = {driver_ends_and_looks, 0, reader_wants_and_quiesces}}},

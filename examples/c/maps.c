@@ -176,7 +176,7 @@ static void come_or_go(uint64_t key) {
 }
 
 static void set_up_table(void) {
-    rcu_map_sizes_t sizes = {.buckets = 8, .nodes = 8 + KEYS + SPARE, .seed = 1, .words = WORDS};
+    rcu_map_sizes_t sizes = {.buckets = 8, .entries = KEYS + SPARE, .seed = 1, .words = WORDS};
     must("open", rcu_open_map(CPUS, UINT64_C(1) << 62, &sizes, &rcu));
     for (uint32_t cpu = 0; cpu < CPUS; cpu++) {
         must("seat", rcu_seat_open(&rcu, cpu, &seats[cpu].seat));
@@ -214,14 +214,14 @@ static void tell(const char *what, uint32_t fault) { printf("%s: %" PRIu32 "\n",
 static void refuse_sizes(void) {
     rcu_t none = {0};
     static const rcu_map_sizes_t bad[] = {
-        {.buckets = 0, .nodes = 8}, {.buckets = 8, .nodes = 7}, {.buckets = 8, .nodes = 8, .words = 1},
-        {.buckets = 8, .nodes = UINT64_C(1) << 32}, {.buckets = 8, .nodes = 8, .words = UINT64_MAX},
-        {.buckets = UINT64_MAX, .nodes = UINT64_MAX}};
+        {.buckets = 0, .entries = 8}, {.buckets = 8, .entries = 8, .words = 1},
+        {.buckets = 8, .entries = UINT64_C(1) << 32}, {.buckets = 8, .entries = 8, .words = UINT64_MAX},
+        {.buckets = 8, .entries = UINT64_MAX}, {.buckets = UINT64_MAX, .entries = UINT64_MAX}};
     printf("bad sizes:");
     for (unsigned i = 0; i < sizeof bad / sizeof *bad; i++)
         printf(" %" PRIu32, rcu_open_map(0, 3, &bad[i], &none));
     printf("\n");
-    rcu_map_sizes_t sizes = {.buckets = 8, .nodes = 8};
+    rcu_map_sizes_t sizes = {.buckets = 8};
     tell("no processor", rcu_open_map(0, 3, &sizes, &none));
     tell("a bad last number", rcu_open_map_as(1, 3, rcu_new_identity(), &sizes, &none));
 }
@@ -230,14 +230,16 @@ static void refuse_sizes(void) {
 static void tell_all(const char *handles, rcu_t *engine, rcu_seat_t *seat, uint64_t key,
                      size_t words) {
     const uint64_t entry[WORDS] = {key};
-    uint64_t old[WORDS], cookie;
+    uint64_t old[WORDS], replaced[WORDS] = {key}, removed[WORDS] = {key}, cookie;
     const uint32_t told[] = {
         rcu_map_insert(engine, entry, words, old, words),
         rcu_map_replace(engine, entry, words, old, words),
         rcu_map_put(engine, entry, words, old, words),
         rcu_map_remove(engine, key, old, words),
         rcu_map_find(engine, key, old, words),
-        rcu_map_age(engine, &cookie),
+        rcu_map_compare_replace(engine, entry, words, replaced, words),
+        rcu_map_compare_remove(engine, removed, words),
+        rcu_map_reclaim(engine, &cookie),
         rcu_map_wait(engine),
         rcu_seat_map_wait(engine, seat),
         rcu_map_get(seat, key, old, words),
@@ -265,19 +267,21 @@ static void fill(rcu_t *engine, rcu_seat_t *seat) {
     must("insert", put_two(rcu_map_insert, engine, 1, 10, old));
     must("insert", put_two(rcu_map_insert, engine, 2, 20, old));
     tell("full, an insertion", put_two(rcu_map_insert, engine, 3, 30, old));
+    tell("a wait for room", rcu_map_wait(engine));
     tell("a replacement", put_two(rcu_map_replace, engine, 1, 11, old));
-    tell("either", put_two(rcu_map_put, engine, 1, 11, old));
-    tell("an insertion of a key that is there", put_two(rcu_map_insert, engine, 1, 11, old));
+    tell("another one", put_two(rcu_map_replace, engine, 1, 12, old));
+    tell("either", put_two(rcu_map_put, engine, 1, 12, old));
+    tell("an insertion of a key that is there", put_two(rcu_map_insert, engine, 1, 12, old));
     printf("it has %" PRIu64 "\n", old[1]);
     tell("a replacement of a key that is not there", put_two(rcu_map_replace, engine, 3, 30, old));
     printf("it had the key %" PRIu64 "\n", old[0]);
     must("remove", rcu_map_remove(engine, 2, old, 2));
     printf("removed %" PRIu64 "\n", old[1]);
     tell("behind a removal", put_two(rcu_map_insert, engine, 3, 30, old));
-    must("age", rcu_map_age(engine, &cookie));
+    must("reclaim", rcu_map_reclaim(engine, &cookie));
     tell("once the node waits", put_two(rcu_map_insert, engine, 3, 30, old));
     pass_grace_periods(engine, cookie);
-    must("age", rcu_map_age(engine, &cookie));
+    must("reclaim", rcu_map_reclaim(engine, &cookie));
     tell("a grace period later", put_two(rcu_map_insert, engine, 3, 30, old));
     tell("a look in no section", rcu_map_get(seat, 3, old, 2));
     tell("a next one in no section", rcu_map_next(seat, 0, old, 2));
@@ -286,33 +290,64 @@ static void fill(rcu_t *engine, rcu_seat_t *seat) {
     printf("a section finds %" PRIu64 "\n", old[1]);
     must("get", rcu_map_get(seat, 2, old, 2));
     printf("then the key %" PRIu64 ", and %" PRIu64 " stays\n", old[0], old[1]);
-    printf("insert, replace, put, remove, find, age, wait, wait by the seat, get, next:\n");
+    printf("insert, replace, put, remove, find, compare_replace, compare_remove, age, wait, wait by the "
+           "seat, get, next:\n");
     tell_all("key 0", engine, seat, 0, 2);
     tell_all("three words", engine, seat, 3, 3);
-    must("remove", rcu_map_remove(engine, 3, old, 2));
+    must("replace", put_two(rcu_map_replace, engine, 3, 31, old));
     for (unsigned i = 0; i < 8; i++) must("wait", rcu_map_wait(engine));
-    tell("waiting beside the section", put_two(rcu_map_put, engine, 4, 40, old));
+    tell("waiting beside the section", put_two(rcu_map_replace, engine, 3, 32, old));
     tell("waiting in it", rcu_seat_map_wait(engine, seat));
     must("unpin", rcu_seat_unpin(seat));
     unsigned steps = 0;
-    while (put_two(rcu_map_put, engine, 4, 40, old) == RCU_MAP_FULL) {
+    while (put_two(rcu_map_replace, engine, 3, 32, old) == RCU_MAP_FULL) {
         must("wait", rcu_seat_map_wait(engine, seat));
         steps++;
     }
     printf("behind it a node was free after %u steps\n", steps);
+    uint32_t fault;
+    do fault = rcu_map_wait(engine);
+    while (!fault);
+    tell("waiting for room beside the entries", fault);
+}
+
+/* Updates that are made if an entry is as it was read, of a map with room for two. */
+static void compare(rcu_t *engine) {
+    uint64_t old[2], read[2] = {1, 9};
+    must("insert", put_two(rcu_map_insert, engine, 1, 10, old));
+    tell("replaced, if it was 9", put_two(rcu_map_compare_replace, engine, 1, 11, read));
+    printf("it is %" PRIu64 "\n", read[1]);
+    tell("if it was so", put_two(rcu_map_compare_replace, engine, 1, 11, read));
+    tell("and if it still is", rcu_map_compare_remove(engine, read, 2));
+    printf("it is %" PRIu64 "\n", read[1]);
+    tell("removed, if it was so", rcu_map_compare_remove(engine, read, 2));
+    tell("and then", rcu_map_compare_remove(engine, read, 2));
+    printf("it has the key %" PRIu64 "\n", read[0]);
+    must("insert", put_two(rcu_map_insert, engine, 1, 11, old));
+    tell("replaced, if it was none", put_two(rcu_map_compare_replace, engine, 1, 12, read));
+    printf("it is %" PRIu64 "\n", read[1]);
+    tell("if it was of another key",
+         put_two(rcu_map_compare_replace, engine, 2, 11, (uint64_t[]){1, 11}));
+    tell("with no node free, if it was 10",
+         put_two(rcu_map_compare_replace, engine, 1, 12, (uint64_t[]){1, 10}));
+    tell("if it was 11", put_two(rcu_map_compare_replace, engine, 1, 12, read));
+    printf("it is %" PRIu64 "\n", read[1]);
 }
 
 static void refuse_calls(void) {
-    rcu_map_sizes_t sizes = {.buckets = 1, .nodes = 3};
+    rcu_map_sizes_t sizes = {.buckets = 1, .entries = 2};
     rcu_t engine = {0}, closed = {0};
     rcu_seat_t seat = {0}, no_seat = {0};
-    must("open", rcu_open_map(1, 8, &sizes, &engine));
+    must("open", rcu_open_map(1, 400, &sizes, &engine));
     must("seat", rcu_seat_open(&engine, 0, &seat));
     must("idle", rcu_seat_idle(&seat));
     fill(&engine, &seat);
     tell_all("closed", &closed, &no_seat, 3, 2);
     tell_all("of the other kind", (rcu_t *)&seat, (rcu_seat_t *)&engine, 3, 2);
     rcu_seat_close(&seat);
+    rcu_close(&engine);
+    must("open", rcu_open_map(1, 8, &sizes, &engine));
+    compare(&engine);
     rcu_close(&engine);
     must("open", rcu_open(1, 8, &engine));
     tell_all("a map of no entry, a closed seat", &engine, &seat, 3, 2);

@@ -28,10 +28,10 @@ static void all_quiet(void) {
 }
 
 static void open_all(void) {
-    uint64_t last = UINT64_C(1) << 62;
-    must("open for nobody", rcu_open(0, last, &rcu), RCU_TOO_MANY_CPUS);
+    uint64_t max_number = UINT64_C(1) << 62;
+    must("open for nobody", rcu_open(0, max_number, &rcu), RCU_TOO_MANY_CPUS);
     must("open at 3", rcu_open(2, 3, &rcu), RCU_BAD_LAST);
-    must("open", rcu_open(2, last, &rcu), 0);
+    must("open", rcu_open(2, max_number, &rcu), 0);
     for (uint32_t cpu = 0; cpu < 2; cpu++)
         must("seat", rcu_seat_open(&rcu, cpu, &seats[cpu]), 0);
     rcu_seat_t third = {0};

@@ -9,7 +9,7 @@ enum { CPUS = 20, VALUES = 4, ROOM = 4, MOST = 3, UNTOUCHED = 99 };
 
 static rcu_t rcu;
 static rcu_seat_t seats[CPUS];
-static const rcu_map_sizes_t sizes = {.buckets = 4, .nodes = 8, .seed = 0};
+static const rcu_map_sizes_t sizes = {.buckets = 4, .entries = 4, .seed = 0};
 
 /* What a call is given, and what it writes to. */
 static uint32_t at;
@@ -38,7 +38,17 @@ void *__wrap_realloc(void *block, size_t size) { return is_refused() ? 0 : __rea
 
 static uint32_t open_engine(void) { return rcu_open(CPUS, UINT64_C(1) << 62, &rcu); }
 static uint32_t open_map(void) { return rcu_open_map(CPUS, UINT64_C(1) << 62, &sizes, &rcu); }
-static uint32_t open_seat(void) { return rcu_seat_open(&rcu, at, &seats[at]); }
+
+/* A seat that is refused can still be dealt, one that is dealt can't be. */
+static uint32_t open_seat(void) {
+    uint32_t fault = rcu_seat_open(&rcu, at, &seats[at]);
+    if (rcu_has_seat(&rcu, at) == !fault) {
+        printf("seat: fault %" PRIu32 ", and the engine has it: %d\n", fault, !fault);
+        exit(1);
+    }
+    return fault;
+}
+
 static uint32_t queue(void) { return rcu_queue(&rcu, at, value, &out.place); }
 static uint32_t visit(void) { return rcu_barrier_visit(&rcu, at, &out.did); }
 static uint32_t run(void) { return rcu_run(&rcu, at, out.values, MOST, &out.count); }
@@ -104,13 +114,23 @@ static void shrink(void) {
     tell("queue behind it", refuse_each("queue", queue));
 }
 
+/* A return asks for no memory, and all that a seat that was returned needs is its handle's box. */
+static void return_seats(void) {
+    unsigned refused = 0;
+    granted = 0;
+    for (uint32_t cpu = 0; cpu < CPUS; cpu++) must("return", rcu_seat_return(&rcu, &seats[cpu]));
+    granted = -1;
+    for (at = 0; at < CPUS; at++) refused += refuse_each("seat", open_seat);
+    printf("%d seats again: %u refused\n", CPUS, refused);
+}
+
 /* No call of an open map takes memory. */
 static void use_map(void) {
     uint64_t entry[] = {0, 7}, old[2], cookie;
     granted = 0;
     while (++entry[0] <= 4) must("put", rcu_map_put(&rcu, entry, 2, old, 2));
     must("remove", rcu_map_remove(&rcu, 4, old, 2));
-    must("age", rcu_map_age(&rcu, &cookie));
+    must("reclaim", rcu_map_reclaim(&rcu, &cookie));
     granted = -1;
     printf("entries: %" PRIu64 "\n", rcu_map_len(&rcu));
 }
@@ -123,6 +143,7 @@ int main(void) {
     tell("open", refuse_each("open", open_engine));
     for (at = 0; at < CPUS; at++) refused += refuse_each("seat", open_seat);
     tell("seats", refused);
+    return_seats();
     must("arrive", rcu_arrive(&rcu, &seats[1]));
     at = 1;
     for (value = 1, refused = 0; value <= VALUES; value++) refused += refuse_each("queue", queue);

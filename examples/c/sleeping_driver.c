@@ -59,7 +59,7 @@ static void acquire_readers(void) {
 static void sleep_until_quiet(void) {
     uint32_t sleeps, left;
     do {
-        must("may sleep", rcu_may_sleep(&rcu, &sleeps, &left));
+        must("prepare wait", rcu_driver_prepare_wait(&rcu, &sleeps, &left));
         if (sleeps) pthread_cond_wait(&quiet, &lock);
     } while (left);
 }
@@ -82,11 +82,11 @@ static void *drive(void *it) {
     uint64_t cookie;
     pthread_mutex_lock(&lock);
     while (!closing) {
-        must("wanted", rcu_wanted(&rcu, true, &cookie));
+        must("requested", rcu_requested_gp(&rcu, true, &cookie));
         if (rcu_poll(&rcu, cookie)) {
             pthread_cond_wait(&requested, &lock);
         } else {
-            must("wanted", rcu_wanted(&rcu, false, &cookie));
+            must("requested", rcu_requested_gp(&rcu, false, &cookie));
             make_grace_periods(cookie);
         }
     }
@@ -99,7 +99,7 @@ static void *drive(void *it) {
 /* The reader's processor just got quiet, idle or offline: if the driver sleeps for it, it wakes. */
 static void wake_driver(struct seat *own) {
     uint32_t wakes;
-    must("wakes", rcu_seat_wakes(&own->seat, &wakes));
+    must("should wake", rcu_seat_should_wake_driver(&own->seat, &wakes));
     if (wakes) wake(&quiet);
 }
 
@@ -188,7 +188,7 @@ static void free_node(struct node *node) {
 /* Requests a grace period, with no lock unless the driver sleeps. */
 static void request(struct seat *own, uint64_t cookie) {
     uint32_t wakes;
-    must("want", rcu_seat_want(&own->seat, cookie, &wakes));
+    must("request", rcu_seat_request_gp(&own->seat, cookie, &wakes));
     if (wakes) wake(&requested);
 }
 

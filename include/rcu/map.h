@@ -17,9 +17,9 @@ extern "C" {
 /* The sizes of the map of an engine. */
 typedef struct rcu_map_sizes {
     uint64_t buckets; /* how many chains the entries are in, 1 or more */
-    uint64_t nodes;   /* how many entries there is room for at a time, plus `buckets`: each bucket
-                       * takes one. An entry that was replaced or removed keeps its own until a
-                       * grace period is over */
+    uint64_t entries; /* how many entries there is room for at a time. One that was replaced or
+                       * removed keeps its room until a grace period is over. A full map can
+                       * replace: it has room for that beside these */
     uint64_t seed;    /* the seed of the hash that assigns keys to buckets: draw it at random if
                        * others choose keys */
     uint64_t words;   /* how many words an entry has, 2 or more, of which word 0 is its key. 0 means
@@ -36,10 +36,10 @@ typedef struct rcu_map_sizes {
 
 /* Opens an engine as rcu_open_as, with a map of these sizes, which is empty. Each of its seats
  * reads it. Needs: `rcu` is closed.
- * Faults: 29 if there is no bucket, an entry has one word, there are fewer nodes than buckets, or
- * more than 2^32 words in all, an entry's and one more a node; 17 for no processor or more than
- * 4,096; 19 if `last` is no such number; 16. */
-uint32_t rcu_open_map_as(uint32_t cpus, uint64_t last, rcu_identity_t identity,
+ * Faults: 29 if there is no bucket, an entry has one word, or there are more than 2^32 words in
+ * all: an entry's and one more for each bucket, for each entry, and once for replacements; 17 for
+ * no processor or more than 4,096; 19 if `max_number` is no such number; 16. */
+uint32_t rcu_open_map_as(uint32_t cpus, uint64_t max_number, rcu_identity_t identity,
                          const rcu_map_sizes_t *sizes, rcu_t *rcu);
 
 /* ---- the map of an engine, as a seat's section reads it: with no lock, beside all calls on other
@@ -79,7 +79,8 @@ uint32_t rcu_map_next(rcu_seat_t *seat, uint64_t key, uint64_t *entry, size_t ro
  * All that the thread did before comes before what follows a section's rcu_map_get that finds the
  * entry.
  * Faults: 32 if an entry has another number of words than `entry` or `old`; 30 if the key is 0; 31
- * if no entry has the key, and no node is free.
+ * if no entry has the key, and the map is full or no node is free yet. It is full if it has as many
+ * entries as it was opened for.
  * Laws in crates/rcu_c/src/: keys_that_stay_are_found (map_laws.rt#L24), found_keys_were_there
  * (map_laws.rt#L42), found_entries_were_there (map_laws.rt#L59), no_key_that_stays_is_passed_over
  * (map_laws.rt#L92), reads_are_between_the_moments_that_they_know (map_laws.rt#L77). */
@@ -92,7 +93,7 @@ uint32_t rcu_map_insert(rcu_t *rcu, const uint64_t *entry, size_t length, uint64
  * Data that words of the old entry lead to may be freed when a full grace period has passed, as by
  * rcu_queue or rcu_defer_link.
  * Faults: 32 as of rcu_map_insert; 30 if the key is 0; 31 if an entry has the key, and no node is
- * free.
+ * free yet. One will be, also in a full map: a node that no entry has waits for its grace period.
  * Laws in crates/rcu_c/src/: keys_that_stay_are_found (map_laws.rt#L24), found_keys_were_there
  * (map_laws.rt#L42), found_entries_were_there (map_laws.rt#L59), no_key_that_stays_is_passed_over
  * (map_laws.rt#L92), reads_are_between_the_moments_that_they_know (map_laws.rt#L77). */
@@ -101,14 +102,15 @@ uint32_t rcu_map_replace(rcu_t *rcu, const uint64_t *entry, size_t length, uint6
 
 /* Puts an entry in, by one store: in the place of the one that has its key, as rcu_map_replace, or
  * if none has it, as rcu_map_insert. Writes the one that had it, or the key 0.
- * Faults: 32 as of rcu_map_insert; 30 if the key is 0; 31 if no node is free.
+ * Faults: 32 as of rcu_map_insert; 30 if the key is 0; 31 if no node is free yet, or if the map is
+ * full and no entry has the key.
  * Laws in crates/rcu_c/src/: keys_that_stay_are_found (map_laws.rt#L24), found_keys_were_there
  * (map_laws.rt#L42), found_entries_were_there (map_laws.rt#L59), no_key_that_stays_is_passed_over
  * (map_laws.rt#L92), reads_are_between_the_moments_that_they_know (map_laws.rt#L77). */
 uint32_t rcu_map_put(rcu_t *rcu, const uint64_t *entry, size_t length, uint64_t *old, size_t room);
 
 /* Takes the entry of a key out, by one store, and writes its words, or the key 0 if there is none.
- * Its node is free again once a call of rcu_map_age has found it removed, and a later one finds
+ * Its node is free again once a call of rcu_map_reclaim has found it removed, and a later one finds
  * that a full grace period has passed since. Data that its words lead to may be freed when a full
  * grace period has passed.
  * Fault 32: an entry has another number of words.
@@ -134,16 +136,17 @@ uint64_t rcu_map_len(rcu_t *rcu);
  * Laws in crates/rcu_c/src/: keys_that_stay_are_found (map_laws.rt#L24), found_keys_were_there
  * (map_laws.rt#L42), found_entries_were_there (map_laws.rt#L59), no_key_that_stays_is_passed_over
  * (map_laws.rt#L92), reads_are_between_the_moments_that_they_know (map_laws.rt#L77). */
-uint32_t rcu_map_age(rcu_t *rcu, uint64_t *cookie);
+uint32_t rcu_map_reclaim(rcu_t *rcu, uint64_t *cookie);
 
-/* One step of waiting for a free node, for the driver: it looks at the number, as rcu_map_age. If
- * no node is free then, it takes a step of driving for the cookie of that number, as rcu_drive_for.
- * No entry changes.
+/* One step of waiting for a free node, for the driver: it looks at the number, as rcu_map_reclaim.
+ * If no node is free then, it takes a step of driving for the cookie of that number, as
+ * rcu_drive_for. No entry changes.
  * If a call that puts an entry in finds no node free (31): call this, and that again, until the
  * entry is in or this is refused. In between let other threads run; the caller's own processor is
  * idle or offline, or passes quiescent states. It orders what rcu_drive_for orders.
- * Faults: 31 if each node has an entry, so that none becomes free before one is removed; 11 if a
- * grace period would begin, and the number is the last one. At 11 it has looked.
+ * Faults: 31 if the map is full and a node is free, by which an entry can be replaced: there is no
+ * room beside the entries before one is removed; 11 if a grace period would begin, and the number
+ * is the last one. At 11 it has looked.
  * Fence: behind.
  * Laws in crates/rcu_c/src/: keys_that_stay_are_found (map_laws.rt#L24), found_keys_were_there
  * (map_laws.rt#L42), found_entries_were_there (map_laws.rt#L59), no_key_that_stays_is_passed_over
@@ -171,15 +174,48 @@ static inline uint32_t rcu_seat_map_wait(rcu_t *rcu, rcu_seat_t *seat) {
     return result;
 }
 
+/* ---- updates of the map of an engine that are made if an entry is as it was read, which another
+ * thread may have changed since: `rcu` is under the caller's lock */
+
+/* Puts an entry in the place of the one that has its key, as rcu_map_replace, if that one has the
+ * words of `old`: so it is as it was read. Else (33) it writes the words of the one that has the
+ * key, or the key 0 if none has it, and changes nothing. So a loop that makes the entry anew of
+ * what is written loses no update of another thread.
+ * Faults: 32 as of rcu_map_insert; 30 if the key is 0; 33 if the entry of the key has other words
+ * than `old`, or none has the key; 31 as of rcu_map_replace.
+ * Laws in crates/rcu_c/src/: keys_that_stay_are_found (map_laws.rt#L24), found_keys_were_there
+ * (map_laws.rt#L42), found_entries_were_there (map_laws.rt#L59), no_key_that_stays_is_passed_over
+ * (map_laws.rt#L92), reads_are_between_the_moments_that_they_know (map_laws.rt#L77). */
+uint32_t rcu_map_compare_replace(rcu_t *rcu, const uint64_t *entry, size_t length, uint64_t *old,
+                                 size_t room);
+
+/* Takes the entry of a key out, as rcu_map_remove, if it has the words of `old`, which begin with
+ * the key: so it is as it was read. Else (33) it writes the words of the one that has the key, or
+ * the key 0 if none has it, and changes nothing.
+ * Faults: 32 if an entry has another number of words; 33 if the entry of the key has other words
+ * than `old`, or none has the key.
+ * Laws in crates/rcu_c/src/: keys_that_stay_are_found (map_laws.rt#L24), found_keys_were_there
+ * (map_laws.rt#L42), found_entries_were_there (map_laws.rt#L59), no_key_that_stays_is_passed_over
+ * (map_laws.rt#L92), reads_are_between_the_moments_that_they_know (map_laws.rt#L77). */
+uint32_t rcu_map_compare_remove(rcu_t *rcu, uint64_t *old, size_t room);
+
 /* <<< */
 
 /* ---- opening, with an identity of its own making */
 
 /* Opens an engine with a map as rcu_open_map_as, under an identity that no other engine of the
  * process has. */
-static inline uint32_t rcu_open_map(uint32_t cpus, uint64_t last, const rcu_map_sizes_t *sizes,
+static inline uint32_t rcu_open_map(uint32_t cpus, uint64_t max_number,
+                                    const rcu_map_sizes_t *sizes,
                                     rcu_t *rcu) {
-    return rcu_open_map_as(cpus, last, rcu_new_identity(), sizes, rcu);
+    return rcu_open_map_as(cpus, max_number, rcu_new_identity(), sizes, rcu);
+}
+
+/* ---- names of 0.2.0, which go in 0.4.0 */
+
+__attribute__((deprecated("use rcu_map_reclaim")))
+static inline uint32_t rcu_map_age(rcu_t *rcu, uint64_t *cookie) {
+    return rcu_map_reclaim(rcu, cookie);
 }
 
 #ifdef __cplusplus

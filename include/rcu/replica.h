@@ -37,9 +37,9 @@ typedef struct rcu_replica {
  * processors asks. */
 
 /* Opens a replica of 1 to 4,096 processors at number 0, which awaits nobody. No grace period begins
- * at `last`, a multiple of 4 from 4 to 2^62. Needs: `replica` is closed.
- * Faults: 17 for no processor or more than 4,096; 19 if `last` is no such number; 16. */
-uint32_t rcu_replica_open(uint32_t cpus, uint64_t last, rcu_replica_t *replica);
+ * at `max_number`, a multiple of 4 from 4 to 2^62. Needs: `replica` is closed.
+ * Faults: 17 for no processor or more than 4,096; 19 if `max_number` is no such number; 16. */
+uint32_t rcu_replica_open(uint32_t cpus, uint64_t max_number, rcu_replica_t *replica);
 
 /* Begins a grace period that awaits the processors whose bits are set in words of 64, the lowest
  * first; bits of processors that there are not mean nothing. Writes its number, four for each that

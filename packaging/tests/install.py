@@ -19,13 +19,15 @@ HEADERS = re.sub(r"/\*.*?\*/", "", "".join(map(read, headers())), flags=re.DOTAL
 # The calls that the library gives, and those that the headers give.
 CALLS = set(re.findall(r"^\w+ (rcu_\w+)\([^;{]*\);$", HEADERS, re.MULTILINE))
 GIVEN = set(re.findall(r"^static inline [^{;]*?\b(rcu_\w+)\(", HEADERS, re.MULTILINE)) | CALLS
+# The old names of calls, which have no page.
+OLD = set(re.findall(r'deprecated\("[^"]*"\)\)\)\nstatic inline [^{;]*?\b(rcu_\w+)\(', HEADERS))
 LIBRARIES = ["rcu", *(f"rcu-{it}" for it in ("bp", "memb", "mb", "qsbr"))]
 LAID = sorted([*headers(), "share/man/man3/rcu.3", "lib/cmake/rcu/rcu-config.cmake",
                "lib/cmake/rcu/rcu-config-version.cmake",
                *(f"lib/lib{it}.{end}" for it in LIBRARIES
                  for end in ("a", "so", f"so.{SONAME}", f"so.{VERSION}")),
                *(f"lib/pkgconfig/{it}.pc" for it in LIBRARIES),
-               *(f"share/man/man3/{it}.3" for it in GIVEN)])
+               *(f"share/man/man3/{it}.3" for it in GIVEN - OLD)])
 NEEDED = ["cc", "as", "ld", "objcopy", "nm", "readelf", "pkg-config"]
 
 PLUGIN = """

@@ -11,6 +11,7 @@ import runpy
 import shutil
 
 import debian
+import links
 from checks import ROOT, count, count_run, lacks, read, run, write
 
 NEEDED = ["git", "cc", "c++", "pkg-config", "objdump", "sha256sum"]
@@ -25,6 +26,16 @@ def pack(folder, result):
     return said is not None
 
 
+def lost_links(share):
+    """The links of the pages that lead to no file of the release."""
+    for page in (it for it in debian.files_in(share) if it.endswith(".md")):
+        folder = os.path.dirname(f"{share}/{page}")
+        for _, path in links.links(f"{share}/{page}"):
+            file = (path or "").partition("#")[0]
+            if "://" not in file and not os.path.exists(os.path.join(folder, file)):
+                yield f"{page}: {path}"
+
+
 def look_at_file(folder, prefix):
     """What the file lays, and what it says of itself."""
     os.mkdir(prefix)
@@ -37,6 +48,8 @@ def look_at_file(folder, prefix):
     build, proved = (read(f"{prefix}/share/rcu/{it}") for it in ("BUILD", "PROVED"))
     count("gate: 7 passed, 0 failed; ended 2026-11-28 02:00 UTC, took 10:01\n" in build
           and build.endswith(proved), "what BUILD says", build)
+    lost = list(lost_links(f"{prefix}/share/rcu"))
+    count(not lost, "each link of a page leads to a file", "\n".join(lost))
     needed = re.search(r"glibc ([\d.]+) or later", build)
     count(needed and f"glibc {needed[1]}" in read("docs/C.md"), "the oldest glibc", build)
     libraries = [it for it in debian.files_in(prefix) if re.match(r"lib/.*\.(a|so\.[\d.]+)$", it)

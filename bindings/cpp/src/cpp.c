@@ -17,7 +17,7 @@ void urcu_cpp_wake_maker(void) {
     got_quiet(self.place);
 }
 
-_Static_assert(offsetof(struct place, depth) == 8 && offsetof(struct place, wished) == 16,
+_Static_assert(offsetof(struct place, depth) == 8 && offsetof(struct place, wake_requested) == 16,
                "urcu_cpp_place of include/rcu");
 _Static_assert(offsetof(struct reader, shown) == 0, "urcu_cpp_reader of include/rcu");
 

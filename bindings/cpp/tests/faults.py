@@ -21,7 +21,7 @@ FAULTS = {
         HEADER, "__atomic_store_n(&place->depth, 0, __ATOMIC_RELEASE);",
         "__atomic_store_n(&place->depth, 0, __ATOMIC_RELAXED);", MODEL),
     "unlock wakes nobody": (
-        HEADER, "        if (__builtin_expect(is_wished, 0)) urcu_cpp_wake_maker();\n", "",
+        HEADER, "        if (__builtin_expect(is_wake_requested, 0)) urcu_cpp_wake_maker();\n", "",
         "general_4_region"),
     "a region without membarrier(2) has no fence": (
         SHOWN, "is_busy() || self.beside || (BY_WORD && !by_system);", "is_busy() || self.beside;",

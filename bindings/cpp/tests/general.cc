@@ -63,7 +63,7 @@ TEST(general_4_region) {
     holder it;
     CHECK(holds_up(it, [] { std::rcu_synchronize(); }));
     std::rcu_synchronize();
-    CHECK(!it.wished_after_end); // who waited was woken
+    CHECK(!it.requested_after_end); // who waited was woken
 }
 
 // 5: the end of a region comes before what is evaluated, unless the scheduling came before it.
@@ -81,12 +81,12 @@ TEST(general_5_region_of_another_thread) {
 }
 
 TEST(general_5_own_region) {
-    take_wish_back();
+    take_request_back();
     auto* x = new counted;
     {
         region mine(dom);
         x->retire();
-        wait_until([] { return counted::alive == 0 || is_set(own_wish()); });
+        wait_until([] { return counted::alive == 0 || is_set(own_request()); });
         CHECK(counted::alive == 1 && x->value == 7);
     }
     std::rcu_barrier();

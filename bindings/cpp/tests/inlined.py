@@ -1,11 +1,12 @@
 """What the header and cpp.c add to the layer's protocols, as programs of interleavings.py: the
 sections inlined, and the barrier's look. For the marks of a step see the layer's model.py."""
-from protocols import MAKER_OF_HANDLED, PASSES, POLLER, ROUND, SECTION, WAKE_THE_MAKER, maker
+from protocols import (GP_THREAD_OF_HANDLED, GRACE_PERIOD, PASSES, POLLER, SECTION,
+                       WAKE_THE_GP_THREAD, gp_thread)
 
 WAKES = f"""
-    w = wished !                          | __atomic_load_n(&place->wished, __ATOMIC_SEQ_CST)
+    w = wake_requested !                  | __atomic_load_n(&place->wake_requested, __ATOMIC_SEQ_CST)
     unless w goto top
-    {WAKE_THE_MAKER.format(passes=PASSES)}
+    {WAKE_THE_GP_THREAD.format(passes=PASSES)}
     goto top
 """
 # A region, and one in which another one nests. What an unlock of the inner one stores leaves the
@@ -53,12 +54,12 @@ WITH_HANDLER = f"""
     depth = 1
     {SECTION}
     depth = 0
-    w = wished
+    w = wake_requested
     unless w goto over
     hidden = 1 !         | urcu_cpp_wake_maker();
     busy = 1
     lock
-    wished = 0
+    wake_requested = 0
     quiet = 1
     signal
     unlock
@@ -75,13 +76,13 @@ inlined:
     depth = 1
     {SECTION}
     depth = 0
-    w = wished
+    w = wake_requested
     unless w goto over
     t = busy
     f = other.t
     must f: a handler waits for its own thread
     lock
-    wished = 0
+    wake_requested = 0
     quiet = 1
     signal
     unlock
@@ -128,11 +129,11 @@ over:
 
 BARRIER = {"last": 0, "running": 0, "evaluated": 0}
 PROTOCOLS = {
-    "an inlined region and a round": (ROUND, [READER, maker("fence all", "!")]),
-    "a region and a round without membarrier(2)":
-        ({**ROUND, "by_system": 0}, [READER_BY_CALLS, maker("fence", "")]),
-    "an inlined region, a signal handler and a round":
-        ({**ROUND, "busy": 0, "hidden": 0, "beside": 0, "ended": 0},
-         [WITH_HANDLER, MAKER_OF_HANDLED, POLLER], {0: HANDLER}),
+    "an inlined region and a grace period": (GRACE_PERIOD, [READER, gp_thread("fence all", "!")]),
+    "a region and a grace period without membarrier(2)":
+        ({**GRACE_PERIOD, "by_system": 0}, [READER_BY_CALLS, gp_thread("fence", "")]),
+    "an inlined region, a signal handler and a grace period":
+        ({**GRACE_PERIOD, "busy": 0, "hidden": 0, "beside": 0, "ended": 0},
+         [WITH_HANDLER, GP_THREAD_OF_HANDLED, POLLER], {0: HANDLER}),
     "a barrier's look": (BARRIER, [RETIRES_AND_LOOKS, EVALUATES]),
 }

@@ -7,12 +7,12 @@
 extern "C" void* domain() { return &std::rcu_default_domain(); }
 extern "C" void enter() {
     std::rcu_default_domain().lock();
-    std::rcu_default_domain().unlock(); // takes an earlier wish back
+    std::rcu_default_domain().unlock(); // takes an earlier request back
     std::rcu_default_domain().lock();
 }
 extern "C" void leave() { std::rcu_default_domain().unlock(); }
 extern "C" bool is_awaited() {
-    return __atomic_load_n(&urcu_cpp_self.shown->wished, __ATOMIC_SEQ_CST);
+    return __atomic_load_n(&urcu_cpp_self.shown->wake_requested, __ATOMIC_SEQ_CST);
 }
 extern "C" void retire(int* it) {
     std::rcu_retire(it, [](int* flag) { __atomic_store_n(flag, 1, __ATOMIC_RELEASE); });

@@ -1,5 +1,5 @@
-// What the tests of the wording share. No verdict goes by a clock: a test waits until the maker of
-// a grace period wishes for the end of an open region, which it does once it has looked often.
+// Helpers of the tests of the wording. No test depends on a clock: it waits until the gp_thread
+// asks to be woken at the end of an open region, which it does after 100 looks.
 #pragma once
 #include <rcu>
 
@@ -41,31 +41,31 @@ template <class F> void wait_until(F&& it) {
     while (!it()) std::this_thread::yield();
 }
 
-// A wish that an earlier grace period left behind is taken back.
-inline void take_wish_back() {
+// A request that an earlier grace period left behind is taken back.
+inline void take_request_back() {
     dom.lock();
     dom.unlock();
 }
 
-// Of the calling thread, which is in a region: whether the maker of a grace period waits for it.
-inline const bool* own_wish() { return &urcu_cpp_self.shown->wished; }
+// Whether the gp_thread waits for the calling thread, which is in a region.
+inline const bool* own_request() { return &urcu_cpp_self.shown->wake_requested; }
 inline bool is_set(const bool* it) { return __atomic_load_n(it, __ATOMIC_SEQ_CST); }
 
 // A thread in a region, which it leaves step by step.
 class holder {
     std::atomic<int> depth_{0}, wanted_;
-    std::atomic<const bool*> wish_{nullptr};
+    std::atomic<const bool*> request_{nullptr};
     std::thread thread_;
 
 public:
-    int written = 0;              // plain, before the region's end
-    bool wished_after_end = true; // plain: once the region has ended no wish is left
+    int written = 0;                 // plain, before the region's end
+    bool requested_after_end = true; // plain: once the region has ended no request is left
 
     explicit holder(int depth = 1, bool by_try = false) : wanted_(depth) {
         thread_ = std::thread([this, depth, by_try] { run(depth, by_try); });
         wait_until([&] { return depth_ == depth; });
     }
-    bool is_awaited() const { return is_set(wish_); }
+    bool is_awaited() const { return is_set(request_); }
     void leave_to(int depth) {
         wanted_ = depth;
         wait_until([&] { return depth_ == depth; });
@@ -78,18 +78,18 @@ public:
 
 private:
     void run(int depth, bool by_try) {
-        take_wish_back();
+        take_request_back();
         for (int i = 0; i < depth; i++) {
             if (by_try) CHECK(dom.try_lock());
             else dom.lock();
         }
-        wish_ = own_wish();
+        request_ = own_request();
         depth_ = depth;
         while (depth) {
             wait_until([&] { return wanted_ < depth; });
             if (depth == 1) written = 1;
             dom.unlock();
-            if (depth == 1) wished_after_end = is_set(wish_);
+            if (depth == 1) requested_after_end = is_set(request_);
             depth_ = --depth;
         }
     }

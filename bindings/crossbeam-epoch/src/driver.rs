@@ -23,7 +23,7 @@ const fn seats(many: usize) -> usize {
     }
 }
 
-/// Processor 0 is nobody's. The two behind it are the benches', for threads past the seats.
+/// Processor 0 is nobody's. The two behind it are the overflow seats', for threads past the seats.
 const OWN: usize = 3;
 const FULL: &str = "out of memory";
 
@@ -40,12 +40,12 @@ pub(crate) struct Driver {
 }
 
 impl Driver {
-    /// A driver with `seats` seats, and those of its benches.
+    /// A driver with `seats` seats, and those of its overflow seats.
     pub(crate) fn open(seats: usize) -> (Driver, [Seat; 2]) {
         let mut rcu = EngineHandle::open((seats + OWN) as u32).expect(FULL);
         let boot = rcu.seat(0).expect(FULL);
         boot.idle();
-        let benches = [1, 2].map(|cpu| Seat::open(&mut rcu, cpu).expect(FULL));
+        let overflow_seats = [1, 2].map(|cpu| Seat::open(&mut rcu, cpu).expect(FULL));
         let driver = Driver {
             rcu,
             _boot: boot,
@@ -56,7 +56,7 @@ impl Driver {
             runs: false,
             number: 0,
         };
-        (driver, benches)
+        (driver, overflow_seats)
     }
 
     /// How many seats there are.
@@ -100,7 +100,7 @@ impl Driver {
                 self.claim(global);
                 if !self.is_over() {
                     let awaits = |cpu| self.awaited.contains(&(cpu as u32));
-                    return global.change_bench(|bench| awaits(bench.seat.cpu()));
+                    return global.change_overflow_seat(|it| awaits(it.seat.cpu()));
                 }
             }
             self.end(global);
@@ -125,13 +125,16 @@ impl Driver {
     /// Makes the awaited seats of unpinned threads idle, and asks the others.
     fn claim(&self, global: &Global) {
         Seat::make_idle(self.awaited.iter().map(|&cpu| match cpu as usize {
-            cpu if cpu < OWN => &global.benches[cpu - 1].seat,
+            cpu if cpu < OWN => &global.overflow_seats[cpu - 1].seat,
             cpu => &*self.dealt[cpu - OWN],
         }));
     }
 
     fn end(&mut self, global: &Global) {
-        global.benches.iter().for_each(|it| it.seat.see_unpin());
+        global
+            .overflow_seats
+            .iter()
+            .for_each(|it| it.seat.see_unpin());
         self.dealt.iter().for_each(|it| it.see_unpin());
         global.tell_end(self.number + 4);
         self.number = self.rcu.end();
@@ -146,7 +149,7 @@ mod tests {
     /// (1,021, where the build sets no other number. Past them threads share two.)
     #[test]
     fn each_seat_is_dealt_once() {
-        let (mut driver, _benches) = Driver::open(PROCESS_SEATS);
+        let (mut driver, _overflow_seats) = Driver::open(PROCESS_SEATS);
         let mut all: Vec<_> = (0..PROCESS_SEATS).map(|_| driver.seat()).collect();
         assert!(all.iter().all(Option::is_some) && driver.seat().is_none());
         if let Some(Some(seat)) = all.pop() {

@@ -18,7 +18,7 @@ pub(crate) const RUNS: usize = 8;
 struct Apart<T>(T);
 
 /// A seat for threads that got none of their own. It is pinned while one of them is.
-pub(crate) struct Bench {
+pub(crate) struct OverflowSeat {
     pub(crate) seat: Seat,
     pub(crate) pinned: Lock<usize>,
 }
@@ -30,9 +30,9 @@ pub(crate) struct Global {
     wanted: Apart<AtomicU64>,
     /// The number, as who ended a grace period last left it.
     ended: Apart<AtomicU64>,
-    /// The bench for threads that pin now.
-    bench: AtomicUsize,
-    pub(crate) benches: [Bench; 2],
+    /// The overflow seat for threads that pin now.
+    overflow_seat: AtomicUsize,
+    pub(crate) overflow_seats: [OverflowSeat; 2],
     driver: Lock<Driver>,
     left: Lock<VecDeque<Sealed>>,
     left_count: AtomicUsize,
@@ -40,12 +40,12 @@ pub(crate) struct Global {
 
 impl Global {
     pub(crate) fn new(seats: usize) -> Global {
-        let (driver, benches) = Driver::open(seats);
+        let (driver, overflow_seats) = Driver::open(seats);
         Global {
             wanted: Apart(AtomicU64::new(0)),
             ended: Apart(AtomicU64::new(0)),
-            bench: AtomicUsize::new(0),
-            benches: benches.map(|seat| Bench {
+            overflow_seat: AtomicUsize::new(0),
+            overflow_seats: overflow_seats.map(|seat| OverflowSeat {
                 seat,
                 pinned: Lock::new(0),
             }),
@@ -69,16 +69,16 @@ impl Global {
         self.driver.lock().give_back(seat);
     }
 
-    pub(crate) fn bench(&self) -> usize {
-        self.bench.load(Relaxed)
+    pub(crate) fn overflow_seat(&self) -> usize {
+        self.overflow_seat.load(Relaxed)
     }
 
-    /// Where the bench for threads that pin now is awaited, and the other one is not, they pin on
-    /// that one from now on: so each is left by all, in turn.
-    pub(crate) fn change_bench(&self, mut is_awaited: impl FnMut(&Bench) -> bool) {
-        let now = self.bench();
-        if is_awaited(&self.benches[now]) && !is_awaited(&self.benches[1 - now]) {
-            self.bench.store(1 - now, Relaxed);
+    /// Where the overflow seat for threads that pin now is awaited, and the other one is not, they
+    /// pin on that one from now on: so each is left by all, in turn.
+    pub(crate) fn change_overflow_seat(&self, mut is_awaited: impl FnMut(&OverflowSeat) -> bool) {
+        let now = self.overflow_seat();
+        if is_awaited(&self.overflow_seats[now]) && !is_awaited(&self.overflow_seats[1 - now]) {
+            self.overflow_seat.store(1 - now, Relaxed);
         }
     }
 

@@ -1,4 +1,5 @@
-//! What a handle has: a seat, or a place on a bench; how often it is pinned; and what it deferred.
+//! A handle: its seat, or its place on an overflow seat, the count of its pins, and its deferred
+//! calls.
 
 use crate::collector::{Collector, LocalHandle};
 use crate::garbage::{run, Bag, Deferred, Sealed, BAG};
@@ -25,8 +26,8 @@ pub(crate) struct Local {
     collector: Collector,
     /// None where the collector had none left.
     seat: Option<Arc<Seat>>,
-    /// The bench that it is pinned on.
-    bench: Cell<usize>,
+    /// The overflow seat that it is pinned on.
+    overflow_seat: Cell<usize>,
     guards: Cell<usize>,
     handles: Cell<usize>,
     pins: Cell<u32>,
@@ -51,7 +52,7 @@ impl Local {
         let local = Box::new(Local {
             collector: collector.clone(),
             seat: collector.global.seat(),
-            bench: Cell::new(0),
+            overflow_seat: Cell::new(0),
             guards: Cell::new(0),
             handles: Cell::new(1),
             pins: Cell::new(0),
@@ -100,7 +101,7 @@ impl Local {
     fn open_section(&self) {
         match &self.seat {
             Some(seat) => seat.pin(),
-            None => self.sit_down(),
+            None => self.pin_overflow(),
         }
     }
 
@@ -127,19 +128,19 @@ impl Local {
         mem::forget(guard);
     }
 
-    /// Takes a place on the bench for threads that pin now. A full fence.
+    /// Pins the overflow seat for threads that pin now. A full fence.
     #[cold]
-    fn sit_down(&self) {
-        let now = self.global().bench();
-        let bench = &self.global().benches[now];
-        let mut pinned = bench.pinned.lock();
+    fn pin_overflow(&self) {
+        let now = self.global().overflow_seat();
+        let overflow_seat = &self.global().overflow_seats[now];
+        let mut pinned = overflow_seat.pinned.lock();
         if *pinned == 0 {
-            bench.seat.pin();
+            overflow_seat.seat.pin();
         } else {
             fence(SeqCst);
         }
         *pinned += 1;
-        self.bench.set(now);
+        self.overflow_seat.set(now);
     }
 
     /// Whether the last guard went after the last handle: then it is to be finished.
@@ -153,18 +154,18 @@ impl Local {
         }
         match &self.seat {
             Some(seat) => seat.unpin(),
-            None => self.unpin_from_bench(),
+            None => self.unpin_overflow(),
         }
         self.handles.get() == 0
     }
 
     #[cold]
-    fn unpin_from_bench(&self) {
-        let bench = &self.global().benches[self.bench.get()];
-        let mut pinned = bench.pinned.lock();
+    fn unpin_overflow(&self) {
+        let overflow_seat = &self.global().overflow_seats[self.overflow_seat.get()];
+        let mut pinned = overflow_seat.pinned.lock();
         *pinned -= 1;
         if *pinned == 0 {
-            bench.seat.unpin();
+            overflow_seat.seat.unpin();
         }
     }
 
@@ -174,8 +175,8 @@ impl Local {
             match &self.seat {
                 Some(seat) => seat.repin(),
                 None => {
-                    self.unpin_from_bench();
-                    self.sit_down();
+                    self.unpin_overflow();
+                    self.pin_overflow();
                 }
             }
         }
@@ -198,9 +199,9 @@ impl Local {
         match &self.seat {
             Some(seat) => seat.take(),
             None => {
-                let bench = &self.global().benches[self.bench.get()];
-                let _pinned = bench.pinned.lock();
-                bench.seat.take()
+                let overflow_seat = &self.global().overflow_seats[self.overflow_seat.get()];
+                let _pinned = overflow_seat.pinned.lock();
+                overflow_seat.seat.take()
             }
         }
     }
@@ -210,9 +211,9 @@ impl Local {
         let done = match &self.seat {
             Some(seat) => seat.is_done(cookie),
             None => {
-                let bench = &self.global().benches[self.bench.get()];
-                let _pinned = bench.pinned.lock();
-                bench.seat.is_done(cookie)
+                let overflow_seat = &self.global().overflow_seats[self.overflow_seat.get()];
+                let _pinned = overflow_seat.pinned.lock();
+                overflow_seat.seat.is_done(cookie)
             }
         };
         self.global().see(done)

@@ -41,7 +41,7 @@ pub(crate) struct Seat {
 // The seat's thread makes them between `pin` and `unpin`, which stores `pinned` by release. Who
 // drives makes them where `state` is TAKEN by its own exchange and `pinned` is 0, and stores `state`
 // by release behind them; `pin` returns only once it saw another state by acquire. A seat goes from
-// thread to thread under the driver's lock, or is a bench's and used under that one's.
+// thread to thread under the driver's lock, or is an overflow seat and used under that one's.
 unsafe impl Sync for Seat {}
 
 impl Seat {

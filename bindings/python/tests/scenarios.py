@@ -235,7 +235,7 @@ def leaving_and_back(source):
         return machines[2].lines
 
 
-def a_stall_is_told(source):
+def a_stall(source):
     """After ten seconds each machine tells once whom it waits for, by name, and since when; and
     `status` has it too."""
     with Cluster(source) as cluster:
@@ -343,7 +343,7 @@ def sizes(source, periods=2000):
 
 TESTS = [redis_restarted, redis_killed, redis_out_of_reach, a_write_refused, a_full_disk,
          an_answer_never_comes, a_machine_killed, redis_lost_all, redis_lost_a_begin, a_slow_machine,
-         a_machine_gone, one_range_twice, leaving_and_back, a_stall_is_told, busy_readers,
+         a_machine_gone, one_range_twice, leaving_and_back, a_stall, busy_readers,
          two_clusters, a_service, sizes]
 
 

@@ -56,9 +56,10 @@ pub struct rcu_turn_t {
 pub struct rcu_map_sizes_t {
     /// How many chains the entries are in, 1 or more.
     pub buckets: u64,
-    /// How many entries there is room for at a time, plus `buckets`: each bucket takes one. An
-    /// entry that was replaced or removed keeps its own until a grace period is over.
-    pub nodes: u64,
+    /// How many entries there is room for at a time. One that was replaced or removed keeps its
+    /// room until a grace period is over. A full map can replace: it has room for that beside
+    /// these.
+    pub entries: u64,
     /// The seed of the hash that assigns keys to buckets: draw it at random if others choose keys.
     pub seed: u64,
     /// How many words an entry has, 2 or more, of which word 0 is its key. 0 means 2: a key and a
@@ -121,14 +122,16 @@ pub const RCU_OTHER_ENGINE: u32 = 26;
 pub const RCU_CLOSED: u32 = 27;
 /// The handle is of another kind.
 pub const RCU_OTHER_KIND: u32 = 28;
-/// A map can't have so many buckets, words an entry and nodes.
+/// A map can't have these sizes (buckets, words an entry, entries).
 pub const RCU_BAD_SIZES: u32 = 29;
 /// An entry has the key 0.
 pub const RCU_BAD_KEY: u32 = 30;
-/// No node of the map is free.
+/// The map has no room for an entry, or none yet.
 pub const RCU_MAP_FULL: u32 = 31;
 /// An entry of the map has another number of words.
 pub const RCU_BAD_WORDS: u32 = 32;
+/// The entry of the map is not as it was read.
+pub const RCU_ENTRY_CHANGED: u32 = 33;
 
 // What a collection found.
 /// No grace period runs.
@@ -186,8 +189,8 @@ pub fn rcu_new_identity() -> rcu_identity_t {
 ///
 /// # Safety
 /// As the header says.
-pub unsafe fn rcu_open(cpus: u32, last: u64, rcu: *mut rcu_t) -> u32 {
-    rcu_open_as(cpus, last, rcu_new_identity(), rcu)
+pub unsafe fn rcu_open(cpus: u32, max_number: u64, rcu: *mut rcu_t) -> u32 {
+    rcu_open_as(cpus, max_number, rcu_new_identity(), rcu)
 }
 
 /// Opens an engine with a map as [`rcu_open_map_as`], under an identity that no other engine of the
@@ -197,11 +200,11 @@ pub unsafe fn rcu_open(cpus: u32, last: u64, rcu: *mut rcu_t) -> u32 {
 /// As the header says.
 pub unsafe fn rcu_open_map(
     cpus: u32,
-    last: u64,
+    max_number: u64,
     sizes: *const rcu_map_sizes_t,
     rcu: *mut rcu_t,
 ) -> u32 {
-    rcu_open_map_as(cpus, last, rcu_new_identity(), sizes, rcu)
+    rcu_open_map_as(cpus, max_number, rcu_new_identity(), sizes, rcu)
 }
 
 // The archive makes no fence: the functions behind its calls do, as those of the header.
@@ -210,23 +213,28 @@ pub unsafe fn rcu_open_map(
 
 extern "C" {
     /// Opens an engine of 1 to 4,096 processors at number 0. Processor 0 alone is online, no
-    /// callback is queued, and no seat is dealt. No grace period begins at `last`, a multiple of 4
-    /// from 4 to 2^62. Needs: `rcu` is closed.
+    /// callback is queued, and no seat is dealt. No grace period begins at `max_number`, a multiple
+    /// of 4 from 4 to 2^62. Needs: `rcu` is closed.
     ///
     /// The identity is one that no other engine of the process has: an engine takes no seat of
     /// another one (26), and compares identities for that. `rcu_open` makes it, of a counter and
     /// the place of that. A program in another language makes its own.
     ///
-    /// Faults: 17 for no processor or more than 4,096; 19 if `last` is no such number; 16.
-    pub fn rcu_open_as(cpus: u32, last: u64, identity: rcu_identity_t, rcu: *mut rcu_t) -> u32;
+    /// Faults: 17 for no processor or more than 4,096; 19 if `max_number` is no such number; 16.
+    pub fn rcu_open_as(
+        cpus: u32,
+        max_number: u64,
+        identity: rcu_identity_t,
+        rcu: *mut rcu_t,
+    ) -> u32;
     /// Closes an engine, and frees all that it has; values that are still queued are not handed
     /// out. Seats that are open go on, and are closed in turn. If `rcu` is not an open engine, it
     /// does nothing. Needs: `rcu` is under the caller's lock.
     pub fn rcu_close(rcu: *mut rcu_t);
     /// Deals the seat of a processor; each has one. The seat of processor 0 is online at first, any
     /// other offline; one that was returned is as it was then. Processor 0 is awaited like any
-    /// other: if no thread reads on it, make its seat idle once. Needs: `rcu` is under the caller's
-    /// lock, and `seat` is closed.
+    /// other: if no thread reads on it, make its seat idle once. A seat takes its memory when it is
+    /// dealt for the first time. Needs: `rcu` is under the caller's lock, and `seat` is closed.
     ///
     /// Faults: 1 if there is no such processor; 25 if its seat is dealt; 16.
     pub fn rcu_seat_open(rcu: *mut rcu_t, cpu: u32, seat: *mut rcu_seat_t) -> u32;
@@ -606,17 +614,17 @@ extern "C" {
     /// Returns the version of the library, as `RCU_VERSION` is that of its header. A program over
     /// the shared object may compare the two.
     pub fn rcu_version() -> u32;
-    /// Wishes for the grace period of a cookie: if that is greater than each that was wished for
-    /// before, `rcu_wanted` finds it from then on. Writes 1 if it is, and the driver says that it
-    /// sleeps: then the caller wakes it, by means of the program's own. Else 0. It orders nothing
-    /// else: a taking does. No wish is taken back: for a cookie that no taking returned, as 2^64 -
-    /// 1, the driver makes grace periods without end.
-    pub fn rcu_seat_want(seat: *mut rcu_seat_t, cookie: u64, wakes: *mut u32) -> u32;
+    /// Requests the grace period of a cookie: if that is greater than each that was requested
+    /// before, `rcu_requested_gp` finds it from then on. Writes 1 if it is, and the driver says
+    /// that it sleeps: then the caller wakes it, by means of the program's own. Else 0. It orders
+    /// nothing else: a taking does. No request is taken back: for a cookie that no taking returned,
+    /// as 2^64 - 1, the driver makes grace periods without end.
+    pub fn rcu_seat_request_gp(seat: *mut rcu_seat_t, cookie: u64, wakes: *mut u32) -> u32;
     /// Says whether the driver sleeps from now on, and then writes the greatest cookie that was
-    /// wished for: 1, which is done at any number, if none was. The next step is `rcu_drive_for` of
+    /// requested: 1, which is done at any number, if none was. The next step is `rcu_drive_for` of
     /// it; or, if `rcu_poll` says that it is done, to sleep until a thread wakes the caller, which
     /// lets go of the lock and sleeps in one step, as a condition variable does.
-    pub fn rcu_wanted(rcu: *mut rcu_t, sleeps: bool, cookie: *mut u64) -> u32;
+    pub fn rcu_requested_gp(rcu: *mut rcu_t, sleeps: bool, cookie: *mut u64) -> u32;
     /// One step of waiting for a barrier, for the driver: it begins a barrier if none runs, visits
     /// each processor, tends each list, and takes a step of driving, as `rcu_drive`. Then it tests
     /// the barrier, and writes how many markers and unvisited processors are left. At 0 it is over,
@@ -639,25 +647,25 @@ extern "C" {
     /// Says that the driver sleeps for the first processor that is awaited, and then collects from
     /// each that is, as `rcu_collect_all`. Writes 1 if that first one is awaited still: then the
     /// caller sleeps, by means of the program's own, until a thread has to wake it
-    /// (`rcu_seat_wakes`). It lets go of the lock and sleeps in one step, as a condition variable
-    /// does. Else writes 0. Writes how many are awaited still; if none is, it says that it sleeps
-    /// for none. Until then call it again, also if the caller woke by chance.
-    pub fn rcu_may_sleep(rcu: *mut rcu_t, sleeps: *mut u32, left: *mut u32) -> u32;
+    /// (`rcu_seat_should_wake_driver`). It lets go of the lock and sleeps in one step, as a
+    /// condition variable does. Else writes 0. Writes how many are awaited still; if none is, it
+    /// says that it sleeps for none. Until then call it again, also if the caller woke by chance.
+    pub fn rcu_driver_prepare_wait(rcu: *mut rcu_t, sleeps: *mut u32, left: *mut u32) -> u32;
     /// Looks whether the driver sleeps for the seat's processor. A thread looks so after each call
     /// by which its processor got quiet, idle or offline. After `rcu_seat_quiesce_since` and
     /// `rcu_seat_renew` it need not where the number is as it was, or is a multiple of 4, at which
     /// no grace period runs. Writes 1 if the caller has to wake the driver, under the lock. Else 0.
     /// It costs a load.
-    pub fn rcu_seat_wakes(seat: *mut rcu_seat_t, wakes: *mut u32) -> u32;
+    pub fn rcu_seat_should_wake_driver(seat: *mut rcu_seat_t, wakes: *mut u32) -> u32;
     /// Opens an engine as `rcu_open_as`, with a map of these sizes, which is empty. Each of its
     /// seats reads it. Needs: `rcu` is closed.
     ///
-    /// Faults: 29 if there is no bucket, an entry has one word, there are fewer nodes than buckets,
-    /// or more than 2^32 words in all, an entry's and one more a node; 17 for no processor or more
-    /// than 4,096; 19 if `last` is no such number; 16.
+    /// Faults: 29 if there is no bucket, an entry has one word, or there are more than 2^32 words
+    /// in all: an entry's and one more for each bucket, for each entry, and once for replacements;
+    /// 17 for no processor or more than 4,096; 19 if `max_number` is no such number; 16.
     pub fn rcu_open_map_as(
         cpus: u32,
-        last: u64,
+        max_number: u64,
         identity: rcu_identity_t,
         sizes: *const rcu_map_sizes_t,
         rcu: *mut rcu_t,
@@ -693,7 +701,8 @@ extern "C" {
     /// finds the entry.
     ///
     /// Faults: 32 if an entry has another number of words than `entry` or `old`; 30 if the key is
-    /// 0; 31 if no entry has the key, and no node is free.
+    /// 0; 31 if no entry has the key, and the map is full or no node is free yet. It is full if it
+    /// has as many entries as it was opened for.
     pub fn rcu_map_insert(
         rcu: *mut rcu_t,
         entry: *const u64,
@@ -709,7 +718,8 @@ extern "C" {
     /// as by `rcu_queue` or `rcu_defer_link`.
     ///
     /// Faults: 32 as of `rcu_map_insert`; 30 if the key is 0; 31 if an entry has the key, and no
-    /// node is free.
+    /// node is free yet. One will be, also in a full map: a node that no entry has waits for its
+    /// grace period.
     pub fn rcu_map_replace(
         rcu: *mut rcu_t,
         entry: *const u64,
@@ -721,7 +731,8 @@ extern "C" {
     /// `rcu_map_replace`, or if none has it, as `rcu_map_insert`. Writes the one that had it, or
     /// the key 0.
     ///
-    /// Faults: 32 as of `rcu_map_insert`; 30 if the key is 0; 31 if no node is free.
+    /// Faults: 32 as of `rcu_map_insert`; 30 if the key is 0; 31 if no node is free yet, or if the
+    /// map is full and no entry has the key.
     pub fn rcu_map_put(
         rcu: *mut rcu_t,
         entry: *const u64,
@@ -730,9 +741,9 @@ extern "C" {
         room: usize,
     ) -> u32;
     /// Takes the entry of a key out, by one store, and writes its words, or the key 0 if there is
-    /// none. Its node is free again once a call of `rcu_map_age` has found it removed, and a later
-    /// one finds that a full grace period has passed since. Data that its words lead to may be
-    /// freed when a full grace period has passed.
+    /// none. Its node is free again once a call of `rcu_map_reclaim` has found it removed, and a
+    /// later one finds that a full grace period has passed since. Data that its words lead to may
+    /// be freed when a full grace period has passed.
     ///
     /// Fault 32: an entry has another number of words.
     pub fn rcu_map_remove(rcu: *mut rcu_t, key: u64, old: *mut u64, room: usize) -> u32;
@@ -750,18 +761,19 @@ extern "C" {
     ///
     /// If a put finds no node free (31): call it, drive until the cookie is done, and call it
     /// again; or call `rcu_map_wait`.
-    pub fn rcu_map_age(rcu: *mut rcu_t, cookie: *mut u64) -> u32;
+    pub fn rcu_map_reclaim(rcu: *mut rcu_t, cookie: *mut u64) -> u32;
     /// One step of waiting for a free node, for the driver: it looks at the number, as
-    /// `rcu_map_age`. If no node is free then, it takes a step of driving for the cookie of that
-    /// number, as `rcu_drive_for`. No entry changes.
+    /// `rcu_map_reclaim`. If no node is free then, it takes a step of driving for the cookie of
+    /// that number, as `rcu_drive_for`. No entry changes.
     ///
     /// If a call that puts an entry in finds no node free (31): call this, and that again, until
     /// the entry is in or this is refused. In between let other threads run; the caller's own
     /// processor is idle or offline, or passes quiescent states. It orders what `rcu_drive_for`
     /// orders.
     ///
-    /// Faults: 31 if each node has an entry, so that none becomes free before one is removed; 11 if
-    /// a grace period would begin, and the number is the last one. At 11 it has looked.
+    /// Faults: 31 if the map is full and a node is free, by which an entry can be replaced: there
+    /// is no room beside the entries before one is removed; 11 if a grace period would begin, and
+    /// the number is the last one. At 11 it has looked.
     ///
     /// Fence: behind.
     pub fn rcu_map_wait_unfenced(rcu: *mut rcu_t) -> u32;
@@ -774,11 +786,32 @@ extern "C" {
     ///
     /// Fence: behind.
     pub fn rcu_seat_map_wait_unfenced(rcu: *mut rcu_t, seat: *mut rcu_seat_t) -> u32;
-    /// Opens a replica of 1 to 4,096 processors at number 0, which awaits nobody. No grace period
-    /// begins at `last`, a multiple of 4 from 4 to 2^62. Needs: `replica` is closed.
+    /// Puts an entry in the place of the one that has its key, as `rcu_map_replace`, if that one
+    /// has the words of `old`: so it is as it was read. Else (33) it writes the words of the one
+    /// that has the key, or the key 0 if none has it, and changes nothing. So a loop that makes the
+    /// entry anew of what is written loses no update of another thread.
     ///
-    /// Faults: 17 for no processor or more than 4,096; 19 if `last` is no such number; 16.
-    pub fn rcu_replica_open(cpus: u32, last: u64, replica: *mut rcu_replica_t) -> u32;
+    /// Faults: 32 as of `rcu_map_insert`; 30 if the key is 0; 33 if the entry of the key has other
+    /// words than `old`, or none has the key; 31 as of `rcu_map_replace`.
+    pub fn rcu_map_compare_replace(
+        rcu: *mut rcu_t,
+        entry: *const u64,
+        length: usize,
+        old: *mut u64,
+        room: usize,
+    ) -> u32;
+    /// Takes the entry of a key out, as `rcu_map_remove`, if it has the words of `old`, which begin
+    /// with the key: so it is as it was read. Else (33) it writes the words of the one that has the
+    /// key, or the key 0 if none has it, and changes nothing.
+    ///
+    /// Faults: 32 if an entry has another number of words; 33 if the entry of the key has other
+    /// words than `old`, or none has the key.
+    pub fn rcu_map_compare_remove(rcu: *mut rcu_t, old: *mut u64, room: usize) -> u32;
+    /// Opens a replica of 1 to 4,096 processors at number 0, which awaits nobody. No grace period
+    /// begins at `max_number`, a multiple of 4 from 4 to 2^62. Needs: `replica` is closed.
+    ///
+    /// Faults: 17 for no processor or more than 4,096; 19 if `max_number` is no such number; 16.
+    pub fn rcu_replica_open(cpus: u32, max_number: u64, replica: *mut rcu_replica_t) -> u32;
     /// Begins a grace period that awaits the processors whose bits are set in words of 64, the
     /// lowest first; bits of processors that there are not mean nothing. Writes its number, four
     /// for each that ended and one more. It costs a step a processor, and takes no memory.
@@ -1174,16 +1207,17 @@ pub unsafe fn rcu_barrier_wait(rcu: *mut rcu_t, left: *mut u64) -> u32 {
     result
 }
 
-/// One step of waiting for a free node, for the driver: it looks at the number, as `rcu_map_age`.
-/// If no node is free then, it takes a step of driving for the cookie of that number, as
-/// `rcu_drive_for`. No entry changes.
+/// One step of waiting for a free node, for the driver: it looks at the number, as
+/// `rcu_map_reclaim`. If no node is free then, it takes a step of driving for the cookie of that
+/// number, as `rcu_drive_for`. No entry changes.
 ///
 /// If a call that puts an entry in finds no node free (31): call this, and that again, until the
 /// entry is in or this is refused. In between let other threads run; the caller's own processor is
 /// idle or offline, or passes quiescent states. It orders what `rcu_drive_for` orders.
 ///
-/// Faults: 31 if each node has an entry, so that none becomes free before one is removed; 11 if a
-/// grace period would begin, and the number is the last one. At 11 it has looked.
+/// Faults: 31 if the map is full and a node is free, by which an entry can be replaced: there is no
+/// room beside the entries before one is removed; 11 if a grace period would begin, and the number
+/// is the last one. At 11 it has looked.
 ///
 /// Fence: behind.
 ///

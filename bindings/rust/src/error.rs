@@ -80,7 +80,7 @@ impl fmt::Display for Error {
             Error::NoMemory => "out of memory",
             Error::BadCount => "an engine has 1 to 4,095 readers",
             Error::AllTaken => "as many readers are there as the engine was made for",
-            Error::BadSizes => "a map can't have so many buckets, entries and words a value",
+            Error::BadSizes => "a map can't have these sizes (buckets, entries, words a value)",
         })
     }
 }

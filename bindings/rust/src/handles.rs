@@ -129,10 +129,9 @@ impl EngineHandle {
     /// # Errors
     /// Those too, and [`Error::BadSizes`].
     pub fn open_map(cpus: u32, sizes: MapSizes, words: usize) -> Result<EngineHandle, Error> {
-        let nodes = sizes.buckets.checked_add(sizes.entries);
         let sizes = raw::rcu_map_sizes_t {
             buckets: sizes.buckets as u64,
-            nodes: nodes.ok_or(Error::BadSizes)? as u64,
+            entries: sizes.entries as u64,
             seed: sizes.seed,
             words: (words as u64).saturating_add(1),
         };
@@ -238,7 +237,7 @@ impl EngineHandle {
     pub fn may_sleep(&mut self) -> (bool, u32) {
         let (mut sleeps, mut left) = (0, 0);
         must("may sleep", unsafe {
-            raw::rcu_may_sleep(&mut self.0, &mut sleeps, &mut left)
+            raw::rcu_driver_prepare_wait(&mut self.0, &mut sleeps, &mut left)
         });
         (sleeps > 0, left)
     }
@@ -276,7 +275,7 @@ impl EngineHandle {
     /// for. So too below.
     ///
     /// # Errors
-    /// [`Full`] where no node is free. So too below.
+    /// [`Full`] if no node is free, or if the map is full and no entry has the key.
     pub fn map_insert<W: Words>(&mut self, key: NonZeroU64, value: W) -> Put<W> {
         self.map_put_by(raw::rcu_map_insert, key, value)
     }
@@ -297,6 +296,49 @@ impl EngineHandle {
     /// [`Full`].
     pub fn map_put<W: Words>(&mut self, key: NonZeroU64, value: W) -> Put<W> {
         self.map_put_by(raw::rcu_map_put, key, value)
+    }
+
+    /// Puts an entry in the place of the one that has its key, if that has the value `current`.
+    /// Returns the value that the key had.
+    ///
+    /// # Errors
+    /// [`Full`].
+    pub fn map_compare_replace<W: Words>(
+        &mut self,
+        key: NonZeroU64,
+        current: W,
+        value: W,
+    ) -> Put<W> {
+        let key = key.get();
+        let (mut entry, mut old) = (
+            Entry { key, value },
+            Entry {
+                key,
+                value: current,
+            },
+        );
+        let (length, room) = (Entry::<W>::LENGTH, Entry::<W>::LENGTH);
+        match unsafe {
+            raw::rcu_map_compare_replace(&mut self.0, entry.words(), length, old.words(), room)
+        } {
+            raw::RCU_MAP_FULL => Err(Full),
+            0 | raw::RCU_ENTRY_CHANGED => Ok(old.value()),
+            fault => refused("compare_replace", fault),
+        }
+    }
+
+    /// Takes the entry of a key out, if it has the value `current`. Returns the value that the key
+    /// had.
+    pub fn map_compare_remove<W: Words>(&mut self, key: NonZeroU64, current: W) -> Option<W> {
+        let mut old = Entry {
+            key: key.get(),
+            value: current,
+        };
+        let room = Entry::<W>::LENGTH;
+        match unsafe { raw::rcu_map_compare_remove(&mut self.0, old.words(), room) } {
+            0 | raw::RCU_ENTRY_CHANGED => old.value(),
+            fault => refused("compare_remove", fault),
+        }
     }
 
     /// Takes the entry of a key out. Returns its value. Its node is free at the first
@@ -327,7 +369,9 @@ impl EngineHandle {
     /// cookie at which the others can be freed.
     pub fn map_age(&mut self) -> u64 {
         let mut cookie = 0;
-        must("age", unsafe { raw::rcu_map_age(&mut self.0, &mut cookie) });
+        must("reclaim", unsafe {
+            raw::rcu_map_reclaim(&mut self.0, &mut cookie)
+        });
         cookie
     }
 }
@@ -389,7 +433,7 @@ impl SeatHandle {
     pub fn wakes(&self) -> bool {
         let mut wakes = 0;
         must("wakes", unsafe {
-            raw::rcu_seat_wakes(self.raw.get(), &mut wakes)
+            raw::rcu_seat_should_wake_driver(self.raw.get(), &mut wakes)
         });
         wakes > 0
     }

@@ -8,7 +8,7 @@ use crate::marks::Mark;
 use std::sync::atomic::{AtomicU64, Ordering::Relaxed};
 use std::sync::{Arc, Condvar, Mutex, MutexGuard};
 
-/// How often a maker of a grace period looks at the processors before it sleeps.
+/// How often a driver looks at the processors before it sleeps.
 const LOOKS: u32 = 100;
 
 /// Where no thread drives, whoever defers makes a step of the engine at each so many, ends so many
@@ -52,12 +52,6 @@ pub(crate) struct Inner {
     quiet: Condvar,
     pub(crate) ended: Condvar,
     pub(crate) queued: Condvar,
-}
-
-/// The sizes with room for one entry more, by which each entry of a full map can be replaced.
-fn with_spare(sizes: MapSizes) -> Result<MapSizes, Error> {
-    let entries = sizes.entries.checked_add(1).ok_or(Error::BadSizes)?;
-    Ok(MapSizes { entries, ..sizes })
 }
 
 impl Locked {
@@ -116,7 +110,7 @@ impl Inner {
         static IDS: AtomicU64 = AtomicU64::new(0);
         let cpus = readers + 1;
         let mut rcu = match map {
-            Some((sizes, words)) => EngineHandle::open_map(cpus, with_spare(sizes)?, words)?,
+            Some((sizes, words)) => EngineHandle::open_map(cpus, sizes, words)?,
             None => EngineHandle::open(cpus)?,
         };
         let boot = rcu.seat(0)?;
@@ -156,8 +150,8 @@ impl Inner {
         on.wait(locked).expect(PANICKED)
     }
 
-    /// The seat got quiet or idle. The one for which a maker sleeps takes the lock for a moment, to
-    /// wake it; no other one takes a lock.
+    /// The seat got quiet or idle. The one for which a driver sleeps takes the lock for a moment,
+    /// to wake it; no other one takes a lock.
     #[inline]
     pub(crate) fn was_quiet(&self, seat: &SeatHandle) {
         if seat.wakes() {

@@ -306,8 +306,8 @@ impl<K: Key, V: Value> Map<K, V> {
     /// # }
     /// ```
     pub fn compare_remove(&self, key: K, current: V) -> Option<V> {
-        let current = current.to_words();
-        let old = self.inner.remove_if(key.to_key(), |old| *old == current);
+        let (key, current) = (key.to_key(), current.to_words());
+        let old = self.inner.lock().rcu.map_compare_remove(key, current);
         old.map(V::of_words)
     }
 

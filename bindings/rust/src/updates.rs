@@ -1,8 +1,7 @@
 //! Updates of the map of an engine, under its lock: where there is room, and how to wait for it.
 //!
-//! The map has room for an entry more than its sizes ask for, and no insertion takes that. So of the
-//! nodes that have no entry at least one is free, or is once a grace period is over, and a full map
-//! can replace.
+//! A full map can replace: of the nodes that have no entry at least one is free, or is once a grace
+//! period is over.
 
 use crate::error::{Full, NotPut};
 use crate::inner::{Inner, Locked};
@@ -44,18 +43,16 @@ impl Inner {
     ) -> Result<Option<W>, Refused> {
         let cookie = locked.rcu.map_age();
         let done = match how {
-            How::Insert | How::Put if self.is_one_too_many::<W>(locked, key) => {
-                return Err(Refused::Full);
-            }
             How::Insert => locked.rcu.map_insert(key, value),
             How::Put => locked.rcu.map_put(key, value),
             How::Replace => locked.rcu.map_replace(key, value),
-            How::Compare(current) => match locked.rcu.map_find(key) {
-                Some(old) if old == current => locked.rcu.map_replace(key, value),
-                old => return Ok(old),
-            },
+            How::Compare(current) => locked.rcu.map_compare_replace(key, current, value),
         };
-        done.map_err(|Full| Refused::Until(cookie))
+        match done {
+            Err(Full) if self.is_one_too_many::<W>(locked, key) => Err(Refused::Full),
+            Err(Full) => Err(Refused::Until(cookie)),
+            Ok(old) => Ok(old),
+        }
     }
 
     /// Puts an entry into the map, and waits for nobody.
@@ -110,20 +107,6 @@ impl Inner {
         }
         self.put_under(&mut locked, how, (key, value))
             .map_err(|_| Full)
-    }
-
-    /// Takes the entry of a key out, if that is wanted of its value. Returns the value.
-    pub(crate) fn remove_if<W: Words>(
-        &self,
-        key: NonZeroU64,
-        is_wanted: impl FnOnce(&W) -> bool,
-    ) -> Option<W> {
-        let mut locked = self.lock();
-        let old = locked.rcu.map_find(key)?;
-        if is_wanted(&old) {
-            locked.rcu.map_remove::<W>(key);
-        }
-        Some(old)
     }
 
     /// The entry of the map behind a key, as a section of processor 0 finds it.

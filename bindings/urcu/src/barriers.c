@@ -11,6 +11,7 @@ static unsigned markers_left;
 static void pass_marker(struct rcu_head *head) {
     (void)head;
     hold();
+    /* Under the lock, so that the barrier sleeps already, or sees that none is left. */
     if (--markers_left == 0) pthread_cond_broadcast(&barrier_over);
     let_go();
 }
@@ -25,7 +26,7 @@ void forget_markers(void) {
 static void mark(struct call_rcu_data *worker) {
     worker->marker.func = pass_marker;
     push(worker, &worker->marker); /* with no lock held: the first push takes it */
-    hold();
+    hold(); /* it looks at this under the lock, before each sleep */
     worker->hurried = true;
     pthread_cond_signal(&worker->work);
     let_go();
@@ -34,7 +35,7 @@ static void mark(struct call_rcu_data *worker) {
 /* A worker runs its marker only after the callback that it is in, so that callback would wait for
  * good. */
 static void look_for_own_worker(void) {
-    hold();
+    hold(); /* so that the list stays, and no worker in it goes */
     for (struct call_rcu_data *it = workers; it; it = it->next)
         if (pthread_equal(it->thread, pthread_self()))
             fail("rcu_barrier", "a callback waits for itself");
@@ -64,5 +65,5 @@ void CALL(barrier)(void) {
     while (markers_left) sleep_on(&barrier_over);
     let_go();
     pthread_mutex_unlock(&visits);
-    come_back(was_online);
+    restore_online(was_online);
 }

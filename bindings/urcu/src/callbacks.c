@@ -1,10 +1,12 @@
 /* Callbacks: each worker has a list of its own, through the heads. To push one takes neither memory
  * nor a lock but where the list was empty: who pushes the first one wakes the worker. The worker
- * takes all at once, waits for a round, and runs them in the order in which they were pushed.
+ * takes all at once, waits for a grace period, and runs them in the order in which they were
+ * pushed.
  *
- * It rests on rounds.c alone: a round that begins after a callback was pushed has ended before it
- * runs. It adds: that each is taken once, by one exchange of the list's word, and that none is left
- * behind: a worker sleeps under the lock, where it found the list empty (tests/model.py). */
+ * It rests on grace_periods.c alone: a grace period that begins after a callback was pushed has
+ * ended before it runs. It adds: that each is taken once, by one exchange of the list's word, and
+ * that none is left behind: a worker sleeps under the lock, where it found the list empty
+ * (tests/model.py). */
 #include "marks.h"
 #include "workers.h"
 #include <sched.h>
@@ -20,7 +22,7 @@ void CALL(call_rcu_rest)(unsigned milliseconds) {
 /* By the lock: the worker sleeps already, or it looks at the list after this. */
 static SLOW void wake_worker(struct call_rcu_data *worker) {
     hold();
-    clock_gettime(CLOCK_MONOTONIC, &worker->since);
+    clock_gettime(CLOCK_MONOTONIC, &worker->since); /* under the lock, as counters read it */
     pthread_cond_signal(&worker->work);
     let_go();
 }
@@ -72,13 +74,14 @@ void CALL(call_rcu)(struct rcu_head *head, void (*func)(struct rcu_head *head)) 
 /* ---- a worker's thread, with the lock held but where callbacks run */
 
 /* An older `ended` makes one grace period too many, and none too few. */
-static bool is_asked_for_a_round(struct call_rcu_data *worker) {
+static bool is_asked_for_a_grace_period(struct call_rcu_data *worker) {
     return worker == atomic_load(&main_worker) &&
            all.asked_for > atomic_load_explicit(&all.ended, memory_order_relaxed);
 }
 
-/* As liburcu's, a worker lets callbacks gather before it takes them. Who waits for it hurries it, or
- * stops or pauses it, with the lock held: so it looks at all three after each wake. */
+/* As liburcu's, a worker lets callbacks gather before it takes them: one grace period serves them
+ * all. Who waits for it hurries it, or stops or pauses it, with the lock held: so it looks at all
+ * three after each wake. */
 static void rest(struct call_rcu_data *worker) {
     unsigned milliseconds = atomic_load_explicit(&rest_milliseconds, memory_order_relaxed);
     struct timespec until;
@@ -95,11 +98,11 @@ static void run_all(struct call_rcu_data *worker, struct rcu_head *head) {
         CALL(quiescent_state)(); /* in qsbr a long batch holds no grace period up */
         head = next;
     }
-    atomic_store(&worker->running, 0);
+    atomic_store(&worker->running, 0); /* behind the last one: who sees 0 sees what they did */
 }
 
 /* What was pushed before a barrier's marker has run if the marker is taken alone. So the barrier
- * waits for no round: with nothing queued it returns while other threads are in sections. */
+ * waits for no grace period: with nothing queued it returns while other threads are in sections. */
 static bool is_marker_alone(struct call_rcu_data *worker, struct rcu_head *first) {
     return first == &worker->marker && !first->next;
 }
@@ -113,13 +116,13 @@ static void run_batch(struct call_rcu_data *worker) {
     worker->hurried = false; /* what hurried it was pushed before this taking */
     worker->running_since = worker->since;
     atomic_store(&worker->running, last != 0); /* under the lock; how many is counted below */
-    let_go();
+    let_go(); /* call_rcu and grace periods of other threads go on meanwhile */
     struct rcu_head *first = in_order(last, &count);
     atomic_store(&worker->running, count);
     hold();
-    if (!is_marker_alone(worker, first)) wait_for_round();
+    if (!is_marker_alone(worker, first)) wait_for_grace_period();
     let_go();
-    CALL(thread_online)();
+    CALL(thread_online)(); /* with no lock held: a callback may call call_rcu, or wait */
     run_all(worker, first);
     CALL(thread_offline)();
     hold();
@@ -130,7 +133,7 @@ static void run_batch(struct call_rcu_data *worker) {
 static void pause_for_fork(struct call_rcu_data *worker) {
     worker->paused = true;
     pthread_cond_broadcast(&all.paused);
-    while (all.pausing) sleep_on(&all.resumed);
+    while (all.pausing) sleep_on(&all.resumed); /* the fork is over, or another one has begun */
     worker->paused = false;
 }
 
@@ -152,7 +155,7 @@ void *work(void *it) {
     self.worker = worker; /* what a callback defers comes to the same worker */
     hold();
     while (!worker->stop) {
-        bool asked = is_asked_for_a_round(worker);
+        bool asked = is_asked_for_a_grace_period(worker);
         if (all.pausing) pause_for_fork(worker);
         else if (asked) run_batch(worker);
         else if (!atomic_load_explicit(&worker->last, memory_order_relaxed))

@@ -1,11 +1,11 @@
 /* defer_rcu: each thread has a ring of calls that it deferred. A ring with calls in it has a
- * callback queued, by which a worker makes those calls that the callback's round came after. Where
- * the ring is full, its thread waits for a round and makes them itself.
+ * callback queued, by which a worker makes those calls that the callback's grace period came after.
+ * Where the ring is full, its thread waits for a grace period and makes them itself.
  *
- * It rests on callbacks.c and rounds.c. It adds: that no call is left behind. A thread adds one,
- * and then looks whether the callback is queued; the callback says that it is queued no more, and
- * then looks whether one was added. All four steps are sequentially consistent, so one of the two
- * sees the other (tests/model.py). */
+ * It rests on callbacks.c and grace_periods.c. It adds: that no call is left behind. A thread adds
+ * one, and then looks whether the callback is queued; the callback says that it is queued no more,
+ * and then looks whether one was added. All four steps are sequentially consistent, so one of the
+ * two sees the other (tests/model.py). */
 #include "deferral.h"
 #include "marks.h"
 #include "workers.h"
@@ -36,17 +36,19 @@ static pthread_mutex_t draining = PTHREAD_MUTEX_INITIALIZER;
 static pthread_mutex_t barriers = PTHREAD_MUTEX_INITIALIZER;
 static struct ring *rings; /* under the lock; none goes */
 
-/* A deferred call may wait for a round. So who waits for its end is offline. */
+/* A deferred call may wait for a grace period. So who waits for its end is offline. */
 static void start_draining(void) {
     bool was_online = self.online; /* in qsbr; the other flavours have no online state */
     CALL(thread_offline)();
-    pthread_mutex_lock(&draining);
-    come_back(was_online);
+    pthread_mutex_lock(&draining); /* else two threads could make the same call */
+    restore_online(was_online);
 }
 
-/* What a call needs is copied before its room is given back (release), which the adding thread loads
- * (acquire) before it writes there. It is given back before the call is made, as that may defer. */
+/* What a call needs is copied before its room is given back (release), which the adding thread
+ * loads (acquire) before it writes there. It is given back before the call is made, as that may
+ * defer. */
 static void make_calls(struct ring *ring, unsigned long limit) {
+    /* Relaxed: it is stored under `draining` alone. */
     unsigned long at = atomic_load_explicit(&ring->made, memory_order_relaxed);
     for (; (long)(limit - at) > 0; at++) {
         struct deferred it = ring->calls[at % RING];
@@ -71,11 +73,13 @@ static void drain(struct rcu_head *head) {
     make_calls(ring, limit);
     pthread_mutex_unlock(&draining);
     atomic_store(&ring->queued, false); /* before the last look, as a thread adds before its look */
+    /* An exchange: if the adding thread saw the store too, one of the two queues the callback. */
     if (atomic_load(&ring->added) != limit && !atomic_exchange(&ring->queued, true)) queue(ring);
 }
 
 /* ---- a thread's own ring. One that a thread left serves the next. */
 
+/* With the lock held: of two threads that come at once each takes another ring. */
 static struct ring *find_ring(void) {
     struct ring *ring = rings;
     while (ring && ring->taken) ring = ring->next;
@@ -118,7 +122,7 @@ void give_back_ring(void) {
 static SLOW void make_all(struct ring *ring) {
     unsigned long limit = atomic_load(&ring->added);
     CALL(synchronize_rcu)();
-    start_draining();
+    start_draining(); /* the ring's callback may be in the midst of its calls */
     make_calls(ring, limit);
     pthread_mutex_unlock(&draining);
 }
@@ -130,6 +134,8 @@ void CALL(defer_rcu)(void (*func)(void *p), void *p) {
         func(p);
         return;
     }
+    /* Its own count, so relaxed. The other one by acquire: a slot is written only once the call
+     * that was there has been copied. */
     unsigned long at = atomic_load_explicit(&ring->added, memory_order_relaxed);
     if (unlikely(at - atomic_load_explicit(&ring->made, memory_order_acquire) == RING))
         make_all(ring);
@@ -157,8 +163,8 @@ void CALL(defer_unregister_thread)(void) {
 /* All limits come before the grace period. A ring that is added meanwhile has no earlier call. */
 void CALL(defer_barrier)(void) {
     bool was_online = leave("rcu_defer_barrier");
-    pthread_mutex_lock(&barriers);
-    hold();
+    pthread_mutex_lock(&barriers); /* the limits are of one barrier until it has made the calls */
+    hold(); /* only the head changes: what it leads to stays, and is walked with no lock */
     struct ring *first = rings;
     let_go();
     for (struct ring *it = first; it; it = it->next)
@@ -168,12 +174,12 @@ void CALL(defer_barrier)(void) {
     for (struct ring *it = first; it; it = it->next) make_calls(it, it->limit_of_barrier);
     pthread_mutex_unlock(&draining);
     pthread_mutex_unlock(&barriers);
-    come_back(was_online);
+    restore_online(was_online);
 }
 
 void CALL(defer_exit)(void) {}
 
-/* In the child of a fork. */
+/* In the child of a fork, as threads that are gone may hold them. */
 void renew_deferral(void) {
     pthread_mutex_init(&draining, 0);
     pthread_mutex_init(&barriers, 0);

@@ -21,10 +21,11 @@ const struct rcu_flavor_struct CALL(flavor) = {
     .update_poll_state_synchronize_rcu = CALL(poll_state_synchronize_rcu),
 };
 
+/* Nothing is left for them: a constructor sets the flavour up, for as long as the process lives. */
 void CALL(init)(void) {}
 void CALL(exit)(void) {}
 
-/* Several flavours may be linked together, and each has these. */
+/* Several flavours may be linked together, and each has these: weak, so that one is taken. */
 #define SHARED_NAME __attribute__((weak))
 
 SHARED_NAME void *rcu_dereference_sym(void *p) {

@@ -40,7 +40,7 @@ static void renew(bool keeps_workers) {
     /* Threads that the child does not have may hold the lock, or sleep on a condition. */
     pthread_mutex_init(&all.lock, 0);
     make_condition(&all.quiet);
-    pthread_cond_init(&all.round_over, 0);
+    pthread_cond_init(&all.grace_period_over, 0);
     pthread_cond_init(&all.paused, 0);
     pthread_cond_init(&all.resumed, 0);
     all.making = all.pausing = false;
@@ -111,7 +111,7 @@ void CALL(call_rcu_after_fork_parent)(void) {
     pthread_mutex_unlock(&making_default);
     pthread_mutex_unlock(&visits);
     if (table) table->after_fork_parent(table->priv);
-    come_back(self.was_online);
+    restore_online(self.was_online);
 }
 
 /* The others' threads are gone. Their callbacks go to the default worker, whose thread is made
@@ -142,7 +142,7 @@ void CALL(call_rcu_after_fork_child)(void) {
     renew_deferral();
     go_on_with_default_worker();
     if (table) table->after_fork_child(table->priv);
-    come_back(self.was_online);
+    restore_online(self.was_online);
 }
 
 void CALL(before_fork)(void) {

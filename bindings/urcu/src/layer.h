@@ -1,11 +1,11 @@
 /* What the files of one flavour share. Each file is built once for each flavour, with URCU_FLAVOUR
- * as its name. How a section is seen by a round is told in readers_by_word.c for memb, signal and
- * bp, and in seats.h for mb and qsbr. When the objects are joined all names are hidden
- * but those of liburcu's interface (the Makefile).
+ * as its name. readers_by_word.c says how a grace period sees a section of memb, signal and bp, and
+ * seats.h how it sees one of mb and qsbr. The Makefile joins the objects, and hides all names but
+ * those of liburcu's interface.
  *
- * A reader, a thread that is registered, has a place: the open seat of a processor that is online. A
- * place that is free is idle, so no grace period waits for it. A round is a grace period of each
- * engine that has a reader; its maker, the gp_thread, is the thread that waits for it. */
+ * A reader, a thread that is registered, has a place: the open seat of a processor that is online.
+ * A place that is free is idle, so no grace period waits for it. A grace period of the layer is one
+ * of each engine that has a reader; its gp_thread is the thread that waits for it. */
 #ifndef URCU_LAYER_H
 #define URCU_LAYER_H
 #ifndef _GNU_SOURCE
@@ -33,10 +33,10 @@
 /* The processor of an engine, for one thread at a time. Each has a cache line of its own. */
 struct place {
     _Alignas(64) rcu_seat_t seat;
-    atomic_ulong depth;        /* how deep the thread's sections nest; in qsbr 0 */
-    atomic_bool wished;        /* the maker of a round wants to hear when the place is quiet */
-    int thread;                /* the system's number of the thread; 0 where the place is free */
-    const void *registered_at; /* the code that registered it */
+    atomic_ulong depth;         /* how deep the thread's sections nest; in qsbr 0 */
+    atomic_bool wake_requested; /* the gp_thread asks to be woken when it is quiet */
+    int thread;                 /* the system's number of the thread; 0 where the place is free */
+    const void *registered_at;  /* the code that registered it */
     struct engine *engine;
     struct place *next; /* among those of the engine that are free */
 };
@@ -44,10 +44,10 @@ struct place {
 enum { LARGEST_ENGINE = 128 }; /* processors */
 struct engine {
     struct engine *next; /* the one that was opened after it */
-    struct engine *next_in_round;
+    struct engine *next_in_grace_period;
     rcu_t rcu;
     uint32_t cpus, opened, taken; /* of its places */
-    uint64_t cookie; /* of the last round */
+    uint64_t cookie; /* of the last grace period */
     struct place *places, *free_places;
 };
 
@@ -56,7 +56,7 @@ struct ring;
 /* What a thread has. */
 struct reader {
     _Atomic(struct place *) shown; /* what inlined sections see of the place (show_place) */
-    unsigned long begun;           /* by state: the round of its latest quiescent state */
+    unsigned long begun;           /* by state: the grace period of its latest quiescent state */
     struct place *place;           /* null if it is not registered */
     unsigned long beside;          /* the depth of a signal handler's sections beside the place */
     atomic_uint busy;              /* the thread is in a call, and may hold the lock */
@@ -79,27 +79,27 @@ SEEN_BY_PROGRAMS void CALL(got_quiet_1)(void);
 #endif
 SEEN_BY_PROGRAMS extern __thread struct reader self __attribute__((tls_model("initial-exec")));
 
-/* By state a thread learns from one word that a round has begun. */
+/* By state a thread learns from one word that a grace period has begun. */
 #ifdef URCU_BY_STATE
 #define latest_begun CALL(begun_1)
 SEEN_BY_PROGRAMS extern atomic_ulong latest_begun;
-static inline void tell_begun(unsigned long round) {
-    atomic_store_explicit(&latest_begun, round, memory_order_release);
+static inline void tell_begun(unsigned long grace_period) {
+    atomic_store_explicit(&latest_begun, grace_period, memory_order_release);
 }
 #else
-static inline void tell_begun(unsigned long round) {
-    (void)round;
+static inline void tell_begun(unsigned long grace_period) {
+    (void)grace_period;
 }
 #endif
 
 /* What all threads share. All but the atomic words is read and written under the lock. */
 struct shared {
     pthread_mutex_t lock;
-    pthread_cond_t quiet, round_over, paused, resumed;
+    pthread_cond_t quiet, grace_period_over, paused, resumed;
     struct engine *engines; /* the oldest one first */
     uint32_t used;          /* how many of them have a place taken */
     bool making, pausing;
-    uint64_t begun, asked_for; /* rounds: each is a grace period of every engine in use */
+    uint64_t begun, asked_for; /* grace periods, each of every engine in use */
     _Atomic uint64_t ended;
     atomic_uint beside; /* how many sections are open beside places */
 };
@@ -169,7 +169,7 @@ struct timespec after(unsigned milliseconds);
 /* threads.c */
 void set_up(void);
 void tell_end(void);
-void come_back(bool was_online);
+void restore_online(bool was_online);
 
 /* places.c */
 void take_place(const void *registered_at);
@@ -186,9 +186,9 @@ void close_place(struct place *place);
 void pass_if_out(struct place *place);
 void fence_readers(void);
 
-/* rounds.c */
+/* grace_periods.c */
 void got_quiet(struct place *place);
-void wait_for_round(void);
+void wait_for_grace_period(void);
 
 /* fork.c */
 void set_up_forks(void);

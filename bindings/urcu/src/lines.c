@@ -17,6 +17,7 @@
 
 enum { LONGEST = 512 };
 
+/* Whether a person or a file reads it: a daemon has closed it, or has opened /dev/null there. */
 static int is_heard(int file) {
     struct stat it;
     if (fstat(file, &it)) return 0;
@@ -26,14 +27,17 @@ static int is_heard(int file) {
 static void log_line(const char *line, int priority) {
     struct sockaddr_un log = {.sun_family = AF_UNIX, .sun_path = "/dev/log"};
     char text[LONGEST];
+    /* Non-blocking: a log that is full must not hold up a grace period, or an abort. */
     int made = socket(AF_UNIX, SOCK_DGRAM | SOCK_CLOEXEC | SOCK_NONBLOCK, 0);
     if (made < 0) return;
     snprintf(text, sizeof text, "<%d>%s[%d]: %s", LOG_USER | priority,
              program_invocation_short_name, (int)getpid(), line);
+    /* (MSG_NOSIGNAL: a log that has gone ends no process.) */
     sendto(made, text, strlen(text), MSG_NOSIGNAL, (struct sockaddr *)&log, sizeof log);
     close(made);
 }
 
+/* By one write(2), as dprintf(3) makes: lines of two threads do not mix. */
 void tell(const char *line, int priority) {
     if (!is_heard(STDERR_FILENO) || dprintf(STDERR_FILENO, "%s\n", line) < 0)
         log_line(line, priority);

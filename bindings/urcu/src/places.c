@@ -1,8 +1,8 @@
 /* Places, and the engines that they are of. Where all are taken an engine is opened, of twice as
  * many processors as the last one, up to LARGEST_ENGINE: so each thread that comes finds a place,
  * and few are opened in vain. The oldest engines are the smallest, and are filled first: so few and
- * small ones are in a round. A seat is opened when its first thread comes. All stay open until the
- * process ends.
+ * small ones are in a grace period. A seat is opened when its first thread comes. All stay open
+ * until the process ends.
  *
  * It rests on these sentences of include/rcu.h: of rcu_seat_idle, "it opens no section, and no
  * grace period waits for it", and "what the thread did before comes before what follows the

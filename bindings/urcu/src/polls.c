@@ -1,7 +1,7 @@
-/* The polls of liburcu 0.14. The default worker makes the rounds that are asked for.
+/* The polls of liburcu 0.14. The default worker makes the grace periods that are asked for.
  *
- * They rest on rounds.c: a round that begins after the asking has the number that the state has, or
- * a greater one. */
+ * They rest on grace_periods.c: a grace period that begins after the asking has the number that the
+ * state has, or a greater one. */
 #include "marks.h"
 #include "workers.h"
 
@@ -17,9 +17,11 @@ struct urcu_gp_poll_state CALL(start_poll_synchronize_rcu)(void) {
     return state;
 }
 
-/* With no lock (acquire): what follows a poll that is true comes after each section that was open. */
+/* With no lock (acquire): what follows a poll that is true comes after each section that was open
+ * when the state was taken. */
 bool CALL(poll_state_synchronize_rcu)(struct urcu_gp_poll_state state) {
-    bool has_ended = atomic_load_explicit(&all.ended, memory_order_acquire) >= state.grace_period_id;
+    uint64_t ended = atomic_load_explicit(&all.ended, memory_order_acquire);
+    bool has_ended = ended >= state.grace_period_id;
     if (has_ended) mark_acquire();
     return has_ended;
 }

@@ -3,10 +3,11 @@
  * that is offline is idle.
  *
  * It rests on seats.h, and on this sentence of include/rcu.h, of rcu_seat_renew: it "closes it,
- * passes a quiescent state, and opens the next one". If no round has begun since the latest one, the
- * section goes on, as no round waits for its end. The gp_thread tells of a round after the engines
- * began it, and a thread looks for that before it renews: so the renewal sees the begun number, and
- * the round does not wait for another one (tests/model.py). urcu/sections.h has the look inlined. */
+ * passes a quiescent state, and opens the next one". If no grace period has begun since the latest
+ * one, the section goes on, as no grace period waits for its end. The gp_thread tells of a grace
+ * period after the engines began it, and a thread looks for that before it renews: so the renewal
+ * sees the begun number, and the grace period does not wait for another one (tests/model.py).
+ * urcu/sections.h has the look inlined. */
 #include "marks.h"
 #include "seats.h"
 
@@ -38,7 +39,7 @@ void CALL(quiescent_state)(void) {
     unsigned long begun = atomic_load_explicit(&latest_begun, memory_order_acquire);
     uint64_t number;
     if (likely(begun == self.begun) || !self.online) return;
-    self.begun = begun; /* the round that was seen: one that begins now is seen at the next look */
+    self.begun = begun; /* that was seen; one that begins now is seen at the next look */
     mark_release();
     must("renew", rcu_seat_renew_unfenced(&place->seat, &number));
     got_quiet(place);
@@ -61,5 +62,5 @@ void stay_as_in(struct place *old) {
     bool was_online = self.online;
     (void)old;
     self.online = false;
-    come_back(was_online);
+    restore_online(was_online);
 }

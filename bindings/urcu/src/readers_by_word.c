@@ -1,13 +1,13 @@
 /* Sections of memb, signal and bp. A place's seat is within one section of its engine's all the
  * time, and belongs to who holds the lock. The thread says by a word, its depth, whether it is in a
- * section of its own. Where it is in none, who makes a round passes a quiescent state by the seat.
- * So each section of a thread lies within one of the engine's.
+ * section of its own. Where it is in none, who makes a grace period passes a quiescent state by the
+ * seat. So each section of a thread lies within one of the engine's.
  *
- * The thread stores its word, makes a fence, and reads. A round makes a fence in all threads, and
- * then looks at their words: so either it sees the word, or the section sees what came before the
- * round. A round that has looked often stores a wish at each place that it awaits. A thread that
- * sees it at a section's end passes the quiescent state itself, by the lock: so one that reads
- * again and again holds no round up.
+ * The thread stores its word, makes a fence, and reads. A grace period makes a fence in all
+ * threads, and then looks at their words: so either it sees the word, or the section sees what came
+ * before the grace period. A grace period that has looked often stores a request at each place that
+ * it awaits. A thread that sees it at a section's end passes the quiescent state itself, by the
+ * lock: so one that reads again and again holds no grace period up.
  *
  * It rests on seats.h, and on this sentence of include/rcu.h, of rcu_seat_repin: "no grace period
  * that began before waits for it any more". It adds: that a quiescent state is passed only where
@@ -30,7 +30,8 @@ void fence_readers(void) {
         fail("wait for a grace period", "membarrier(2) was refused");
 }
 
-/* With the lock held. A seat is idle where its place is free, or its thread waits for a round. */
+/* With the lock held. A seat is idle where its place is free, or its thread waits for a grace
+ * period. */
 void pass_if_out(struct place *place) {
     uint64_t number;
     if (atomic_load_explicit(&place->depth, memory_order_acquire) == 0 &&

@@ -10,12 +10,13 @@
 
 enum { MOST_ROWS = 16, LONGEST_LINE = 400 };
 
+/* Under the lock: the gp_thread reads them before each sleep. */
 static unsigned stall_milliseconds = 10000;
 static void (*stall_report)(const struct urcu_stall *stall, void *context);
 static void *stall_context;
 
 static struct timespec begun_at;
-static unsigned reported; /* how often in this round */
+static unsigned reported; /* how often in this grace period */
 static uint64_t last[URCU_LAST_ROUNDS];
 static unsigned next_of_last;
 
@@ -24,12 +25,13 @@ static uint64_t microseconds_since(const struct timespec *then) {
     return (uint64_t)((now.tv_sec - then->tv_sec) * 1000000 + (now.tv_nsec - then->tv_nsec) / 1000);
 }
 
-void time_round(bool waits) {
+void time_grace_period(bool waits) {
     reported = 0;
     if (waits) begun_at = after(0);
 }
 
-void time_end_of_round(bool waited) {
+/* With the lock held, as counters read all of these. */
+void time_end_of_grace_period(bool waited) {
     last[next_of_last++ % URCU_LAST_ROUNDS] = waited ? microseconds_since(&begun_at) : 0;
 }
 
@@ -37,7 +39,7 @@ void time_end_of_round(bool waited) {
 
 void CALL(on_stall)(unsigned milliseconds,
                     void (*report)(const struct urcu_stall *stall, void *context), void *context) {
-    hold();
+    hold(); /* so that the handler and its context change together */
     stall_milliseconds = milliseconds;
     stall_report = report;
     stall_context = context;
@@ -67,6 +69,7 @@ static unsigned find_stalls(struct engine *engine, struct urcu_stall *rows) {
         rows[found++] = (struct urcu_stall){
             .flavour = FLAVOUR,
             .thread = place->thread,
+            /* Relaxed: for the reader of a line, and nothing is reclaimed by it. */
             .depth = atomic_load_explicit(&place->depth, memory_order_relaxed),
             .registered_at = place->registered_at,
             .milliseconds = microseconds_since(&begun_at) / 1000,
@@ -75,10 +78,12 @@ static unsigned find_stalls(struct engine *engine, struct urcu_stall *rows) {
     return found;
 }
 
-/* The lock is let go meanwhile. No other thread makes a round then. */
+/* The lock is let go meanwhile: the handler is the program's, and may take long. No other thread
+ * makes a grace period then, as all.making says that this one does. */
 static void report(struct engine *engine) {
     struct urcu_stall rows[MOST_ROWS];
     unsigned found = find_stalls(engine, rows);
+    /* Copied under the lock: a new handler may be set while the old one runs. */
     void (*to)(const struct urcu_stall *, void *) = stall_report;
     void *context = stall_context;
     reported++;
@@ -89,6 +94,8 @@ static void report(struct engine *engine) {
     hold();
 }
 
+/* A reader that gets quiet signals under the lock: so it finds the gp_thread asleep, or the look
+ * before this sleep has seen it. */
 void sleep_or_report(struct engine *engine) {
     struct timespec until = begun_at;
     if (!stall_milliseconds) {
@@ -110,6 +117,7 @@ void sleep_or_report(struct engine *engine) {
 /* A worker takes its list under the lock: so none of it goes while it is counted. */
 static void count_callbacks(struct call_rcu_data *worker, struct urcu_counters *counters) {
     unsigned long running = atomic_load(&worker->running), waiting = running;
+    /* Acquire: the heads are whole once the list shows them (the release of push). */
     for (struct rcu_head *it = atomic_load_explicit(&worker->last, memory_order_acquire); it;
          it = it->next)
         waiting++;
@@ -119,6 +127,7 @@ static void count_callbacks(struct call_rcu_data *worker, struct urcu_counters *
     if (age > counters->oldest_waits) counters->oldest_waits = age;
 }
 
+/* One look with the lock held, so that the figures are of one moment. */
 void CALL(counters)(struct urcu_counters *counters) {
     *counters = (struct urcu_counters){0};
     hold();

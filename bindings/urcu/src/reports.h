@@ -5,11 +5,11 @@
 
 #pragma GCC visibility push(hidden)
 
-/* Of a round that waits for a thread (or for none). */
-void time_round(bool waits);
-void time_end_of_round(bool waited);
+/* Begin and end the timing of a grace period, which waits for a thread or for none. */
+void time_grace_period(bool waits);
+void time_end_of_grace_period(bool waited);
 
-/* The maker sleeps until it is woken, or reports who holds the round up. */
+/* The gp_thread sleeps until it is woken, or reports the threads that stall the grace period. */
 void sleep_or_report(struct engine *engine);
 
 #pragma GCC visibility pop

@@ -33,6 +33,7 @@ static size_t rounded(size_t size, size_t to) {
     return (size + to - 1) / to * to;
 }
 
+/* Under the layer's lock, as all calls on an engine that take or give back room. */
 void room_free(void *at) {
     void **block = at;
     if (!at) return;
@@ -50,6 +51,7 @@ static int give_rest(char *from, size_t size) {
 
 static int add_chunk(size_t size) {
     size_t whole = rounded(ALIGNMENT + size, CHUNK);
+    /* mmap(2) takes no lock of the C library's, which the thread may hold in a signal handler. */
     void *chunk = mmap(0, whole, PROT_READ | PROT_WRITE, MAP_PRIVATE | MAP_ANONYMOUS, -1, 0);
     if (chunk == MAP_FAILED) return 0;
     give_rest(next, (size_t)(end - next) / ALIGNMENT * ALIGNMENT);

@@ -5,7 +5,7 @@
  * all of it comes before what follows the end of this grace period, or it sees what came before
  * this call"; and of rcu_seat_wake, of a grace period "that found it idle, or whose number it saw,
  * the section sees what came before its begin". So in mb a thread that reads again and again holds
- * no round up; by a pin, which notes no number, it would. */
+ * no grace period up; by a pin, which notes no number, it would. */
 #ifndef URCU_SEATS_H
 #define URCU_SEATS_H
 #include "layer.h"

@@ -1,7 +1,8 @@
 /* Sections of memb, mb, signal and bp: how they nest, and those of signal handlers. It rests on
  * readers_by_word.c, or in mb on seats.h: there a thread is awake within its sections alone. It
- * adds the sections beside: those of a signal handler that finds its thread busy. Each round sees a
- * moment at which there is none. urcu/sections.h repeats the steps of memb, signal and bp inlined. */
+ * adds the sections beside: those of a signal handler that finds its thread busy. Each grace period
+ * sees a moment at which there is none. urcu/sections.h repeats the steps of memb, signal and bp
+ * inlined. */
 #include "seats.h"
 
 static inline unsigned long depth_of(struct place *place) {
@@ -44,7 +45,7 @@ static inline void enters(struct place *place) {
 static inline void exits(struct place *place) {
     /* Release: the section comes before what follows a grace period that sees the word. */
     atomic_store_explicit(&place->depth, 0, memory_order_release);
-    fence(); /* the word is stored before the look for a wish: else both may sleep */
+    fence(); /* the word is stored before the look for a request: else both may sleep */
 }
 #endif
 
@@ -92,12 +93,12 @@ void CALL(read_unlock)(void) {
 }
 
 #ifdef MAY_INLINE_SECTIONS
-/* An inlined section has ended, and a grace period waits for that: it wishes to be woken. */
+/* An inlined section has ended, and a grace period waits for that: it asks to be woken. */
 void CALL(got_quiet_1)(void) {
     got_quiet(self.place);
 }
 
-_Static_assert(offsetof(struct place, depth) == 8 && offsetof(struct place, wished) == 16,
+_Static_assert(offsetof(struct place, depth) == 8 && offsetof(struct place, wake_requested) == 16,
                "urcu_place_1 of urcu/sections.h");
 _Static_assert(offsetof(struct reader, shown) == 0, "urcu_reader_1 of urcu/sections.h");
 #endif

@@ -10,7 +10,7 @@
 __thread struct reader self __attribute__((tls_model("initial-exec")));
 struct shared all = {
     .lock = PTHREAD_MUTEX_INITIALIZER,
-    .round_over = PTHREAD_COND_INITIALIZER,
+    .grace_period_over = PTHREAD_COND_INITIALIZER,
     .paused = PTHREAD_COND_INITIALIZER,
     .resumed = PTHREAD_COND_INITIALIZER,
 };
@@ -18,7 +18,8 @@ struct shared all = {
 static pthread_once_t once = PTHREAD_ONCE_INIT;
 static pthread_key_t ends;
 
-/* It may register anew, as in the end of another key. */
+/* It may register anew, as in the end of another key. In qsbr it goes offline before its place goes
+ * to another thread. */
 static void at_end(void *it) {
     (void)it;
     self.has_key = false;
@@ -37,7 +38,7 @@ static void set_up_once(void) {
 
 /* Another constructor may register a thread before this one runs. */
 __attribute__((constructor(101))) void set_up(void) {
-    set_busy(1);
+    set_busy(1); /* a signal handler that comes meanwhile would wait for its own thread */
     pthread_once(&once, set_up_once);
     set_busy(-1u);
 }
@@ -48,15 +49,17 @@ void tell_end(void) {
     set_up();
     set_busy(1); /* a handler keeps away: the C library may be in the midst of taking memory */
     if (pthread_setspecific(ends, &self)) fail("register", "out of memory");
-    self.has_key = true;
+    self.has_key = true; /* from here on its end gives the place back */
     set_busy(-1u);
 }
 
-void come_back(bool was_online) {
+/* Behind a wait, with no lock held: in qsbr the thread is awaited again from here on. */
+void restore_online(bool was_online) {
     if (was_online) CALL(thread_online)();
 }
 
 void CALL(register_thread)(void) {
+    /* Its first section, or that of a signal handler, may have taken one. */
     if (!self.place) take_place(__builtin_return_address(0));
     CALL(thread_online)();
 }

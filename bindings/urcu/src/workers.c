@@ -21,7 +21,7 @@ static long machine_cpus;
 
 void start_worker(struct call_rcu_data *worker) {
     sigset_t every, before;
-    sigfillset(&every); /* a handler of the program's is no part of a worker */
+    sigfillset(&every); /* a signal handler of the program's runs in its own threads */
     pthread_sigmask(SIG_SETMASK, &every, &before);
     if (pthread_create(&worker->thread, 0, work, worker)) fail("call_rcu", "no thread is left");
     pthread_sigmask(SIG_SETMASK, &before, 0);
@@ -37,7 +37,7 @@ struct call_rcu_data *CALL(create_call_rcu_data)(unsigned long flags, int cpu) {
     hold();
     while (all.pausing) sleep_on(&all.resumed); /* else a child may have half of the change */
     worker->next = workers;
-    workers = worker;
+    workers = worker; /* under the lock: barriers, forks and counters walk the list */
     let_go();
     return worker;
 }
@@ -47,9 +47,10 @@ struct call_rcu_data *default_worker(void) {
     struct call_rcu_data *worker = atomic_load_explicit(&main_worker, memory_order_acquire);
     if (likely(worker)) return worker;
     pthread_mutex_lock(&making_default);
-    worker = atomic_load(&main_worker);
+    worker = atomic_load(&main_worker); /* once more: else a second one would be made */
     if (!worker) {
         worker = CALL(create_call_rcu_data)(0, -1);
+        /* Release: call_rcu loads it with no lock, and pushes to it at once. */
         atomic_store_explicit(&main_worker, worker, memory_order_release);
     }
     pthread_mutex_unlock(&making_default);
@@ -62,6 +63,7 @@ struct call_rcu_data *CALL(get_default_call_rcu_data)(void) {
     return default_worker();
 }
 
+/* If not, call_rcu needs no section: free_all_cpu_call_rcu_data has none to take away. */
 bool has_worker_of_a_cpu(void) {
     return atomic_load_explicit(&of_cpus, memory_order_acquire) != 0;
 }
@@ -77,12 +79,13 @@ struct call_rcu_data *CALL(get_thread_call_rcu_data)(void) {
     return self.worker;
 }
 
+/* With no lock: no other thread looks at it. */
 void CALL(set_thread_call_rcu_data)(struct call_rcu_data *it) {
     self.worker = it;
 }
 
-/* The thread's own one, else that of the processor that it runs on, else the default one. The thread
- * may move to another processor meanwhile: the worker serves it as well. */
+/* The thread's own one, else that of the processor that it runs on, else the default one. The
+ * thread may move to another processor meanwhile: the worker serves it as well. */
 struct call_rcu_data *CALL(get_call_rcu_data)(void) {
     struct call_rcu_data *worker = self.worker;
     if (!worker && unlikely(has_worker_of_a_cpu()))
@@ -103,7 +106,7 @@ static worker_of_cpu *make_of_cpus(void) {
     machine_cpus = sysconf(_SC_NPROCESSORS_CONF); /* before the exchange, by which it is seen */
     each = calloc((size_t)machine_cpus, sizeof *each);
     if (!each || atomic_compare_exchange_strong(&of_cpus, &other, each)) return each;
-    free(each);
+    free(each); /* no thread has seen it: the other one's is the table */
     return other;
 }
 
@@ -128,7 +131,7 @@ int CALL(create_all_cpu_call_rcu_data)(unsigned long flags) {
         struct call_rcu_data *worker = CALL(create_call_rcu_data)(flags, cpu);
         int fault = CALL(set_cpu_call_rcu_data)(cpu, worker);
         if (!fault) continue;
-        pthread_t thread = worker->thread; /* the worker's memory goes */
+        pthread_t thread = worker->thread; /* before the worker's memory goes */
         CALL(call_rcu_data_free)(worker); /* another thread was first, or no memory is left */
         pthread_join(thread, 0);
         if (fault == -EEXIST) continue;
@@ -151,7 +154,7 @@ void forget_workers_of_cpus(void) {
 
 /* The worker's thread says so, and does nothing more with the worker. */
 void tell_over(struct call_rcu_data *worker) {
-    hold();
+    hold(); /* else the signal may come between the look of stop() and its sleep */
     worker->is_over = true;
     pthread_cond_signal(&worker_over);
     let_go();
@@ -162,6 +165,7 @@ static void stop(struct call_rcu_data *worker) {
     hold(); /* the worker looks with the lock held before each sleep */
     worker->stop = true;
     pthread_cond_signal(&worker->work);
+    /* Its thread writes in it until then, and the caller frees it. */
     while (!worker->is_over) sleep_on(&worker_over);
     let_go();
 }
@@ -169,7 +173,7 @@ static void stop(struct call_rcu_data *worker) {
 /* With `visits` held: no barrier and no fork has it in hand. */
 static void take_out(struct call_rcu_data *worker) {
     struct call_rcu_data **at = &workers;
-    hold();
+    hold(); /* create_call_rcu_data and counters have the lock alone, and not `visits` */
     while (*at != worker) at = &(*at)->next;
     *at = worker->next;
     let_go();
@@ -179,14 +183,15 @@ static void take_out(struct call_rcu_data *worker) {
 void CALL(call_rcu_data_free)(struct call_rcu_data *it) {
     if (!it || it == default_worker()) return; /* that one takes over what the others leave */
     bool was_online = leave("call_rcu_data_free"); /* the worker may wait for a grace period */
-    pthread_mutex_lock(&visits);
+    pthread_mutex_lock(&visits); /* else a barrier may push its marker when the worker is gone */
     stop(it);
     take_out(it);
+    /* Before `visits` is let go: a barrier that comes then finds them with the default worker. */
     push_all(default_worker(), atomic_load(&it->last));
     pthread_mutex_unlock(&visits);
     pthread_cond_destroy(&it->work);
     free(it);
-    come_back(was_online);
+    restore_online(was_online);
 }
 
 void CALL(free_all_cpu_call_rcu_data)(void) {
@@ -194,6 +199,7 @@ void CALL(free_all_cpu_call_rcu_data)(void) {
     if (!each) return;
     struct call_rcu_data **old = calloc((size_t)machine_cpus, sizeof *old);
     if (!old) return;
+    /* An exchange: one that another thread sets meanwhile is taken here, or stays in the table. */
     for (long cpu = 0; cpu < machine_cpus; cpu++) old[cpu] = atomic_exchange(&each[cpu], 0);
     CALL(synchronize_rcu)(); /* who found one in a section is done with it */
     for (long cpu = 0; cpu < machine_cpus; cpu++) CALL(call_rcu_data_free)(old[cpu]);

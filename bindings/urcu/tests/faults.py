@@ -6,18 +6,18 @@ inlined."""
 HANGS = True
 FAULTS = {
     "a wait does not wait": (
-        "rounds.c", "uint64_t wanted = all.begun + 1;", "uint64_t wanted = all.begun;",
+        "grace_periods.c", "uint64_t wanted = all.begun + 1;", "uint64_t wanted = all.begun;",
         "memb", "sections", False),
     "a quiescent state is passed in a section": (
         "readers_by_word.c", "memory_order_acquire) == 0 &&", "memory_order_acquire) <= 1 &&",
         "memb", "waits", False),
-    "the wish is gone": (
+    "the request is gone": (
         "sections.c", "        exits(place);\n        got_quiet(place);", "        exits(place);",
         "memb", "waits", HANGS),
-    "the wish is gone, in mb": (
+    "the request is gone, in mb": (
         "sections.c", "        exits(place);\n        got_quiet(place);", "        exits(place);",
         "mb", "waits", HANGS),
-    "the wish is gone, inlined": (
+    "the request is gone, inlined": (
         "include/urcu/sections.h", "__ATOMIC_SEQ_CST) ? URCU_LEFT_AWAITED_ : URCU_LEFT_;",
         "__ATOMIC_SEQ_CST) ? URCU_LEFT_ : URCU_LEFT_;", "memb", "waits", HANGS),
     "an inlined section is none": (
@@ -31,20 +31,20 @@ FAULTS = {
     "an inlined quiescent state is none": (
         "include/urcu/sections.h", "    if (__builtin_expect(begun != urcu_qsbr_reader_1.begun, 0)) ",
         "    if (begun == 0) ", "qsbr", "waits", HANGS),
-    "no thread of qsbr learns that a round began": (
-        "rounds.c", "    tell_begun(all.begun);", "", "qsbr", "waits", HANGS),
+    "no thread of qsbr learns that a grace period began": (
+        "grace_periods.c", "    tell_begun(all.begun);", "", "qsbr", "waits", HANGS),
     "the inner end of an inlined section ends it": (
         "include/urcu/sections.h", "depth - 1, __ATOMIC_RELAXED);\n        return URCU_LEFT_;",
         "0, __ATOMIC_RELAXED);\n        return URCU_LEFT_;", "memb", "nests", False),
-    "a round ends while one is awaited": (
-        "rounds.c", "return turn.awaited != 0;", "return turn.awaited > 1;",
+    "a grace period ends while one is awaited": (
+        "grace_periods.c", "return turn.awaited != 0;", "return turn.awaited > 1;",
         "mb", "waits", False),
-    "a round passes over all engines but the oldest one": (
-        "rounds.c", "uint32_t left = all.used;", "uint32_t left = all.used != 0;",
+    "a grace period passes over all engines but the oldest one": (
+        "grace_periods.c", "uint32_t left = all.used;", "uint32_t left = all.used != 0;",
         "memb", "engines", False),
     "a section of mb is none of the engine's": (
         "sections.c", "    open_seat(place);\n", "", "mb", "sections", False),
-    "the wish is gone, in qsbr": (
+    "the request is gone, in qsbr": (
         "readers_by_state.c", "&number));\n    got_quiet(place);\n", "&number));\n",
         "qsbr", "waits", HANGS),
     "the inner end of a section ends it": (
@@ -65,9 +65,9 @@ FAULTS = {
         "in_order(0, &count);\n    struct rcu_head *first = last;", "memb", "callbacks", False),
     "a callback runs a batch early": (
         "callbacks.c",
-        "    hold();\n    if (!is_marker_alone(worker, first)) wait_for_round();\n    let_go();\n",
+        "    hold();\n    if (!is_marker_alone(worker, first)) wait_for_grace_period();\n    let_go();\n",
         "", "memb", "batches", False),
-    "a barrier with nothing queued waits for a round": (
+    "a barrier with nothing queued waits for a grace period": (
         "callbacks.c", "if (!is_marker_alone(worker, first)) ", "", "memb", "barriers_alone",
         HANGS),
     "a barrier's marker takes a batch with it": (
@@ -76,7 +76,7 @@ FAULTS = {
     "a barrier does not wait": (
         "barriers.c", "    while (markers_left) sleep_on(&barrier_over);\n", "",
         "memb", "barriers", False),
-    "a poll answers a round early": (
+    "a poll answers a grace period early": (
         "polls.c", "state.grace_period_id = all.begun + 1;", "state.grace_period_id = all.begun;",
         "memb", "polls", False),
     "a deferred call is made at once": (

@@ -50,7 +50,7 @@ static void nothing_but_count(struct rcu_head *head) {
 }
 #endif
 
-/* A callback that is queued while the worker waits has to wait for a round of its own. */
+/* A callback that is queued while the worker waits has to wait for a grace period of its own. */
 int batches(unsigned n) {
     struct holder first, second;
     (void)n;
@@ -74,7 +74,7 @@ int batches(unsigned n) {
     return 1;
 }
 
-/* A round waits for a section of each engine. The threads have places of several. */
+/* A grace period waits for a section of each engine. The threads have places of several. */
 int engines(unsigned n) {
     enum { THREADS = 16 };
     struct holder holders[THREADS];
@@ -83,7 +83,7 @@ int engines(unsigned n) {
     call_rcu(malloc(sizeof(struct rcu_head)), tell);
     for (int i = 0; i < THREADS - 1; i++) close_section(&holders[i]);
     rest(200);
-    if (uatomic_read(&ran)) return puts("a round passed over a section"), 0;
+    if (uatomic_read(&ran)) return puts("a grace period passed over a section"), 0;
     close_section(&holders[THREADS - 1]);
     for (int i = 0; i < THREADS; i++) end_holder(&holders[i]);
     rcu_barrier();

@@ -17,7 +17,7 @@ static void *wait_once(void *it) {
     return it;
 }
 
-/* A thread that holds a round up is told of, by its depth. */
+/* A thread that holds a grace period up is told of, by its depth. */
 static int stalls(void) {
     struct holder holder;
     pthread_t waiter;

@@ -3,22 +3,22 @@ makes them. The engine is taken at its word: it awaits a place until a quiescent
 there. For the marks of a step see model.py."""
 from protocols_of_callbacks import PROTOCOLS_OF_CALLBACKS, SECTION
 
-HELD_UP = "a thread that reads again and again holds a round up"
+HELD_UP = "a thread that reads again and again holds a grace period up"
 
-# ---- sections and rounds.
-# The thread got quiet: it looks for a wish, and wakes the maker; by word it passes the quiescent
-# state itself.
-WAKE_THE_MAKER = """
+# ---- sections and grace periods.
+# The thread got quiet: it looks for a request, and wakes the gp_thread; by word it passes the
+# quiescent state itself.
+WAKE_THE_GP_THREAD = """
     lock
-    wished = 0                            | atomic_store_explicit(&place->wished, false
+    wake_requested = 0                    | atomic_store_explicit(&place->wake_requested, false
     {passes}
     signal !                              | pthread_cond_signal(&all.quiet)
     unlock
 """
-LOOK_FOR_A_WISH = """
-    w = wished !                          | atomic_load(&place->wished)
+LOOK_FOR_A_REQUEST = """
+    w = wake_requested !                  | atomic_load(&place->wake_requested)
     unless w goto top
-""" + WAKE_THE_MAKER.format(passes="") + """
+""" + WAKE_THE_GP_THREAD.format(passes="") + """
     goto top
 """
 PASSES = "quiet = 1 !                         | if (BY_WORD) pass_if_out(place);"
@@ -33,22 +33,22 @@ top:
     {SECTION}
     depth = 0 %       | atomic_store_explicit(&place->depth, 0, memory_order_release)
     {fence}
-    w = wished !                          | atomic_load(&place->wished)
+    w = wake_requested !                  | atomic_load(&place->wake_requested)
     unless w goto top
-    {WAKE_THE_MAKER.format(passes=PASSES)}
+    {WAKE_THE_GP_THREAD.format(passes=PASSES)}
     goto top
 over:
 """
 
 
-def maker(fence, needed):
+def gp_thread(fence, needed):
     return f"""
 again:
     n = other.o
     pointer = n
     lock
     quiet = 0
-    {fence} !                             | if (BY_WORD && round) fence_readers()
+    {fence} !                             | if (BY_WORD && grace_period) fence_readers()
 look:
     d = depth !                     | atomic_load_explicit(&place->depth, memory_order_acquire) == 0
     if d goto looked
@@ -57,7 +57,7 @@ looked:
     q = quiet
     if q goto done
     maybe look
-    m = swap wished 1 !                   | atomic_store(&place->wished, true)
+    m = swap wake_requested 1 !           | atomic_store(&place->wake_requested, true)
     {fence} {needed}                            | if (BY_WORD) fence_readers()
     d = depth !                           | still_goes_on(engine)
     if d goto sleeps
@@ -81,8 +81,8 @@ over:
 
 
 # ---- the same in qsbr. The engine's words are its number, and the processor's own: the number of
-# its latest quiescent state, or 9 where it is idle. A thread looks which round began latest. (The
-# number is loaded where the thread renews; no step of another word stands between the two.)
+# its latest quiescent state, or 9 where it is idle. A thread looks which grace period began latest.
+# (The number is loaded where the thread renews; no step of another word stands between the two.)
 BY_STATE = f"""
 top:
     maybe over
@@ -92,7 +92,7 @@ top:
     if b is last goto top                 | if (likely(begun == self.begun) || !self.online) return;
     last = b                              | self.begun = begun;
     s = swap own n %                      | rcu_seat_renew_unfenced(&place->seat, &number)
-    {LOOK_FOR_A_WISH.replace("top", "again")}
+    {LOOK_FOR_A_REQUEST.replace("top", "again")}
 again:
     if last is 2 goto stays
     goto top
@@ -101,9 +101,9 @@ stays:
     goto top
 over:
     s = swap own 9 %                      | rcu_seat_unpin(&place->seat)
-    w = wished !                          | close_seat(self.place);
+    w = wake_requested !                  | close_seat(self.place);
     unless w goto ended
-    {WAKE_THE_MAKER.format(passes="")}
+    {WAKE_THE_GP_THREAD.format(passes="")}
 ended:
 """
 # ---- the same in mb, where a thread is idle but in its sections.
@@ -114,22 +114,22 @@ top:
     s = swap own n %
     {SECTION}
     s = swap own 9 %                      | close_seat(place);
-    {LOOK_FOR_A_WISH}
+    {LOOK_FOR_A_REQUEST}
 over:
 """
 
 
-def round_by_state(number, needed=""):
+def grace_period_by_state(number, needed=""):
     return f"""
     lock
-    m = swap number {number} {needed}            | struct engine *round = begin_all();
-    begun = {number}                      | atomic_store_explicit(&latest_begun, round
+    m = swap number {number} {needed}            | struct engine *grace_period = begin_all();
+    begun = {number}                      | atomic_store_explicit(&latest_begun, grace_period
 look{number}:
     a = own
     if a is {number} goto done{number}
     if a is 9 goto done{number}
     maybe look{number}
-    m = swap wished 1 %                   | goes_on(engine, wish)
+    m = swap wake_requested 1 %           | goes_on(engine, request_wake)
     a = own
     if a is {number} goto done{number}
     if a is 9 goto done{number}
@@ -141,20 +141,20 @@ done{number}:
 """
 
 
-# A thread may still look for the wish of the first round while the second one waits. In qsbr it may
-# stop once it has seen that the second one began.
-def maker_by_state(needed):
+# A thread may still look for the request of the first grace period while the second one waits. In
+# qsbr it may stop once it has seen that the second one began.
+def gp_thread_by_state(needed):
     return f"""
     pointer = 1
-    {round_by_state(1)}
+    {grace_period_by_state(1)}
     good0 = 0
-    {round_by_state(2, needed)}
+    {grace_period_by_state(2, needed)}
 """
 
 
 
 # ---- a signal handler, which comes at any step of a thread that takes its place, is in a section,
-# and wakes the maker.
+# and wakes the gp_thread.
 WITH_HANDLER = f"""
     busy = 1                              | set_busy(1)
     lock
@@ -163,11 +163,11 @@ WITH_HANDLER = f"""
     depth = 1
     {SECTION}
     depth = 0
-    w = wished
+    w = wake_requested
     unless w goto over
     busy = 1
     lock
-    wished = 0
+    wake_requested = 0
     quiet = 1
     signal
     unlock
@@ -182,13 +182,13 @@ HANDLER = f"""
     depth = 1
     {SECTION}
     depth = 0
-    w = wished
+    w = wake_requested
     unless w goto over
     t = busy
     f = other.t
     must f: a handler waits for its own thread
     lock
-    wished = 0
+    wake_requested = 0
     quiet = 1
     signal
     unlock
@@ -204,7 +204,7 @@ beside:
     x = add beside -1                     | atomic_fetch_sub(&all.beside, 1)
 over:
 """
-MAKER_OF_HANDLED = """
+GP_THREAD_OF_HANDLED = """
     pointer = 1
     lock
     quiet = 0
@@ -217,7 +217,7 @@ looked:
     q = quiet
     if q goto looks
     maybe look
-    m = swap wished 1
+    m = swap wake_requested 1
     fence all
     d = depth
     if d goto sleeps
@@ -282,7 +282,7 @@ beside:
     x = add beside -1
 over:
 """
-MAKER_OF_SEAT_HANDLED = """
+GP_THREAD_OF_SEAT_HANDLED = """
     pointer = 1
     lock
     number = 1
@@ -297,20 +297,21 @@ beside:
     unlock
     good0 = 0
 """
-# Who polls frees what the maker's round came after.
+# Who polls frees what the gp_thread's grace period came after.
 POLLER = """
 poll:
     e = ended   | atomic_load_explicit(&all.ended, memory_order_acquire)
     unless e goto poll
     good0 = 0
 """
-# Without a thread that is registered a round has no engine: the fence alone stands before the look.
+# Without a thread that is registered a grace period has no engine: the fence alone stands before
+# the look.
 HANDLER_ALONE = f"""
     x = add beside 1 !
     {SECTION}
     x = add beside -1
 """
-MAKER_OF_ONE_BESIDE = """
+GP_THREAD_OF_ONE_BESIDE = """
     pointer = 1
     lock
     fence !                               | rcu_fence();
@@ -321,23 +322,26 @@ beside:
     good0 = 0
 """
 
-ROUND = {"depth": 0, "quiet": 0, "wished": 0, "pointer": 0, "good0": 1, "good1": 1, "other0": 1,
-         "other1": 0}
-STATE = {**ROUND, "number": 0, "own": 0, "begun": 0}
+GRACE_PERIOD = {"depth": 0, "quiet": 0, "wake_requested": 0, "pointer": 0, "good0": 1, "good1": 1,
+                "other0": 1,
+                "other1": 0}
+STATE = {**GRACE_PERIOD, "number": 0, "own": 0, "begun": 0}
 PROTOCOLS = {
-    "a section and a round, by membarrier": (ROUND, [reader(""), maker("fence all", "!")]),
-    "a section and a round, by the reader's fences":
-        (ROUND, [reader("fence !"), maker("fence", "")]),
-    "a section and a round, by state": (STATE, [BY_STATE, maker_by_state("%")]),
-    "a section and a round, by seat": ({**STATE, "own": 9}, [BY_SEAT, maker_by_state("")]),
-    "a signal handler, a round and a poll":
-        ({**ROUND, "busy": 0, "beside": 0, "ended": 0},
-         [WITH_HANDLER, MAKER_OF_HANDLED, POLLER], {0: HANDLER}),
-    "a signal handler and a round, by seat":
+    "a section and a grace period, by membarrier":
+        (GRACE_PERIOD, [reader(""), gp_thread("fence all", "!")]),
+    "a section and a grace period, by the reader's fences":
+        (GRACE_PERIOD, [reader("fence !"), gp_thread("fence", "")]),
+    "a section and a grace period, by state": (STATE, [BY_STATE, gp_thread_by_state("%")]),
+    "a section and a grace period, by seat":
+        ({**STATE, "own": 9}, [BY_SEAT, gp_thread_by_state("")]),
+    "a signal handler, a grace period and a poll":
+        ({**GRACE_PERIOD, "busy": 0, "beside": 0, "ended": 0},
+         [WITH_HANDLER, GP_THREAD_OF_HANDLED, POLLER], {0: HANDLER}),
+    "a signal handler and a grace period, by seat":
         ({**STATE, "own": 9, "busy": 0, "beside": 0, "calls": 0,
           "idle0": 1, "idle1": 1, "idle9": 0},
-         [SEAT_WITH_HANDLER, MAKER_OF_SEAT_HANDLED], {0: HANDLER_BY_SEAT}),
-    "a section beside, and a round of no engine":
-        ({**ROUND, "beside": 0}, [HANDLER_ALONE, MAKER_OF_ONE_BESIDE]),
+         [SEAT_WITH_HANDLER, GP_THREAD_OF_SEAT_HANDLED], {0: HANDLER_BY_SEAT}),
+    "a section beside, and a grace period of no engine":
+        ({**GRACE_PERIOD, "beside": 0}, [HANDLER_ALONE, GP_THREAD_OF_ONE_BESIDE]),
     **PROTOCOLS_OF_CALLBACKS,
 }

@@ -48,8 +48,8 @@ run:
 over:
     unlock
 """
-# ---- what a callback frees. The worker takes it, and then waits for a round: that is to say, until
-# the section that is open then has ended.
+# ---- what a callback frees. The worker takes it, and then waits for a grace period: that is to
+# say, until the section that is open then has ended.
 UNLINKS = """
     pointer = 1
     x = swap last 1

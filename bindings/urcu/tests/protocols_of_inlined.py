@@ -1,12 +1,12 @@
 """Sections inlined by urcu/sections.h, as programs of interleavings.py. For the marks of a step see
 model.py."""
-from protocols import (BY_STATE, MAKER_OF_HANDLED, PASSES, POLLER, ROUND, SECTION, STATE,
-                       WAKE_THE_MAKER, maker, maker_by_state)
+from protocols import (BY_STATE, GP_THREAD_OF_HANDLED, GRACE_PERIOD, PASSES, POLLER, SECTION, STATE,
+                       WAKE_THE_GP_THREAD, gp_thread, gp_thread_by_state)
 
 WAKES = f"""
-    w = wished !                          | __atomic_load_n(&place->wished, __ATOMIC_SEQ_CST)
+    w = wake_requested !                  | __atomic_load_n(&place->wake_requested, __ATOMIC_SEQ_CST)
     unless w goto top
-    {WAKE_THE_MAKER.format(passes=PASSES)}
+    {WAKE_THE_GP_THREAD.format(passes=PASSES)}
     goto top
 """
 # A section, and one in which another one nests. What an unlock of the inner one stores leaves the
@@ -54,12 +54,12 @@ WITH_HANDLER = f"""
     depth = 1
     {SECTION}
     depth = 0
-    w = wished
+    w = wake_requested
     unless w goto over
     hidden = 1 !             | if (exit == URCU_LEFT_AWAITED_) urcu_##f##_got_quiet_1();
     busy = 1
     lock
-    wished = 0
+    wake_requested = 0
     quiet = 1
     signal
     unlock
@@ -76,13 +76,13 @@ inlined:
     depth = 1
     {SECTION}
     depth = 0
-    w = wished
+    w = wake_requested
     unless w goto over
     t = busy
     f = other.t
     must f: a handler waits for its own thread
     lock
-    wished = 0
+    wake_requested = 0
     quiet = 1
     signal
     unlock
@@ -103,7 +103,7 @@ call:
 over:
 """
 
-# In qsbr the library's call is made if another round has begun, and looks anew.
+# In qsbr the library's call is made if another grace period has begun, and looks anew.
 BY_STATE_INLINED = BY_STATE.replace("""
     b = begun %""", """
     i = begun                | __atomic_load_n(&urcu_qsbr_begun_1, __ATOMIC_ACQUIRE);
@@ -144,7 +144,7 @@ two:
     depth = 2
 over:
 """
-ROUND_BY_SEAT = """
+GRACE_PERIOD_BY_SEAT = """
     pointer = 1
     m = swap number 1
 waits:
@@ -154,14 +154,14 @@ waits:
 """
 
 PROTOCOLS_OF_INLINED = {
-    "an inlined section and a round": (ROUND, [READER, maker("fence all", "!")]),
-    "an inlined section and a round without membarrier(2)":
-        ({**ROUND, "by_system": 0}, [READER_BY_CALLS, maker("fence", "")]),
-    "an inlined section, a signal handler and a round":
-        ({**ROUND, "busy": 0, "hidden": 0, "beside": 0, "ended": 0},
-         [WITH_HANDLER, MAKER_OF_HANDLED, POLLER], {0: HANDLER}),
-    "an inlined quiescent state and a round":
-        (STATE, [BY_STATE_INLINED, maker_by_state("%")]),
-    "an inlined section within another one of mb, a signal handler and a round":
-        ({**STATE, "own": 9}, [NESTS, ROUND_BY_SEAT], {0: NESTS_IN_HANDLER}),
+    "an inlined section and a grace period": (GRACE_PERIOD, [READER, gp_thread("fence all", "!")]),
+    "an inlined section and a grace period without membarrier(2)":
+        ({**GRACE_PERIOD, "by_system": 0}, [READER_BY_CALLS, gp_thread("fence", "")]),
+    "an inlined section, a signal handler and a grace period":
+        ({**GRACE_PERIOD, "busy": 0, "hidden": 0, "beside": 0, "ended": 0},
+         [WITH_HANDLER, GP_THREAD_OF_HANDLED, POLLER], {0: HANDLER}),
+    "an inlined quiescent state and a grace period":
+        (STATE, [BY_STATE_INLINED, gp_thread_by_state("%")]),
+    "an inlined section within another one of mb, a signal handler and a grace period":
+        ({**STATE, "own": 9}, [NESTS, GRACE_PERIOD_BY_SEAT], {0: NESTS_IN_HANDLER}),
 }

@@ -4,7 +4,6 @@ use Rattle.std.proofs.Common.{append_assoc, refl, ap, ◌∙◌, arith, if◌the
 use Rattle.std.specs.Prelude.{◌==◌}
 use Rattle.std.proofs.lemmas.Bool.Decides.{nat_tests}
 use Rattle.rcu_barrier.specs.Lists.{AllLists, barrier_left, barrier_test_answer}
-use Rattle.rcu_barrier.specs.declared.lists.BarrierState.{BarrierState}
 use Rattle.rcu_barrier.specs.declared.lists.BarrierState.TheVariants as state
 use Rattle.rcu_live.specs.Drive.{after_collections, after_drive, moved_on, wants_begin}
 use Rattle.rcu_live.specs.Engine.{Locked, after_begin, after_end}
@@ -37,7 +36,7 @@ module _ {C X : Type 0} where
       ap (λ (x : Locked C X). x.grace.lists.running) (appended e (visits n) (begun e))
       ∙ still_runs (engine_after e (begun e)) n (begun_runs e e.grace.lists.running refl)
 
-  cpus_at : (e : Locked C X) (n : ℕ) → (engine_after e (visits n ++ begun e)).cpus ≡ e.cpus
+  pub cpus_at : (e : Locked C X) (n : ℕ) → (engine_after e (visits n ++ begun e)).cpus ≡ e.cpus
   cpus_at e n =
       ap (λ (x : Locked C X). x.cpus) (appended e (visits n) (begun e))
       ∙ as_many (engine_after e (begun e)) n
@@ -50,7 +49,7 @@ module _ {C X : Type 0} where
       let cpus = cpus_at e n in
       ((omega (arith, few, cpus), running_at e n), visits_are_a_run e n (omega (arith, few)))
 
-  cpus_tended : (e : Locked C X) (n : ℕ)
+  pub cpus_tended : (e : Locked C X) (n : ℕ)
       → (engine_after e (tends n ++ (visits e.cpus ++ begun e))).cpus ≡ e.cpus
   cpus_tended e n =
       ap (λ (x : Locked C X). x.cpus) (appended e (tends n) (visits e.cpus ++ begun e))

@@ -1,13 +1,24 @@
+pub mod Ahead
 pub mod AsBox
+pub mod BarrierEnds
 pub mod BarrierLaws
 pub mod BarrierRuns
 pub mod Dealt
+pub mod DriveEnds
+pub mod Driven
+pub mod EachInTurn
+pub mod FourCalls
 pub mod FromWords
 pub mod HandedOut
+pub mod KeptLemmas
 pub mod Listed
 pub mod MapLaws
+pub mod MostAwaited
 pub mod Opened
 pub mod Openings
 pub mod Popped
 pub mod Told
+mod ToldChanged
+pub mod Visited
+pub mod WaitSteps
 pub mod WrittenBack

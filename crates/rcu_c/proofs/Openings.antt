@@ -1,6 +1,6 @@
 -- Why an engine with a map is not opened.
-use Rattle.std.proofs.Common.{◌≡◌, ◌≤◌, ◌<◌, ◌+◌, ◌*◌, ◌^◌, ℕ, Bool, true, false, Result, Err, Some}
-use Rattle.std.proofs.Common.{refl, subst, sym, ap, ◌∙◌, arith}
+use Rattle.std.proofs.Common.{◌≡◌, ◌≤◌, ◌<◌, ◌+◌, ◌*◌, ◌^◌, ℕ, Bool, true, false, Result, Err, Ok}
+use Rattle.std.proofs.Common.{None, Some, refl, subst, sym, ap, ◌∙◌, arith}
 use Rattle.std.proofs.Math.Nat.{le-mul_of_pos_right}
 use Rattle.std.proofs.lemmas.Bool.Decides.{nat_tests}
 use Rattle.std.specs.Prelude.{◌↔◌, ◌&&◌, [], ◌∷◌, nat_le, nat_lt, not}
@@ -21,16 +21,16 @@ use Rattle.rcu_c.specs.declared.map_sizes.MapSizes.{MapSizes}
 
 module _ (b width n : ℕ) where
   abbrev IsTested : Bool
-  IsTested = nat_lt 0 b && (nat_le 2 width && (nat_le b n && nat_le ((1 + width) * n) (2 ^ 32)))
+  IsTested = nat_lt 0 b && (nat_le 2 width && nat_le ((1 + width) * (b + n + 1)) (2 ^ 32))
 
   -- the sizes that pass the test are those that a map may have
   fit : (seed : ℕ) → IsTested ≡ true → IsSized (plan_of_map b width n seed)
   fit seed passed =
-      let some : 0 < n = grind (arith, nat_tests) in
-      let small : (1 + width) * n ≤ 2 ^ 32 = grind (arith, nat_tests) in
+      let some : 0 < b + n + 1 = omega arith in
+      let small : (1 + width) * (b + n + 1) ≤ 2 ^ 32 = grind (arith, nat_tests) in
       record {
         words = grind (arith, nat_tests);
-        inside = grind (arith, nat_tests);
+        inside = omega arith;
         row = omega (arith, small, le-mul_of_pos_right (1 + width) some);
         small = small;
       }
@@ -38,16 +38,15 @@ module _ (b width n : ℕ) where
   passes : (seed : ℕ) → 0 < b → 2 ≤ width → IsSized (plan_of_map b width n seed)
       → IsTested ≡ true
   passes seed some wide is =
-      let inside = is.inside in
-      let small : (1 + width) * n ≤ 2 ^ 32 = is.small in
+      let small : (1 + width) * (b + n + 1) ≤ 2 ^ 32 = is.small in
       grind (arith, nat_tests)
 
 unfit_by_test : (s : MapSizes) (cpus last : ℕ)
-    → (HasSizes s.buckets (width_in s) s.nodes → ⊥) → (b : Bool) → are_sizes s ≡ b
+    → (HasSizes s.buckets (width_in s) s.entries → ⊥) → (b : Bool) → are_sizes s ≡ b
     → Some (refusal_of BadSizes) ≡ map_opening_refusal s cpus last
 unfit_by_test s cpus last none true passed =
     let wide : 2 ≤ width_in s = grind (arith, nat_tests) in
-    let sized = fit s.buckets (width_in s) s.nodes 0 passed in
+    let sized = fit s.buckets (width_in s) s.entries 0 passed in
     absurd (none (record {
       some = grind (arith, nat_tests);
       wide = wide;
@@ -62,7 +61,7 @@ unfit_by_test s cpus last none false failed = rw failed refl
 
 -- what no map may have is refused
 pub unfit_told : (s : MapSizes) (cpus last : ℕ)
-    → (HasSizes s.buckets (width_in s) s.nodes → ⊥)
+    → (HasSizes s.buckets (width_in s) s.entries → ⊥)
     → Some (refusal_of BadSizes) ≡ map_opening_refusal s cpus last
 unfit_told s cpus last none = unfit_by_test s cpus last none (are_sizes s) refl
 
@@ -87,11 +86,11 @@ module _ {A : Type 0} (s : MapSizes) (cpus last : ℕ) (plan : Plan) (result : R
     (fault : IsSized plan → tested_opening result ≡ opening_refusal 64 64 cpus last)
   where
     is_fit : are_sizes s ≡ true → IsSized plan
-    is_fit passed = subst IsSized (sym planned) (fit s.buckets (width_in s) s.nodes s.seed passed)
+    is_fit passed = subst IsSized (sym planned) (fit s.buckets (width_in s) s.entries s.seed passed)
 
     is_tested : IsSized plan → are_sizes s ≡ true
     is_tested is =
-        passes s.buckets (width_in s) s.nodes s.seed
+        passes s.buckets (width_in s) s.entries s.seed
         (subst (λ (p : Plan). 0 < p.roots) planned some)
         (subst (λ (p : Plan). 2 ≤ p.words) planned wide) (subst IsSized planned is)
 
@@ -111,3 +110,15 @@ module _ {A : Type 0} (s : MapSizes) (cpus last : ℕ) (plan : Plan) (result : R
     pub refused_told : (why : NotOpened) → result ≡ Err why
         → tested_refusal {A = A} (Err (refusal_of why)) ≡ map_opening_refusal s cpus last
     refused_told = by_test (are_sizes s) refl
+
+    by_acceptance : (b : Bool) → are_sizes s ≡ b → (value : A) → result ≡ Ok value
+        → None ≡ map_opening_refusal s cpus last
+    by_acceptance true passed value is =
+        rw passed
+        (ap by_engine (ap tested_opening (sym is) ∙ fault (is_fit passed) ∙ leaves_told cpus last))
+    by_acceptance false failed value is =
+        let bad : result ≡ Err BadSizes = sized.1 (λ has. (cc (is_tested has))) in cc
+
+    -- and nothing speaks against one that does not
+    pub accepted_told : (value : A) → result ≡ Ok value → None ≡ map_opening_refusal s cpus last
+    accepted_told = by_acceptance (are_sizes s) refl

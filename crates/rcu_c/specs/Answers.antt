@@ -17,7 +17,7 @@ use Rattle.rcu_c.specs.declared.grace_periods.Turn.{Turn}
 use Rattle.rcu_c.specs.declared.refusal.Refusal.{Refusal}
 use Rattle.rcu_c.specs.declared.refusal.Refusal.TheVariants.{Engine, SeatDealt, OtherEngine, Closed}
 use Rattle.rcu_c.specs.declared.refusal.Refusal.TheVariants.{OtherKind, BadSizes, BadKey, MapFull}
-use Rattle.rcu_c.specs.declared.refusal.Refusal.TheVariants.{BadWords}
+use Rattle.rcu_c.specs.declared.refusal.Refusal.TheVariants.{BadWords, EntryChanged}
 
 -- the number of a refusal, 0 where there is none
 abbrev pub number_for : Option Fault → ℕ
@@ -39,6 +39,7 @@ refusal_number BadSizes = 29
 refusal_number BadKey = 30
 refusal_number MapFull = 31
 refusal_number BadWords = 32
+refusal_number EntryChanged = 33
 
 -- why a map is not opened
 abbrev pub refusal_of : NotOpened → Refusal

@@ -18,16 +18,16 @@ use Rattle.rcu_graph.specs.declared.plan.Plan.{Plan}
 use Rattle.rcu_map.specs.Keys.{GoesUp, IsWhole, root_words}
 use Rattle.rcu_c.specs.Engines.{is_own}
 use Rattle.rcu_c.specs.Holding.{ReadsMapOf, ReadsWordsOf, cpu_of, engine_of, grace_of, opened_of}
-use Rattle.rcu_c.specs.Holding.{seat_of, wisher_of, wishes_of}
+use Rattle.rcu_c.specs.Holding.{requester_of, requests_of, seat_of}
 use Rattle.rcu_c.specs.MapEntries.{IsKeyed}
 use Rattle.rcu_c.specs.declared.contents.Contents.{Contents}
 
 -- the seat is one of the engine's: it reads the words that the engine writes, and the map that the
--- engine's keeper keeps, its wishes are those that the engine reads, and the engine takes it
+-- engine's writer keeps, its requests are those that the engine reads, and the engine takes it
 pub record BelongsTo (seat rcu : std.Option Contents) : Type 0 where
   pub words : ReadsWordsOf seat rcu
   pub map : ReadsMapOf seat rcu
-  pub wishes : (wisher_of seat).words ≡ (wishes_of rcu).words
+  pub requests : (requester_of seat).words ≡ (requests_of rcu).words
   pub taken : is_own (opened_of rcu) (seat_of seat) ≡ true
 
 -- the one engine is the other: it writes the same words, and has as many processors

@@ -7,13 +7,13 @@ use Rattle.rcu_seq.specs.Numbers.{Number}
 use Rattle.rcu_live.specs.Engine.{Locked}
 use Rattle.rcu_live.specs.Opening.{engine_at_first}
 use Rattle.rcu_live.specs.Watcher.{Watching}
-use Rattle.rcu_graph.specs.Opening.{keeper_at_first}
+use Rattle.rcu_graph.specs.Opening.{writer_at_first}
 use Rattle.rcu_graph.specs.Planned.{of_plan}
 use Rattle.rcu_graph.specs.declared.known.Known.TheVariants.{Idle}
 use Rattle.rcu_graph.specs.declared.known.Planned.{Planned}
 use Rattle.rcu_graph.specs.declared.plan.Plan.{Plan}
 use Rattle.rcu_map.specs.Keys.{root_words}
-use Rattle.rcu_wish.specs.Wishes.{Wishing, wishes_at_first}
+use Rattle.rcu_request.specs.Requests.{Requesting, requests_at_first}
 use Rattle.rcu_c.specs.Seats.{Seat, seat_at_first}
 use Rattle.rcu_c.specs.declared.identity.Identity.{Identity}
 
@@ -21,12 +21,12 @@ use Rattle.rcu_c.specs.declared.identity.Identity.{Identity}
 abbrev pub is_same : Identity → Identity → Bool
 is_same a b = (a.place == b.place) && (a.count == b.count)
 
--- the running engine, the seat of each processor, none where it is dealt, what it knows of wishes,
--- what tells the engine from others, and the keeper of its map
+-- the running engine, the seat of each processor, none where it is dealt, what it knows of
+-- requests, what tells the engine from others, and the writer of its map
 pub record EngineAndSeats : Type 0 where
   pub engine : Locked Planned ℕ
   pub seats : List (Option Seat)
-  pub wishes : Wishing
+  pub requests : Requesting
   pub identity : Identity
   pub map : Watching Planned
 
@@ -52,13 +52,14 @@ abbrev pub most_in_c : ℕ
 most_in_c = 2 ^ 62
 
 -- an engine of so many processors as it is opened, with a seat for each, with these words, these
--- for wishes, and a map of this plan
+-- for requests, and a map of this plan
 abbrev pub opened_at_first : Identity → TableId → TableId → Plan → ℕ → Number → EngineAndSeats
-opened_at_first identity table wishes plan cpus last = record {
+opened_at_first identity table requests plan cpus last = record {
   engine = engine_at_first table cpus last most_in_c (of_plan plan Idle);
   seats =
-      map (λ cpu. Some (seat_at_first identity table wishes plan cpus cpu)) (range_with_len 0 cpus);
-  wishes = wishes_at_first wishes;
+      map (λ cpu. Some (seat_at_first identity table requests plan cpus cpu))
+      (range_with_len 0 cpus);
+  requests = requests_at_first requests;
   identity = identity;
-  map = keeper_at_first (root_words plan.words) table cpus plan;
+  map = writer_at_first (root_words plan.words) table cpus plan;
 }

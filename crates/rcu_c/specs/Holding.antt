@@ -9,7 +9,7 @@ use Rattle.rcu_live.specs.CpuSeat.{Seated, after_renew}
 use Rattle.rcu_live.specs.Engine.{Locked}
 use Rattle.rcu_live.specs.Watcher.{Watching, after_watch}
 use Rattle.rcu_defer.specs.DeferList.{Deferring}
-use Rattle.rcu_wish.specs.Wishes.{Wishing}
+use Rattle.rcu_request.specs.Requests.{Requesting}
 use Rattle.rcu_graph.specs.Planned.{plan_of}
 use Rattle.rcu_graph.specs.declared.known.Planned.{Planned}
 use Rattle.rcu_graph.specs.declared.plan.Plan.{Plan}
@@ -76,9 +76,9 @@ engine_of h = (opened_of h).engine
 abbrev pub grace_of : Option Contents → Grace ℕ
 grace_of h = (engine_of h).grace
 
--- the keeper of its map
-abbrev pub keeper_of : Option Contents → Watching Planned
-keeper_of h = (opened_of h).map
+-- the writer of its map
+abbrev pub writer_of : Option Contents → Watching Planned
+writer_of h = (opened_of h).map
 
 -- the processors that an engine awaits, in order, the first so many
 abbrev pub awaited_list : Locked Planned ℕ → ℕ → List ℕ
@@ -120,13 +120,13 @@ values_of h = (seat_of h).values
 abbrev pub links_of : Option Contents → Links
 links_of h = (seat_of h).links
 
--- what it knows of wishes
-abbrev pub wisher_of : Option Contents → Wishing
-wisher_of h = (seat_of h).wisher
+-- what it knows of requests
+abbrev pub requester_of : Option Contents → Requesting
+requester_of h = (seat_of h).requester
 
--- what an engine's handle knows of wishes
-abbrev pub wishes_of : Option Contents → Wishing
-wishes_of h = (opened_of h).wishes
+-- what an engine's handle knows of requests
+abbrev pub requests_of : Option Contents → Requesting
+requests_of h = (opened_of h).requests
 
 -- an engine's handle with its engine changed
 abbrev pub on_opened : (EngineAndSeats → EngineAndSeats) → Option Contents → Option Contents
@@ -183,15 +183,16 @@ pub record ReadsWordsOf (seat rcu : Option Contents) : Type 0 where
   pub table : (seat_of seat).words.table ≡ (engine_of rcu).table
   pub cpus : (seat_of seat).words.cpus ≡ (engine_of rcu).cpus
 
--- the seat reads the map that this engine's keeper keeps
+-- the seat reads the map that this engine's writer keeps
 pub record ReadsMapOf (seat rcu : Option Contents) : Type 0 where
-  pub table : (seat_of seat).words.table ≡ (keeper_of rcu).table
-  pub plan : (seat_of seat).words.plan ≡ (keeper_of rcu).view.client.plan
+  pub table : (seat_of seat).words.table ≡ (writer_of rcu).table
+  pub plan : (seat_of seat).words.plan ≡ (writer_of rcu).view.client.plan
 
--- a seat's handle with what it knows of wishes changed
-abbrev pub on_wisher : (Wishing → Wishing) → Option Contents → Option Contents
-on_wisher change h = Some (contents.Seat (record (seat_of h) { wisher = change (wisher_of h) }))
+-- a seat's handle with what it knows of requests changed
+abbrev pub on_requester : (Requesting → Requesting) → Option Contents → Option Contents
+on_requester change h =
+    Some (contents.Seat (record (seat_of h) { requester = change (requester_of h) }))
 
--- an engine's handle with what it knows of wishes changed
-abbrev pub on_wishes : (Wishing → Wishing) → Option Contents → Option Contents
-on_wishes change = on_opened (λ o. record o { wishes = change o.wishes })
+-- an engine's handle with what it knows of requests changed
+abbrev pub on_requests : (Requesting → Requesting) → Option Contents → Option Contents
+on_requests change = on_opened (λ o. record o { requests = change o.requests })

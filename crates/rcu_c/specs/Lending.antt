@@ -13,6 +13,8 @@ use Rattle.rcu_c.specs.contracts.handle.Handle as handle
 use Rattle.rcu_c.specs.contracts.contents.Contents as holding
 use Rattle.rcu_c.specs.contracts.open_engine.OpenEngine as engine
 use Rattle.rcu_c.specs.contracts.seat_parts.SeatParts as seat_parts
+use Rattle.rcu_c.specs.contracts.dealt_seat.DealtSeat as dealt_seat
+use Rattle.rcu_c.specs.contracts.engine_box.EngineBox as engine_box
 use Rattle.rcu_c.specs.contracts.open_replica.OpenReplica as replica
 
 -- the handle holds this
@@ -52,3 +54,11 @@ lends_seat_if_ok h lent = LendsIfOk handle.the_row seat_parts.the_row h lent
 abbrev pub lends_replica_if_ok : MutBor Handle → Result (MutBor Replicated) Refusal → Fml
 lends_replica_if_ok h lent = LendsIfOk handle.the_row replica.the_row h lent
     (λ r. with_contents h.now (contents.Replica r)) h.now
+
+-- a seat that a thread has lends its parts
+abbrev pub lends_parts : MutBor Seat → MutBor Seat → Fml
+lends_parts seat lent = Lends dealt_seat.the_row seat_parts.the_row seat lent (λ s. s)
+
+-- an engine in a box is lent
+abbrev pub lends_boxed : MutBor EngineAndSeats → MutBor EngineAndSeats → Fml
+lends_boxed boxed lent = Lends engine_box.the_row engine.the_row boxed lent (λ o. o)

@@ -6,9 +6,12 @@ pub mod Handle
 pub mod Holding
 pub mod Lending
 pub mod Links
+pub mod MapComparing
 pub mod MapEntries
 pub mod Maps
+pub mod Progress
 pub mod MapSizes
+pub mod Places
 pub mod Refusals
 pub mod Replicas
 pub mod Seats

@@ -14,20 +14,20 @@ use Rattle.rcu_c.specs.declared.refusal.Refusal.TheVariants.{BadSizes}
 abbrev pub width_in : MapSizes → ℕ
 width_in s = if s.words == 0 then 2 else s.words
 
--- whether a map may have these sizes: there is a bucket, an entry has two words or more, there is a
--- node for each bucket, and the words of all nodes, with a link each, are no more than 2^32
+-- whether a map may have these sizes: there is a bucket, an entry has two words or more, and the
+-- words of all nodes, with a link each, are no more than 2^32
 abbrev pub are_sizes : MapSizes → Bool
 are_sizes s =
-    nat_lt 0 s.buckets && (nat_le 2 (width_in s) && (nat_le s.buckets s.nodes
-    && nat_le ((1 + width_in s) * s.nodes) (2 ^ 32)))
+    nat_lt 0 s.buckets
+    && (nat_le 2 (width_in s) && nat_le ((1 + width_in s) * (s.buckets + s.entries + 1)) (2 ^ 32))
 
 -- the plan of a map of these sizes
 abbrev pub plan_of_sizes : MapSizes → Plan
-plan_of_sizes s = plan_of_map s.buckets (width_in s) s.nodes s.seed
+plan_of_sizes s = plan_of_map s.buckets (width_in s) s.entries s.seed
 
 -- those of the least map, which has no room for an entry
 abbrev pub least_sizes : MapSizes
-least_sizes = record { buckets = 1; nodes = 1; seed = 0; words = 0 }
+least_sizes = record { buckets = 1; entries = 0; seed = 0; words = 0 }
 
 -- why an engine is not opened with a map of these sizes: no map has them, and else as one without
 abbrev pub map_opening_refusal : MapSizes → ℕ → Number → Option Refusal

@@ -1,4 +1,4 @@
--- The map of an engine, as its keeper knows it and as a seat's section reads it.
+-- The map of an engine, as its writer knows it and as a seat's section reads it.
 use Rattle.std.specs.Prelude.{◌≡◌, ◌≢◌, ◌≤◌, ◌<◌, ◌==◌, ◌^◌, ℕ, if◌then◌else◌, IfNone, IsSome, List}
 use Rattle.std.specs.Prelude.{Option, Some, None, Result, Ok, Err, length, nat_lt}
 use Rattle.rcu_seq.specs.Numbers.{Number, snapshot}
@@ -10,10 +10,10 @@ use Rattle.rcu_live.specs.Engine.{latest_words}
 use Rattle.rcu_live.specs.Watcher.{Watching}
 use Rattle.rcu_graph.specs.Beside.{Moment}
 use Rattle.rcu_graph.specs.Graph.{IsOfSameGraph}
-use Rattle.rcu_graph.specs.Keeper.{after_look}
+use Rattle.rcu_graph.specs.Writer.{after_look}
 use Rattle.rcu_graph.specs.Nodes.{nodes_in}
 use Rattle.rcu_graph.specs.Tended.{AreAllUsed}
-use Rattle.rcu_graph.specs.declared.keeper.Full.{Full}
+use Rattle.rcu_graph.specs.declared.writer.Full.{Full}
 use Rattle.rcu_graph.specs.declared.known.Known.{Known}
 use Rattle.rcu_graph.specs.declared.known.Node.{Node}
 use Rattle.rcu_graph.specs.declared.known.Planned.{Planned}
@@ -27,24 +27,24 @@ use Rattle.rcu_map.specs.Puts.{HasAnswered, HasChanged, Holds}
 use Rattle.rcu_map.specs.Words.{as_words}
 use Rattle.rcu_map.specs.declared.put.Put.{Put}
 use Rattle.rcu_c.specs.Answers.{cookie_in_c, number_for}
-use Rattle.rcu_c.specs.Holding.{cpu_of, engine_of, grace_of, keeper_of, on_cpu, on_engine}
-use Rattle.rcu_c.specs.Holding.{on_opened, seat_of}
+use Rattle.rcu_c.specs.Holding.{cpu_of, engine_of, grace_of, on_cpu, on_engine, on_opened, seat_of}
+use Rattle.rcu_c.specs.Holding.{writer_of}
 use Rattle.rcu_c.specs.MapEntries.{IsKeyed, told}
 use Rattle.rcu_c.specs.Refusals.{by_engine, first_of, if_own}
 use Rattle.rcu_c.specs.declared.contents.Contents.{Contents}
 use Rattle.rcu_c.specs.declared.refusal.Refusal.{Refusal}
 use Rattle.rcu_c.specs.declared.refusal.Refusal.TheVariants.{BadKey, BadWords}
 
--- the nodes that the keeper of an engine's map keeps, and how many of them are buckets
+-- the nodes that the writer of an engine's map keeps, and how many of them are buckets
 abbrev pub map_nodes : Option Contents → List Node
-map_nodes h = nodes_in (keeper_of h).view.client.known
+map_nodes h = nodes_in (writer_of h).view.client.known
 
 abbrev pub map_buckets : Option Contents → ℕ
-map_buckets h = buckets_in (keeper_of h)
+map_buckets h = buckets_in (writer_of h)
 
--- an engine's handle with what the keeper of its map knows changed
-abbrev pub on_keeper : (Watching Planned → Watching Planned) → Option Contents → Option Contents
-on_keeper change = on_opened (λ o. record o { map = change o.map })
+-- an engine's handle with what the writer of its map knows changed
+abbrev pub on_writer : (Watching Planned → Watching Planned) → Option Contents → Option Contents
+on_writer change = on_opened (λ o. record o { map = change o.map })
 
 -- why room for so many words is not taken for an entry's, which has this many: it is another number
 abbrev pub width_refusal : ℕ → ℕ → Option Refusal
@@ -54,30 +54,30 @@ width_refusal words room = if room == words then None else Some BadWords
 abbrev pub key_refusal : ℕ → Option Refusal
 key_refusal key = if key == 0 then Some BadKey else None
 
--- how many words an entry has in the map that the keeper keeps
-abbrev pub keeper_width : Option Contents → ℕ
-keeper_width h = (keeper_of h).view.client.plan.words
+-- how many words an entry has in the map that the writer keeps
+abbrev pub writer_width : Option Contents → ℕ
+writer_width h = (writer_of h).view.client.plan.words
 
 -- why these words are not put in, with room for so many: they, or the room, are not as many as an
 -- entry has; their key is 0
 abbrev pub entry_refusal : Option Contents → List ℕ → ℕ → Option Refusal
 entry_refusal h entry room =
-    first_of (width_refusal (keeper_width h) (length entry))
-    (first_of (width_refusal (keeper_width h) room) (key_refusal (key_in entry)))
+    first_of (width_refusal (writer_width h) (length entry))
+    (first_of (width_refusal (writer_width h) room) (key_refusal (key_in entry)))
 
 -- the entry of these words has the key, or none has it
 abbrev pub HoldsEntry : Option Contents → ℕ → Option (List ℕ) → Type 0
 HoldsEntry h key = Holds as_words IsKeyed key_in (map_buckets h) (map_nodes h) key
 
--- the keeper was to put an entry in, and this is what it returned and left: of the engine nothing
+-- the writer was to put an entry in, and this is what it returned and left: of the engine nothing
 -- else changed
 pub record HasPutInC (how : Put) (entry : List ℕ) (h : Option Contents)
     (result : Result (Option (List ℕ)) Full) (now : Option Contents) : Type 0 where
-  pub state : now ≡ on_keeper (λ _. keeper_of now) h
-  pub answered : HasAnswered as_words IsKeyed key_in how (key_in entry) entry (keeper_of h) result
-      (keeper_of now)
+  pub state : now ≡ on_writer (λ _. writer_of now) h
+  pub answered : HasAnswered as_words IsKeyed key_in how (key_in entry) entry (writer_of h) result
+      (writer_of now)
 
--- the keeper did what it was to do, and C's room was told of the entry that had the key
+-- the writer did what it was to do, and C's room was told of the entry that had the key
 pub record IsPutInC (how : Put) (entry : List ℕ) (h : Option Contents) (room old : List ℕ)
     (now : Option Contents) : Type 0 where
   pub had : Option (List ℕ)
@@ -97,12 +97,12 @@ pub record IsTakenOutInC (key : ℕ) (h : Option Contents) (room old : List ℕ)
     (now : Option Contents) : Type 0 where
   pub had : Option (List ℕ)
   pub is_told : old ≡ told room had
-  pub state : now ≡ on_keeper (λ _. keeper_of now) h
-  pub same : IsOfSameGraph (keeper_of h) (keeper_of now)
+  pub state : now ≡ on_writer (λ _. writer_of now) h
+  pub same : IsOfSameGraph (writer_of h) (writer_of now)
   pub holds : HoldsEntry h key had
   pub removed : IsSome had → HasChanged (λ before after. IsRemoved (map_buckets h) before key after)
-      (keeper_of h) (keeper_of now)
-  pub unchanged : IfNone had (keeper_of now ≡ keeper_of h)
+      (writer_of h) (writer_of now)
+  pub unchanged : IfNone had (writer_of now ≡ writer_of h)
 
 -- C's room was told of the entry of a key, where there is one
 pub record IsFoundInC (key : ℕ) (h : Option Contents) (room entry : List ℕ) : Type 0 where
@@ -110,13 +110,13 @@ pub record IsFoundInC (key : ℕ) (h : Option Contents) (room entry : List ℕ) 
   pub is_told : entry ≡ told room found
   pub holds : HoldsEntry h key found
 
--- the keeper looked at a number, which is at least all that it saw before: what was left was
+-- the writer looked at a number, which is at least all that it saw before: what was left was
 -- retired at it, and what was retired a full grace period before it is free. C was told the cookie
 -- of that number
-pub record HasAgedInC (h : Option Contents) (cookie : ℕ) (now : Option Contents) : Type 0 where
+pub record HasReclaimedInC (h : Option Contents) (cookie : ℕ) (now : Option Contents) : Type 0 where
   pub number : Number
-  pub state : now ≡ on_keeper (λ k. after_look k number) h
-  pub later : (keeper_of h).view.seen ≤ number
+  pub state : now ≡ on_writer (λ k. after_look k number) h
+  pub later : (writer_of h).view.seen ≤ number
   pub bounded : number ≤ 2 ^ 62
   pub cookie_of : cookie ≡ snapshot number
   pub entries : AreSameEntries (map_buckets h) (map_nodes h) (map_nodes now)
@@ -130,12 +130,12 @@ pub record HasDrivenFor (cookie : Cookie) (h : Option Contents) (result : ℕ)
       ≡ on_engine (λ e. after_drive e (wants_for cookie e.grace) (latest_words (engine_of now))) h
   pub unchanged : result ≢ 0 → now ≡ h
 
--- the keeper looked at a number. Where a node was free then, that was all; and else the engine took
+-- the writer looked at a number. Where a node was free then, that was all; and else the engine took
 -- a step of driving for the cookie of that number
 pub record HasWaitedInC (h : Option Contents) (result : ℕ) (now : Option Contents) : Type 0 where
   pub cookie : ℕ
   pub looked : Option Contents
-  pub look : HasAgedInC h cookie looked
+  pub look : HasReclaimedInC h cookie looked
   pub at_once : ¬ AreAllUsed (map_nodes looked) → (result ≡ 0) × (now ≡ looked)
   pub driven : AreAllUsed (map_nodes looked) → HasDrivenFor (cookie_in_c cookie) looked result now
 

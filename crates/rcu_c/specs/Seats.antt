@@ -1,5 +1,5 @@
 -- The seat of an open handle, as contracts see it.
-use Rattle.std.specs.Prelude.{ℕ}
+use Rattle.std.specs.Prelude.{ℕ, List, Option}
 use Rattle.atomic_table.specs.Seated.{TableId}
 use Rattle.rcu_live.specs.CpuSeat.{Seated, at_first}
 use Rattle.rcu_live.specs.Watcher.{Watching, watcher_at_first}
@@ -10,7 +10,7 @@ use Rattle.rcu_graph.specs.Planned.{knowing, of_plan}
 use Rattle.rcu_graph.specs.declared.known.Known.TheVariants.{Idle}
 use Rattle.rcu_graph.specs.declared.known.Planned.{Planned}
 use Rattle.rcu_graph.specs.declared.plan.Plan.{Plan}
-use Rattle.rcu_wish.specs.Wishes.{Wishing, wisher_at_first}
+use Rattle.rcu_request.specs.Requests.{Requesting, requester_at_first}
 use Rattle.rcu_c.specs.Links.{no_links}
 use Rattle.rcu_c.specs.declared.identity.Identity.{Identity}
 use Rattle.rcu_c.specs.declared.links.Links.{Links}
@@ -26,33 +26,39 @@ pub record Words : Type 0 where
   pub cpus : ℕ
   pub plan : Plan
 
--- which words the seats of an engine read, which ones they have for wishes, and what tells the
+-- which words the seats of an engine read, which ones they have for requests, and what tells the
 -- engine from others
 pub record Shared : Type 0 where
   pub words : Words
-  pub wishes : TableId
+  pub requests : TableId
   pub identity : Identity
 
 -- which words it reads, what its processor's seat is, what its watcher has seen, what its thread
--- deferred, what it knows of wishes, and what tells its engine from others
+-- deferred, what it knows of requests, and what tells its engine from others
 pub record Seat : Type 0 where
   pub words : Words
   pub cpu : Seated Planned
   pub watcher : Watching Planned
   pub values : Deferring ℕ
   pub links : Links
-  pub wisher : Wishing
+  pub requester : Requesting
   pub identity : Identity
 
--- the seat of a processor as it is opened, of an engine with these words, these for wishes, and a
+-- the seats of an engine that no thread has: what all its seats share, and for each processor its
+-- seat, none where a thread has it
+pub record Kept : Type 0 where
+  pub shared : Shared
+  pub seats : List (Option Seat)
+
+-- the seat of a processor as it is opened, of an engine with these words, these for requests, and a
 -- map of this plan
 abbrev pub seat_at_first : Identity → TableId → TableId → Plan → ℕ → ℕ → Seat
-seat_at_first identity table wishes plan cpus cpu = record {
+seat_at_first identity table requests plan cpus cpu = record {
   words = record { table = table; cpus = cpus; plan = plan };
   cpu = at_first table (base_of cpus) (of_plan plan Idle) cpu;
   watcher = watcher_at_first table (base_of cpus) (of_plan plan Idle);
   values = list_at_first;
   links = no_links;
-  wisher = wisher_at_first wishes;
+  requester = requester_at_first requests;
   identity = identity;
 }

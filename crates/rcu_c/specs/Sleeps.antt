@@ -6,14 +6,14 @@ use Rattle.rcu_live.specs.Drive.{moved_on}
 use Rattle.rcu_live.specs.Engine.{Locked}
 use Rattle.rcu_live.specs.NextCpu.{IsNextFrom}
 use Rattle.rcu_graph.specs.declared.known.Planned.{Planned}
-use Rattle.rcu_wish.specs.Wishes.{after_naming, cpu_word}
+use Rattle.rcu_request.specs.Requests.{after_naming, cpu_word}
 use Rattle.rcu_c.specs.Engines.{EngineAndSeats}
 
 -- who drives said for which processor it sleeps, and collected from each that is awaited
 abbrev pub after_saying : EngineAndSeats → ℕ → (ℕ → ℕ) → EngineAndSeats
 after_saying o word words = record o {
   engine = moved_on o.engine false words;
-  wishes = after_naming o.wishes word;
+  requests = after_naming o.requests word;
 }
 
 -- the first processor that an engine awaits, or none where it awaits none

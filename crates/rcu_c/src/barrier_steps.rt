@@ -18,7 +18,7 @@ use crate::open_engine::TreeEngine;
 use rcu_barrier::Visit;
 use rcu_seq::Fault;
 
-/// A barrier begins where none runs.
+/// A barrier begins if none runs.
 fn begin_where_none(engine: &mut TreeEngine)
     ensures state { engine.new ≡ engine_after engine.old (begun engine.old) }
     ensures running { engine.new.grace.lists.running ≡ true }
@@ -53,7 +53,7 @@ fn tend_each(engine: &mut TreeEngine)
     }
 }
 
-/// Begins a barrier where none runs, has it visit each processor, and tends each list.
+/// Begins a barrier if none runs, has it visit each processor, and tends each list.
 fn make_ready(engine: &mut TreeEngine) -> Result<(), Fault>
     ensures state { OnOk result (engine.new ≡ engine_after engine.old (before_drive engine.old)) }
     ensures running { OnOk result (engine.new.grace.lists.running ≡ true) }

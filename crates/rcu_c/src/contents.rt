@@ -2,18 +2,18 @@
 ghost use Rattle.std.specs.Prelude.{◌≡◌, Some};
 ghost use Rattle.rcu_c.specs.Holding.{HoldsSeat, seat_of};
 
-use crate::open_engine::OpenEngine;
+use crate::dealt_seat::DealtSeat;
+use crate::engine_box::EngineBox;
 use crate::open_replica::OpenReplica;
-use crate::seat_parts::SeatParts;
 use std::mem;
 
 /// What an open handle holds.
 #[derive(Drop)]
 pub enum Contents {
     /// The engine.
-    Engine(OpenEngine),
+    Engine(EngineBox),
     /// The seat of a processor.
-    Seat(SeatParts),
+    Seat(DealtSeat),
     /// A replica.
     Replica(OpenReplica),
     /// Room for a seat, until it is dealt, and once it is handed back. C never sees it.
@@ -22,7 +22,7 @@ pub enum Contents {
 
 impl Contents {
     /// Takes the seat out, of which the room is left.
-    pub(crate) fn take_seat(&mut self) -> SeatParts
+    pub(crate) fn take_seat(&mut self) -> DealtSeat
         requires { HoldsSeat (Some self.old) }
         ensures { result ≡ seat_of (Some self.old) }
     {

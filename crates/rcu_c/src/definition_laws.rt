@@ -1,25 +1,31 @@
 //! What the words of the laws say: where each holds, and where it does not.
-ghost use Rattle.std.specs.Prelude.{◌≡◌, ◌≢◌, ◌≤◌, ◌<◌, ◌+◌, ℕ, Bool, List, None, Option, Some};
-ghost use Rattle.std.specs.Prelude.{false, length, slice_index, true};
+ghost use Rattle.std.specs.Prelude.{◌≡◌, ◌≢◌, ◌≤◌, ◌<◌, ◌+◌, [], ◌∷◌, ℕ, Bool, List, None, Option};
+ghost use Rattle.std.specs.Prelude.{Some, false, length, slice_index, true};
 ghost use mathlib.Core.Option.{some};
 ghost use lib.ListN.{get_elem?};
 ghost use Rattle.rcu_seq.specs.Numbers.{Number};
 ghost use Rattle.rcu_seq.specs.Seq.{number_of};
+ghost use Rattle.rcu_cblist.specs.SegList.{callbacks, front};
+ghost use Rattle.rcu_barrier.specs.Lists.{list_of};
 ghost use Rattle.rcu_state.specs.GpState.{awaited_in};
 ghost use Rattle.rcu_live.specs.CpuSeat.{Seated};
 ghost use Rattle.rcu_live.specs.Engine.{Locked};
 ghost use Rattle.rcu_live.specs.Rule.{IsKept};
+ghost use Rattle.rcu_live.specs.Runs.{Call, engine_after};
 ghost use Rattle.rcu_live.specs.View.{IsOfEngine};
 ghost use Rattle.rcu_live.specs.declared.view.Role.TheVariants.{Cpu};
 ghost use Rattle.rcu_graph.specs.declared.known.Planned.{Planned};
-ghost use Rattle.rcu_wish.specs.Wishes.{cpu_word};
+ghost use Rattle.rcu_request.specs.Requests.{cpu_word};
+ghost use Rattle.rcu_c.specs.BarrierSteps.{whole_step};
 ghost use Rattle.rcu_c.specs.Belonging.{BelongsTo, HasSectionAt, IsEngineAt, IsMapKept, Moment};
 ghost use Rattle.rcu_c.specs.Engines.{EngineAndSeats, is_own};
 ghost use Rattle.rcu_c.specs.Holding.{AcceptedAt, RenewedAt, WatchedAt, cpu_of, engine_of};
-ghost use Rattle.rcu_c.specs.Holding.{grace_of, keeper_of, on_cpu, opened_of, seat_of, watcher_of};
-ghost use Rattle.rcu_c.specs.Holding.{wisher_of, wishes_of};
+ghost use Rattle.rcu_c.specs.Holding.{grace_of, on_cpu, opened_of, requester_of, requests_of};
+ghost use Rattle.rcu_c.specs.Holding.{seat_of, watcher_of, writer_of};
 ghost use Rattle.rcu_c.specs.MapEntries.{told};
+ghost use Rattle.rcu_map.specs.Chains.{capacity};
 ghost use Rattle.rcu_c.specs.MapSizes.{are_sizes, least_sizes, plan_of_sizes};
+ghost use Rattle.rcu_c.specs.Progress.{AreQuiet, HandedOut, Waited, puts_off, runs};
 ghost use Rattle.rcu_c.specs.Seats.{Seat};
 ghost use Rattle.rcu_c.specs.Sleeps.{IsFirst, IsForFirst, awaits};
 ghost use Rattle.rcu_c.specs.Staying.{AllStay, BothStay};
@@ -44,21 +50,21 @@ pub fn moments_have_what_their_views_show()
         (engine_of rcu).view.seen ≢ number_of (grace_of rcu).seq → IsEngineAt now id rcu → ⊥ }
 {}
 
-/// A seat that belongs to an engine reads its words and its map, wishes where it looks, and is
+/// A seat that belongs to an engine reads its words and its map, requests where it looks, and is
 /// taken by it. None is taken of another identity, or of a processor that the engine does not have.
 pub fn seats_belong_to_who_takes_them()
     ensures taken { (seat rcu : Option Contents) → BelongsTo seat rcu →
         is_own (opened_of rcu) (seat_of seat) ≡ true }
-    ensures wishes { (seat rcu : Option Contents) → BelongsTo seat rcu →
-        (wisher_of seat).words ≡ (wishes_of rcu).words }
+    ensures requests { (seat rcu : Option Contents) → BelongsTo seat rcu →
+        (requester_of seat).words ≡ (requests_of rcu).words }
     ensures table { (seat rcu : Option Contents) → BelongsTo seat rcu →
         (seat_of seat).words.table ≡ (engine_of rcu).table }
     ensures cpus { (seat rcu : Option Contents) → BelongsTo seat rcu →
         (seat_of seat).words.cpus ≡ (engine_of rcu).cpus }
     ensures map { (seat rcu : Option Contents) → BelongsTo seat rcu →
-        (seat_of seat).words.table ≡ (keeper_of rcu).table }
+        (seat_of seat).words.table ≡ (writer_of rcu).table }
     ensures plan { (seat rcu : Option Contents) → BelongsTo seat rcu →
-        (seat_of seat).words.plan ≡ (keeper_of rcu).view.client.plan }
+        (seat_of seat).words.plan ≡ (writer_of rcu).view.client.plan }
     ensures place { (opened : EngineAndSeats) (seat : Seat) →
         opened.identity.place ≢ seat.identity.place → is_own opened seat ≡ false }
     ensures count { (opened : EngineAndSeats) (seat : Seat) →
@@ -114,10 +120,51 @@ pub fn rooms_are_told_of_entries()
         slice_index (told room None) i ≡ slice_index room i }
 {}
 
-/// An entry has as many words as its map's sizes say: two where they say 0, and never one.
+/// An entry has as many words as its map's sizes say: two where they say 0, and never one. The map
+/// has room for as many entries as they say.
 pub fn sizes_say_how_many_words_an_entry_has()
     ensures two { (s : MapSizes) → s.words ≡ 0 → (plan_of_sizes s).words ≡ 2 }
     ensures said { (s : MapSizes) → 0 < s.words → (plan_of_sizes s).words ≡ s.words }
     ensures one { (s : MapSizes) → s.words ≡ 1 → are_sizes s ≡ false }
+    ensures entries { (s : MapSizes) → capacity (plan_of_sizes s) ≡ s.entries }
     ensures least { are_sizes least_sizes ≡ true }
+{}
+
+/// Runs of all lists are one of each, with the room that there is for it.
+pub fn runs_of_all_lists_are_one_of_each()
+    ensures none { (most : ℕ → ℕ) → runs {X = ℕ} most 0 ≡ [] }
+    ensures two { (most : ℕ → ℕ) → runs {X = ℕ} most 2
+        ≡ Call.Run 1 (most 1) ∷ Call.Run 0 (most 0) ∷ [] }
+{}
+
+/// A departure that moves a list puts off the end of a barrier, and so does another barrier's
+/// begin. A queueing does not, nor does a departure that moves none.
+pub fn departures_put_off_the_end_of_a_barrier()
+    ensures moved { (cpu word : ℕ) → puts_off {X = ℕ} (Call.Leave cpu word) ≡ true }
+    ensures begun { puts_off {X = ℕ} Call.BarrierBegin ≡ true }
+    ensures queued { (cpu value : ℕ) → puts_off (Call.Queue cpu value) ≡ false }
+    ensures departed { (cpu word : ℕ) → puts_off {X = ℕ} (Call.Depart cpu word) ≡ false }
+{}
+
+/// Words are quiet if each processor is offline. They are not if one woke without a look at the
+/// number.
+pub fn words_are_quiet_where_each_says_so()
+    ensures offline { (e : Locked Planned ℕ) → AreQuiet e (λ _. 0) }
+    ensures woken { (e : Locked Planned ℕ) (word : ℕ → ℕ) (cpu : ℕ) → word cpu ≡ 1 →
+        AreQuiet e word → ⊥ }
+{}
+
+/// A step of waiting and a run of each list lead on while the barrier runs, and not after its end.
+pub fn a_wait_leads_on_while_its_barrier_runs()
+    ensures waited { (e : Locked Planned ℕ) (word : ℕ → ℕ) →
+        (engine_after e (whole_step e word)).grace.lists.running ≡ true →
+        Waited e word (engine_after e (whole_step e word)) }
+    ensures handed_out { (e : Locked Planned ℕ) (most : ℕ → ℕ) → ((cpu : ℕ) → cpu < e.cpus →
+        length (callbacks (front (list_of e.grace.lists cpu))) ≤ most cpu) →
+        (engine_after e (runs most e.cpus)).grace.lists.running ≡ true →
+        HandedOut e (engine_after e (runs most e.cpus)) }
+    ensures over { (e now : Locked Planned ℕ) (word : ℕ → ℕ) →
+        now.grace.lists.running ≡ false → Waited e word now → ⊥ }
+    ensures done { (e now : Locked Planned ℕ) → now.grace.lists.running ≡ false →
+        HandedOut e now → ⊥ }
 {}

@@ -131,7 +131,7 @@ impl Handle {
         ensures value { self.old.contents ≡ Some (Contents.Engine result.now) }
     {
         match self.contents() {
-            Contents::Engine(engine) => engine,
+            Contents::Engine(engine) => engine.engine(),
             Contents::Seat(_) | Contents::Replica(_) | Contents::Room => unreachable!(),
         }
     }
@@ -143,7 +143,7 @@ impl Handle {
         ensures value { self.old.contents ≡ Some (Contents.Seat result.now) }
     {
         match self.contents() {
-            Contents::Seat(seat) => seat,
+            Contents::Seat(seat) => seat.parts(),
             Contents::Engine(_) | Contents::Replica(_) | Contents::Room => unreachable!(),
         }
     }

@@ -30,10 +30,10 @@ ghost use Rattle.rcu_c.specs.BarrierSteps.{before_drive, begun, step_answer, vis
 ghost use Rattle.rcu_c.specs.Belonging.{BelongsTo, HasSectionAt, IsEngineAt, IsSameObject, Moment};
 ghost use Rattle.rcu_c.specs.Engines.{EngineAndSeats, opened_at_first, seat_at, with_seat};
 ghost use Rattle.rcu_c.specs.Engines.{without_seat};
-ghost use Rattle.rcu_c.specs.Holding.{cpu_of, engine_of, grace_of, keeper_of, never_done};
-ghost use Rattle.rcu_c.specs.Holding.{no_engine, no_seat, on_cpu, on_engine, on_grace};
-ghost use Rattle.rcu_c.specs.Holding.{on_opened, on_watcher, seat_of};
-ghost use Rattle.rcu_c.specs.Maps.{on_keeper};
+ghost use Rattle.rcu_c.specs.Holding.{cpu_of, engine_of, grace_of, never_done, no_engine, no_seat};
+ghost use Rattle.rcu_c.specs.Holding.{on_cpu, on_engine, on_grace, on_opened, on_watcher, seat_of};
+ghost use Rattle.rcu_c.specs.Holding.{writer_of};
+ghost use Rattle.rcu_c.specs.Maps.{on_writer};
 ghost use Rattle.rcu_c.specs.Refusals.{CanQueue, engine_number, going_refusal};
 ghost use Rattle.rcu_c.specs.Seats.{Seat, seat_at_first};
 ghost use Rattle.rcu_c.specs.Sleeps.{after_saying};
@@ -46,14 +46,14 @@ use rcu_live::{definition_laws, laws};
 /// A newly opened engine has the seat of each processor to deal. Each is one of its own: it reads
 /// the words that the engine writes, and the engine's map, and the engine takes it.
 pub fn dealt_seats_are_of_their_engine()
-    ensures waits { (identity : Identity) (table wishes : TableId) (plan : Plan)
+    ensures waits { (identity : Identity) (table requests : TableId) (plan : Plan)
         (cpus last cpu : ℕ) → cpu < cpus →
-        seat_at (opened_at_first identity table wishes plan cpus last) cpu
-        ≡ Some (seat_at_first identity table wishes plan cpus cpu) }
-    ensures own { (identity : Identity) (table wishes : TableId) (plan : Plan)
+        seat_at (opened_at_first identity table requests plan cpus last) cpu
+        ≡ Some (seat_at_first identity table requests plan cpus cpu) }
+    ensures own { (identity : Identity) (table requests : TableId) (plan : Plan)
         (cpus last cpu : ℕ) → cpu < cpus →
-        BelongsTo (Some (Contents.Seat (seat_at_first identity table wishes plan cpus cpu)))
-        (Some (Contents.Engine (opened_at_first identity table wishes plan cpus last))) }
+        BelongsTo (Some (Contents.Seat (seat_at_first identity table requests plan cpus cpu)))
+        (Some (Contents.Engine (opened_at_first identity table requests plan cpus last))) }
 {}
 
 /// A seat is dealt to one at a time: one that is dealt is not there to deal. One that is handed
@@ -92,8 +92,8 @@ pub fn seats_stay_of_their_engine()
     ensures cpu { (change : Seated Planned → Seated Planned) (seat rcu : Option Contents) →
         ((s : Seated Planned) → (change s).cpu ≡ s.cpu) →
         BelongsTo seat rcu → BelongsTo (on_cpu change seat) rcu }
-    ensures map { (seat rcu now : Option Contents) → now ≡ on_keeper (λ _. keeper_of now) rcu →
-        IsOfSameGraph (keeper_of rcu) (keeper_of now) → BelongsTo seat rcu → BelongsTo seat now }
+    ensures map { (seat rcu now : Option Contents) → now ≡ on_writer (λ _. writer_of now) rcu →
+        IsOfSameGraph (writer_of rcu) (writer_of now) → BelongsTo seat rcu → BelongsTo seat now }
     ensures watcher { (change : Watching Planned → Watching Planned)
         (seat rcu : Option Contents) →
         BelongsTo seat rcu → BelongsTo (on_watcher change seat) rcu }
@@ -134,14 +134,14 @@ pub fn sections_end_before_what_waits_for_them()
 /// Each call that changes an engine, and returns 0, is a step of a run of it: what its clause
 /// `state` says is what the step leaves, and what its faults say is why the step may be made. A
 /// departure that returns 2 or 16 is one, too. Collecting from all, also before a sleep
-/// (`rcu_may_sleep`), is none where no grace period runs: it changes nothing then. Nor is an update
-/// of the map, or a wait for a node that finds one free: it leaves the running engine as it is. An
-/// engine is new as it is opened.
+/// (`rcu_driver_prepare_wait`), is none where no grace period runs: it changes nothing then. Nor is
+/// an update of the map, or a wait for a node that finds one free: it leaves the running engine as
+/// it is. An engine is new as it is opened.
 pub fn calls_are_steps_of_a_run()
-    ensures new { (identity : Identity) (table wishes : TableId) (plan : Plan) (cpus last : ℕ) →
-        IsNew (opened_at_first identity table wishes plan cpus last).engine }
+    ensures new { (identity : Identity) (table requests : TableId) (plan : Plan) (cpus last : ℕ) →
+        IsNew (opened_at_first identity table requests plan cpus last).engine }
     ensures map { (change : Watching Planned → Watching Planned) (rcu : Option Contents) →
-        engine_of (on_keeper change rcu) ≡ engine_of rcu }
+        engine_of (on_writer change rcu) ≡ engine_of rcu }
     ensures begin { (rcu : Option Contents) (word : ℕ → ℕ) →
         engine_number rcu (number_for (grace.begin_refusal (grace_of rcu))) ≡ 0 →
         Makes (Call.Begin word) (engine_of rcu)

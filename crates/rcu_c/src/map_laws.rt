@@ -22,11 +22,11 @@ use rcu_map::laws;
 /// A key that is in the map when a run begins, and after each of its calls, is found by an
 /// `rcu_map_get` in the run: it writes an entry of that key.
 pub fn keys_that_stay_are_found()
-    ensures { (plan : Plan) (opened key keeper id from done last : ℕ) (moments : ℕ → Moment)
+    ensures { (plan : Plan) (opened key writer id from done last : ℕ) (moments : ℕ → Moment)
         (now : Watching Planned) (run : IsRun IsKeyed plan opened now)
         (before after : Option Contents) (room entry : List ℕ) →
         0 < plan.roots → plan.links ≡ 1 → 2 ≤ plan.words → 0 < key → from + done ≤ last →
-        IsMapOver IsKeyed plan keeper last moments →
+        IsMapOver IsKeyed plan writer last moments →
         AreMadeOver IsKeyed plan opened moments last now run →
         HasKeyThroughout IsKeyed plan opened key now run →
         IsReadOver IsKeyed plan id opened done (since from moments) →
@@ -40,11 +40,11 @@ pub fn keys_that_stay_are_found()
 /// An entry that an `rcu_map_get` in such a run writes was in the map when the run began, or after
 /// one of its calls.
 pub fn found_keys_were_there()
-    ensures { (plan : Plan) (opened key keeper id from done last : ℕ) (moments : ℕ → Moment)
+    ensures { (plan : Plan) (opened key writer id from done last : ℕ) (moments : ℕ → Moment)
         (now : Watching Planned) (run : IsRun IsKeyed plan opened now)
         (before after : Option Contents) (room entry : List ℕ) →
         0 < plan.roots → plan.links ≡ 1 → 2 ≤ plan.words → 0 < key → from + done ≤ last →
-        IsMapOver IsKeyed plan keeper last moments →
+        IsMapOver IsKeyed plan writer last moments →
         AreMadeOver IsKeyed plan opened moments last now run →
         IsReadOver IsKeyed plan id opened done (since from moments) →
         IsGotBetween plan key (moments from) (moments (from + done)) before room entry
@@ -57,11 +57,11 @@ pub fn found_keys_were_there()
 /// So were its words: the entry that it writes was in the map when the run began, or after one of
 /// its calls, and is the key's.
 pub fn found_entries_were_there()
-    ensures { (plan : Plan) (opened key keeper id from done last : ℕ) (moments : ℕ → Moment)
+    ensures { (plan : Plan) (opened key writer id from done last : ℕ) (moments : ℕ → Moment)
         (now : Watching Planned) (run : IsRun IsKeyed plan opened now)
         (before after : Option Contents) (room entry : List ℕ) →
         0 < plan.roots → plan.links ≡ 1 → 2 ≤ plan.words → 0 < key → from + done ≤ last →
-        IsMapOver IsKeyed plan keeper last moments →
+        IsMapOver IsKeyed plan writer last moments →
         AreMadeOver IsKeyed plan opened moments last now run →
         IsReadOver IsKeyed plan id opened done (since from moments) →
         IsGotBetween plan key (moments from) (moments (from + done)) before room entry
@@ -90,11 +90,11 @@ pub fn reads_are_between_the_moments_that_they_know()
 /// A key that stays in the map over such a run, and that lies behind another one, is passed over by
 /// no `rcu_map_next` from that: it writes an entry, of the key or of one before it.
 pub fn no_key_that_stays_is_passed_over()
-    ensures { (plan : Plan) (opened key stays keeper id from done last : ℕ) (moments : ℕ → Moment)
+    ensures { (plan : Plan) (opened key stays writer id from done last : ℕ) (moments : ℕ → Moment)
         (now : Watching Planned) (run : IsRun IsKeyed plan opened now)
         (before after : Option Contents) (room entry : List ℕ) →
         0 < plan.roots → plan.links ≡ 1 → 2 ≤ plan.words → 0 < stays → from + done ≤ last →
-        IsMapOver IsKeyed plan keeper last moments →
+        IsMapOver IsKeyed plan writer last moments →
         AreMadeOver IsKeyed plan opened moments last now run →
         HasKeyThroughout IsKeyed plan opened stays now run →
         IsReadOver IsKeyed plan id opened done (since from moments) →

@@ -4,13 +4,13 @@
 //! Header: `rcu/map.h`.
 ghost use Rattle.std.specs.Prelude.{◌≡◌, ◌≢◌, None, length};
 ghost use Rattle.rcu_map.specs.Entries.{entries_in};
-ghost use Rattle.rcu_map.specs.Waits.{AreAllLive};
+ghost use Rattle.rcu_map.specs.Room.{IsOnlyForReplacements};
 ghost use Rattle.rcu_map.specs.declared.put.Put.{Put};
 ghost use Rattle.rcu_c.specs.Answers.{number_in_c};
-ghost use Rattle.rcu_c.specs.Holding.{HoldsEngine};
-ghost use Rattle.rcu_c.specs.Maps.{HasAgedInC, HasWaitedInC, IsFoundInC, IsNotPutInC, IsPutInC};
-ghost use Rattle.rcu_c.specs.Maps.{IsTakenOutInC, entry_refusal, keeper_width, map_buckets};
-ghost use Rattle.rcu_c.specs.Maps.{map_nodes, waiting_refusal, width_refusal};
+ghost use Rattle.rcu_c.specs.Holding.{HoldsEngine, writer_of};
+ghost use Rattle.rcu_c.specs.Maps.{HasReclaimedInC, HasWaitedInC, IsFoundInC, IsNotPutInC};
+ghost use Rattle.rcu_c.specs.Maps.{IsPutInC, IsTakenOutInC, entry_refusal, map_buckets, map_nodes};
+ghost use Rattle.rcu_c.specs.Maps.{waiting_refusal, width_refusal, writer_width};
 ghost use Rattle.rcu_c.specs.Refusals.{engine_number};
 ghost use Rattle.rcu_c.specs.Staying.{BothStay};
 
@@ -55,7 +55,8 @@ fn put(rcu: &mut Rcu, how: Put, entry: &[u64], old: &mut [u64]) -> u32
 /// the entry.
 ///
 /// Faults: 32 if an entry has another number of words than `entry` or `old`; 30 if the key is 0; 31
-/// if no entry has the key, and no node is free.
+/// if no entry has the key, and the map is full or no node is free yet. It is full if it has as
+/// many entries as it was opened for.
 #[unsafe(no_mangle)]
 pub extern "C" fn rcu_map_insert(rcu: &mut Rcu, entry: &[u64], old: &mut [u64]) -> u32
     ensures fault { result ≢ 31 → result ≡ engine_number rcu.old.contents
@@ -78,7 +79,8 @@ pub extern "C" fn rcu_map_insert(rcu: &mut Rcu, entry: &[u64], old: &mut [u64]) 
 /// `rcu_queue` or `rcu_defer_link`.
 ///
 /// Faults: 32 as of `rcu_map_insert`; 30 if the key is 0; 31 if an entry has the key, and no node
-/// is free.
+/// is free yet. One will be, also in a full map: a node that no entry has waits for its grace
+/// period.
 #[unsafe(no_mangle)]
 pub extern "C" fn rcu_map_replace(rcu: &mut Rcu, entry: &[u64], old: &mut [u64]) -> u32
     ensures fault { result ≢ 31 → result ≡ engine_number rcu.old.contents
@@ -96,7 +98,8 @@ pub extern "C" fn rcu_map_replace(rcu: &mut Rcu, entry: &[u64], old: &mut [u64])
 /// Puts an entry in, by one store: in the place of the one that has its key, as `rcu_map_replace`,
 /// or if none has it, as `rcu_map_insert`. Writes the one that had it, or the key 0.
 ///
-/// Faults: 32 as of `rcu_map_insert`; 30 if the key is 0; 31 if no node is free.
+/// Faults: 32 as of `rcu_map_insert`; 30 if the key is 0; 31 if no node is free yet, or if the map
+/// is full and no entry has the key.
 #[unsafe(no_mangle)]
 pub extern "C" fn rcu_map_put(rcu: &mut Rcu, entry: &[u64], old: &mut [u64]) -> u32
     ensures fault { result ≢ 31 → result ≡ engine_number rcu.old.contents
@@ -112,15 +115,15 @@ pub extern "C" fn rcu_map_put(rcu: &mut Rcu, entry: &[u64], old: &mut [u64]) -> 
 }
 
 /// Takes the entry of a key out, by one store, and writes its words, or the key 0 if there is none.
-/// Its node is free again once a call of `rcu_map_age` has found it removed, and a later one finds
-/// that a full grace period has passed since. Data that its words lead to may be freed when a full
-/// grace period has passed.
+/// Its node is free again once a call of `rcu_map_reclaim` has found it removed, and a later one
+/// finds that a full grace period has passed since. Data that its words lead to may be freed when a
+/// full grace period has passed.
 ///
 /// Fault 32: an entry has another number of words.
 #[unsafe(no_mangle)]
 pub extern "C" fn rcu_map_remove(rcu: &mut Rcu, key: u64, old: &mut [u64]) -> u32
     ensures fault { result ≡ engine_number rcu.old.contents
-        (number_in_c (width_refusal (keeper_width rcu.old.contents) (length old.old))) }
+        (number_in_c (width_refusal (writer_width rcu.old.contents) (length old.old))) }
     ensures removed { result ≡ 0 →
         IsTakenOutInC key rcu.old.contents old.old old.new rcu.new.contents }
     ensures unchanged { result ≢ 0 →
@@ -142,7 +145,7 @@ pub extern "C" fn rcu_map_remove(rcu: &mut Rcu, key: u64, old: &mut [u64]) -> u3
 #[unsafe(no_mangle)]
 pub extern "C" fn rcu_map_find(rcu: &mut Rcu, key: u64, entry: &mut [u64]) -> u32
     ensures fault { result ≡ engine_number rcu.old.contents
-        (number_in_c (width_refusal (keeper_width rcu.old.contents) (length entry.old))) }
+        (number_in_c (width_refusal (writer_width rcu.old.contents) (length entry.old))) }
     ensures state { rcu.new.contents ≡ rcu.old.contents }
     ensures found { result ≡ 0 → IsFoundInC key rcu.old.contents entry.old entry.new }
     ensures unchanged { result ≢ 0 → entry.new ≡ entry.old }
@@ -177,45 +180,49 @@ pub extern "C" fn rcu_map_len(rcu: &mut Rcu) -> u64
 /// If a put finds no node free (31): call it, drive until the cookie is done, and call it again; or
 /// call `rcu_map_wait`.
 #[unsafe(no_mangle)]
-pub extern "C" fn rcu_map_age(rcu: &mut Rcu, cookie: &mut u64) -> u32
+pub extern "C" fn rcu_map_reclaim(rcu: &mut Rcu, cookie: &mut u64) -> u32
     ensures fault { result ≡ engine_number rcu.old.contents 0 }
-    ensures aged { result ≡ 0 → HasAgedInC rcu.old.contents cookie.new rcu.new.contents }
+    ensures reclaimed { result ≡ 0 → HasReclaimedInC rcu.old.contents cookie.new rcu.new.contents }
     ensures unchanged { result ≢ 0 →
         BothStay rcu.old.contents rcu.new.contents cookie.old cookie.new }
 {
     let opened = accepted!(rcu.engine());
-    let number = opened.map.age();
+    let number = opened.map.reclaim();
     *cookie = Cookie::of(Tag::of_first_epoch(number)).number;
     0
 }
 
-/// One step of waiting for a free node, for the driver: it looks at the number, as `rcu_map_age`.
-/// If no node is free then, it takes a step of driving for the cookie of that number, as
-/// `rcu_drive_for`. No entry changes.
+/// One step of waiting for a free node, for the driver: it looks at the number, as
+/// `rcu_map_reclaim`. If no node is free then, it takes a step of driving for the cookie of that
+/// number, as `rcu_drive_for`. No entry changes.
 ///
 /// If a call that puts an entry in finds no node free (31): call this, and that again, until the
 /// entry is in or this is refused. In between let other threads run; the caller's own processor is
 /// idle or offline, or passes quiescent states. It orders what `rcu_drive_for` orders.
 ///
-/// Faults: 31 if each node has an entry, so that none becomes free before one is removed; 11 if a
-/// grace period would begin, and the number is the last one. At 11 it has looked.
+/// Faults: 31 if the map is full and a node is free, by which an entry can be replaced: there is no
+/// room beside the entries before one is removed; 11 if a grace period would begin, and the number
+/// is the last one. At 11 it has looked.
 ///
 /// Fence: behind.
 #[unsafe(no_mangle)]
 pub extern "C" fn rcu_map_wait_unfenced(rcu: &mut Rcu) -> u32
     ensures open { HoldsEngine rcu.old.contents → HoldsEngine rcu.new.contents }
-    ensures full { AreAllLive (map_nodes rcu.old.contents) →
-        (result ≡ engine_number rcu.old.contents 31)
-        × (rcu.new.contents ≡ rcu.old.contents) }
-    ensures fault { result ≢ 0 → result ≢ 31 → result ≡ engine_number rcu.old.contents 11 }
-    ensures waited { ¬ AreAllLive (map_nodes rcu.old.contents) →
+    ensures closed { ¬ HoldsEngine rcu.old.contents →
+        (result ≡ engine_number rcu.old.contents 0) × (rcu.new.contents ≡ rcu.old.contents) }
+    ensures full { HoldsEngine rcu.old.contents →
+        IsOnlyForReplacements (writer_of rcu.old.contents) →
+        (result ≡ 31) × (rcu.new.contents ≡ rcu.old.contents) }
+    ensures fault { HoldsEngine rcu.old.contents → result ≢ 0 → result ≢ 31 → result ≡ 11 }
+    ensures waited { HoldsEngine rcu.old.contents →
+        ¬ IsOnlyForReplacements (writer_of rcu.old.contents) →
         HasWaitedInC rcu.old.contents result rcu.new.contents }
 {
     let opened = accepted!(rcu.engine());
-    if opened.map.is_all_live() {
+    if opened.map.is_only_for_replacements() {
         return Refusal::MapFull.number();
     }
-    let cookie = Cookie::of(Tag::of_first_epoch(opened.map.age()));
+    let cookie = Cookie::of(Tag::of_first_epoch(opened.map.reclaim()));
     if opened.map.has_free_node() {
         return 0;
     }
@@ -240,12 +247,12 @@ pub extern "C" fn rcu_seat_map_wait_unfenced(rcu: &mut Rcu, seat: &mut RcuSeat) 
         (result ≡ number_in_c (waiting_refusal rcu.old.contents seat.old.contents))
         × (rcu.new.contents ≡ rcu.old.contents) }
     ensures full { waiting_refusal rcu.old.contents seat.old.contents ≡ None →
-        AreAllLive (map_nodes rcu.old.contents) →
+        IsOnlyForReplacements (writer_of rcu.old.contents) →
         (result ≡ 31) × (rcu.new.contents ≡ rcu.old.contents) }
     ensures fault { waiting_refusal rcu.old.contents seat.old.contents ≡ None →
         result ≢ 0 → result ≢ 31 → result ≡ 11 }
     ensures waited { waiting_refusal rcu.old.contents seat.old.contents ≡ None →
-        ¬ AreAllLive (map_nodes rcu.old.contents) →
+        ¬ IsOnlyForReplacements (writer_of rcu.old.contents) →
         HasWaitedInC rcu.old.contents result rcu.new.contents }
 {
     accepted!(rcu.has_dealt(seat));

@@ -1,14 +1,16 @@
 //! The engine of an open handle.
-ghost use Rattle.std.specs.Prelude.{◌≡◌, is_some};
+ghost use Rattle.std.specs.Prelude.{◌≡◌, ◌≢◌, IfOk, None, OnErr, OnOk, Some, is_some};
 ghost use Rattle.rcu_c.specs.Engines.{is_own, seat_at, with_seat, without_seat};
 
-use crate::identity::Identity;
+use crate::dealt_seat::DealtSeat;
+use crate::kept_seats::KeptSeats;
 use crate::keyed_words::KeyedWords;
 use crate::seat_parts::SeatParts;
 use rcu_live::Engine;
-use rcu_map::{MapKeeper, MapRule};
+use rcu_map::{MapRule, MapWriter};
 use rcu_node::Tree;
-use rcu_wish::Wishes;
+use rcu_request::GpRequests;
+use std::alloc::{AllocError, Global};
 use std::marker::Model;
 
 /// The rule of the map that each engine has among its shared words.
@@ -22,12 +24,11 @@ pub(crate) type TreeEngine = Engine<Tree<64, 64>, u64, Rule>;
 #[derive(Drop)]
 pub struct OpenEngine {
     pub(crate) inner: TreeEngine,
-    /// The seats that are not dealt yet, each at its processor's place.
-    pub(crate) seats: Vec<Option<SeatParts>>,
-    pub(crate) wishes: Wishes,
-    identity: Identity,
-    /// The keeper of its map.
-    pub(crate) map: MapKeeper<KeyedWords, 0>,
+    /// The seats that no thread has.
+    seats: KeptSeats,
+    pub(crate) requests: GpRequests,
+    /// The writer of its map.
+    pub(crate) map: MapWriter<KeyedWords, 0>,
 }
 
 impl Model for OpenEngine {
@@ -37,36 +38,34 @@ impl Model for OpenEngine {
 
     ghost view = { λ o. record {
       engine = o.inner;
-      seats = o.seats.items;
-      wishes = o.wishes;
-      identity = o.identity;
+      seats = o.seats.seats;
+      requests = o.requests;
+      identity = o.seats.shared.identity;
       map = o.map;
     } };
 }
 
 impl OpenEngine {
-    /// Returns the engine with the seats of its processors, its end of the wishes, and the keeper
+    /// Returns the engine with the seats of its processors, its end of the requests, and the writer
     /// of its map.
     pub(crate) fn new(
         inner: TreeEngine,
-        seats: Vec<Option<SeatParts>>,
-        wishes: Wishes,
-        identity: Identity,
-        map: MapKeeper<KeyedWords, 0>,
+        seats: KeptSeats,
+        requests: GpRequests,
+        map: MapWriter<KeyedWords, 0>,
     ) -> OpenEngine
         ensures { result ≡ record {
           engine = inner;
-          seats = seats.items;
-          wishes = wishes;
-          identity = identity;
+          seats = seats.seats;
+          requests = requests;
+          identity = seats.shared.identity;
           map = map;
         } }
     {
         OpenEngine {
             inner,
             seats,
-            wishes,
-            identity,
+            requests,
             map,
         }
     }
@@ -82,36 +81,31 @@ impl OpenEngine {
     pub(crate) fn owns(&self, seat: &SeatParts) -> bool
         ensures { result ≡ is_own self.now seat.now }
     {
-        self.identity.is(seat.identity) && seat.cpu.cpu() < self.cpus()
+        self.seats.identity().is(seat.identity) && seat.cpu.cpu() < self.cpus()
     }
 
     /// Returns whether the processor's seat is not dealt yet.
     pub(crate) fn has_seat(&self, cpu: u32) -> bool
         ensures { result ≡ is_some (seat_at self.now cpu) }
     {
-        match self.seats.get(cpu as usize) {
-            Some(seat) => seat.is_some(),
-            None => false,
-        }
+        self.seats.has(cpu)
     }
 
-    /// Returns the processor's seat, if it is not dealt yet.
-    pub(crate) fn deal(&mut self, cpu: u32) -> Option<SeatParts>
-        ensures seat { result ≡ seat_at self.old cpu }
-        ensures state { self.new ≡ without_seat self.old cpu }
+    /// Returns the processor's seat, which is not dealt yet.
+    pub(crate) fn deal(&mut self, alloc: Global, cpu: u32) -> Result<DealtSeat, AllocError>
+        requires { seat_at self.old cpu ≢ None }
+        ensures seat { IfOk result (λ seat. seat_at self.old cpu ≡ Some seat) }
+        ensures state { OnOk result (self.new ≡ without_seat self.old cpu) }
+        ensures unchanged { OnErr result (self.new ≡ self.old) }
     {
-        match self.seats.get_mut(cpu as usize) {
-            Some(seat) => seat.take(),
-            None => None,
-        }
+        self.seats.deal(alloc, cpu)
     }
 
     /// Takes the seat of a processor back, which is not dealt from now on.
-    pub(crate) fn take_back(&mut self, seat: SeatParts)
+    pub(crate) fn take_back(&mut self, seat: DealtSeat)
         ensures { self.new ≡ with_seat self.old seat }
     {
-        if let Some(place) = self.seats.get_mut(seat.cpu.cpu() as usize) {
-            *place = Some(seat);
-        }
+        let cpu = seat.cpu();
+        self.seats.take_back(seat, cpu);
     }
 }

@@ -5,7 +5,7 @@ ghost use Rattle.rcu_geometry.specs.Opening.{opening_refusal};
 ghost use Rattle.rcu_c.specs.Answers.{number_for, number_in_c, tested_number};
 ghost use Rattle.rcu_c.specs.Engines.{opened_at_first, seat_at, with_seat, without_seat};
 ghost use Rattle.rcu_c.specs.Holding.{HoldsEngine, HoldsSeat, engine_of, on_opened, opened_of};
-ghost use Rattle.rcu_c.specs.Holding.{seat_of, wishes_of};
+ghost use Rattle.rcu_c.specs.Holding.{requests_of, seat_of};
 ghost use Rattle.rcu_c.specs.MapSizes.{least_sizes, map_opening_refusal, plan_of_sizes};
 ghost use Rattle.rcu_c.specs.Refusals.{deal_refusal, engine_number, engine_refusal};
 ghost use Rattle.rcu_c.specs.Refusals.{return_refusal, seat_refusal, tested_refusal};
@@ -13,6 +13,8 @@ ghost use Rattle.rcu_c.specs.Staying.{BothStay};
 
 use crate::codes::accepted;
 use crate::contents::Contents;
+use crate::dealt_seat::DealtSeat;
+use crate::engine_box::EngineBox;
 use crate::handle::{Handle, Rcu, RcuSeat};
 use crate::identity::Identity;
 use crate::making::make_engine;
@@ -20,7 +22,6 @@ use crate::map_sizes::MapSizes;
 use crate::open_engine::OpenEngine;
 use crate::raw_box::RawBox;
 use crate::refusal::Refusal;
-use crate::seat_parts::SeatParts;
 use rcu_seq::Fault;
 use std::alloc::Global;
 
@@ -28,17 +29,20 @@ use std::alloc::Global;
 fn box_engine(
     alloc: Global,
     cpus: u32,
-    last: u64,
+    max_number: u64,
     identity: Identity,
     sizes: MapSizes,
 ) -> Result<Box<Contents, Global>, Refusal>
     ensures open { IfOk result (λ contents. HoldsEngine (Some contents.value)) }
     ensures state { IfOk result (λ contents. opened_of (Some contents.value)
         ≡ opened_at_first identity (engine_of (Some contents.value)).table
-        (wishes_of (Some contents.value)).words (plan_of_sizes sizes) cpus last) }
-    ensures fault { tested_refusal result ≡ map_opening_refusal sizes cpus last }
+        (requests_of (Some contents.value)).words (plan_of_sizes sizes) cpus max_number) }
+    ensures fault { tested_refusal result ≡ map_opening_refusal sizes cpus max_number }
 {
-    let made = make_engine(alloc, cpus, last, identity, sizes)?;
+    let made = make_engine(alloc, cpus, max_number, identity, sizes)?;
+    let Ok(made) = EngineBox::new(alloc, made) else {
+        return Err(Refusal::Engine(Fault::NoMemory));
+    };
     Ok(Box::new(alloc, Contents::Engine(made))?)
 }
 
@@ -51,60 +55,60 @@ fn put(handle: &mut Handle, contents: Box<Contents, Global>)
 }
 
 /// Opens an engine of 1 to 4,096 processors at number 0. Processor 0 alone is online, no callback
-/// is queued, and no seat is dealt. No grace period begins at `last`, a multiple of 4 from 4 to
-/// 2^62. Needs: `rcu` is closed.
+/// is queued, and no seat is dealt. No grace period begins at `max_number`, a multiple of 4 from 4
+/// to 2^62. Needs: `rcu` is closed.
 ///
 /// The identity is one that no other engine of the process has: an engine takes no seat of another
 /// one (26), and compares identities for that. `rcu_open` makes it, of a counter and the place of
 /// that. A program in another language makes its own.
 ///
-/// Faults: 17 for no processor or more than 4,096; 19 if `last` is no such number; 16.
+/// Faults: 17 for no processor or more than 4,096; 19 if `max_number` is no such number; 16.
 #[unsafe(no_mangle)]
 pub extern "C" fn rcu_open_as(
     alloc: Global,
     cpus: u32,
-    last: u64,
+    max_number: u64,
     identity: Identity,
     rcu: &mut Rcu,
 ) -> u32
     requires closed { IsNone rcu.old.contents }
-    ensures fault { tested_number result ≡ number_for (opening_refusal 16 64 cpus last) }
+    ensures fault { tested_number result ≡ number_for (opening_refusal 16 64 cpus max_number) }
     ensures open { result ≡ 0 → HoldsEngine rcu.new.contents }
     ensures state { result ≡ 0 → opened_of rcu.new.contents ≡
         opened_at_first identity (engine_of rcu.new.contents).table
-        (wishes_of rcu.new.contents).words (plan_of_sizes least_sizes) cpus last }
+        (requests_of rcu.new.contents).words (plan_of_sizes least_sizes) cpus max_number }
     ensures unchanged { result ≢ 0 → rcu.new.contents ≡ rcu.old.contents }
 {
-    rcu_open_map_as(alloc, cpus, last, identity, &MapSizes::least(), rcu)
+    rcu_open_map_as(alloc, cpus, max_number, identity, &MapSizes::least(), rcu)
 }
 
 /// Opens an engine as `rcu_open_as`, with a map of these sizes, which is empty. Each of its seats
 /// reads it. Needs: `rcu` is closed.
 ///
-/// Faults: 29 if there is no bucket, an entry has one word, there are fewer nodes than buckets, or
-/// more than 2^32 words in all, an entry's and one more a node; 17 for no processor or more than
-/// 4,096; 19 if `last` is no such number; 16.
+/// Faults: 29 if there is no bucket, an entry has one word, or there are more than 2^32 words in
+/// all: an entry's and one more for each bucket, for each entry, and once for replacements; 17 for
+/// no processor or more than 4,096; 19 if `max_number` is no such number; 16.
 ///
 /// Header: `rcu/map.h`.
 #[unsafe(no_mangle)]
 pub extern "C" fn rcu_open_map_as(
     alloc: Global,
     cpus: u32,
-    last: u64,
+    max_number: u64,
     identity: Identity,
     sizes: &MapSizes,
     rcu: &mut Rcu,
 ) -> u32
     requires closed { IsNone rcu.old.contents }
     ensures fault { tested_number result ≡
-        number_in_c (map_opening_refusal sizes.now cpus last) }
+        number_in_c (map_opening_refusal sizes.now cpus max_number) }
     ensures open { result ≡ 0 → HoldsEngine rcu.new.contents }
     ensures state { result ≡ 0 → opened_of rcu.new.contents ≡
         opened_at_first identity (engine_of rcu.new.contents).table
-        (wishes_of rcu.new.contents).words (plan_of_sizes sizes.now) cpus last }
+        (requests_of rcu.new.contents).words (plan_of_sizes sizes.now) cpus max_number }
     ensures unchanged { result ≢ 0 → rcu.new.contents ≡ rcu.old.contents }
 {
-    let contents = accepted!(box_engine(alloc, cpus, last, identity, *sizes));
+    let contents = accepted!(box_engine(alloc, cpus, max_number, identity, *sizes));
     put(rcu, contents);
     0
 }
@@ -147,25 +151,15 @@ fn deal_seat(
         return Err(Refusal::SeatDealt);
     }
     let mut room = Box::new(alloc, Contents::Room)?;
-    deal_into(&mut room, opened, cpu);
+    let Ok(seat) = opened.deal(alloc, cpu) else {
+        return Err(Refusal::Engine(Fault::NoMemory));
+    };
+    hold(&mut room, seat);
     Ok(room)
 }
 
-/// Takes the seat of a processor out of the engine, and puts it in place of what was held.
-fn deal_into(contents: &mut Contents, opened: &mut OpenEngine, cpu: u32)
-    requires { seat_at opened.old cpu ≢ None }
-    ensures open { HoldsSeat (Some contents.new) }
-    ensures seat { seat_at opened.old cpu ≡ Some (seat_of (Some contents.new)) }
-    ensures state { opened.new ≡ without_seat opened.old cpu }
-{
-    let Some(dealt) = opened.deal(cpu) else {
-        unreachable!()
-    };
-    hold(contents, dealt);
-}
-
 /// Has a seat held in place of what was held.
-fn hold(contents: &mut Contents, seat: SeatParts)
+fn hold(contents: &mut Contents, seat: DealtSeat)
     ensures { contents.new ≡ Contents.Seat seat }
 {
     *contents = Contents::Seat(seat);
@@ -173,8 +167,8 @@ fn hold(contents: &mut Contents, seat: SeatParts)
 
 /// Deals the seat of a processor; each has one. The seat of processor 0 is online at first, any
 /// other offline; one that was returned is as it was then. Processor 0 is awaited like any other:
-/// if no thread reads on it, make its seat idle once. Needs: `rcu` is under the caller's lock, and
-/// `seat` is closed.
+/// if no thread reads on it, make its seat idle once. A seat takes its memory when it is dealt for
+/// the first time. Needs: `rcu` is under the caller's lock, and `seat` is closed.
 ///
 /// Faults: 1 if there is no such processor; 25 if its seat is dealt; 16.
 #[unsafe(no_mangle)]

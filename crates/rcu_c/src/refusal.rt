@@ -19,18 +19,20 @@ pub enum Refusal {
     Closed,
     /// The handle is of another kind.
     OtherKind,
-    /// A map can't have so many buckets, words an entry and nodes.
+    /// A map can't have these sizes (buckets, words an entry, entries).
     BadSizes,
     /// An entry has the key 0.
     BadKey,
-    /// No node of the map is free.
+    /// The map has no room for an entry, or none yet.
     MapFull,
     /// An entry of the map has another number of words.
     BadWords,
+    /// The entry of the map is not as it was read.
+    EntryChanged,
 }
 
 impl Refusal {
-    /// The number that C is told: no fault of the engine has one of the last eight.
+    /// Returns the number of the fault in C: no fault of the engine has one of the last nine.
     pub(crate) fn number(self) -> u32
         ensures { result ≡ refusal_number self }
     {
@@ -44,6 +46,7 @@ impl Refusal {
             Refusal::BadKey => 30,
             Refusal::MapFull => 31,
             Refusal::BadWords => 32,
+            Refusal::EntryChanged => 33,
         }
     }
 }

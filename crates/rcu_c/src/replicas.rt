@@ -29,34 +29,34 @@ use std::alloc::Global;
 pub type RcuReplica = Handle;
 
 /// Returns a fresh replica, in a box.
-fn box_replica(alloc: Global, cpus: u32, last: u64) -> Result<Box<Contents, Global>, Fault>
+fn box_replica(alloc: Global, cpus: u32, max_number: u64) -> Result<Box<Contents, Global>, Fault>
     ensures open { IfOk result (λ contents. HoldsReplica (Some contents.value)) }
     ensures state { IfOk result (λ contents.
-        replica_of (Some contents.value) ≡ at_first cpus last) }
-    ensures fault { tested_fault result ≡ opening_refusal 16 64 cpus last }
+        replica_of (Some contents.value) ≡ at_first cpus max_number) }
+    ensures fault { tested_fault result ≡ opening_refusal 16 64 cpus max_number }
 {
-    let made = OpenReplica::new(alloc, cpus, last)?;
+    let made = OpenReplica::new(alloc, cpus, max_number)?;
     Ok(Box::new(alloc, Contents::Replica(made))?)
 }
 
 /// Opens a replica of 1 to 4,096 processors at number 0, which awaits nobody. No grace period
-/// begins at `last`, a multiple of 4 from 4 to 2^62. Needs: `replica` is closed.
+/// begins at `max_number`, a multiple of 4 from 4 to 2^62. Needs: `replica` is closed.
 ///
-/// Faults: 17 for no processor or more than 4,096; 19 if `last` is no such number; 16.
+/// Faults: 17 for no processor or more than 4,096; 19 if `max_number` is no such number; 16.
 #[unsafe(no_mangle)]
 pub extern "C" fn rcu_replica_open(
     alloc: Global,
     cpus: u32,
-    last: u64,
+    max_number: u64,
     replica: &mut RcuReplica,
 ) -> u32
     requires closed { IsNone replica.old.contents }
-    ensures fault { tested_number result ≡ number_for (opening_refusal 16 64 cpus last) }
+    ensures fault { tested_number result ≡ number_for (opening_refusal 16 64 cpus max_number) }
     ensures open { result ≡ 0 → HoldsReplica replica.new.contents }
-    ensures state { result ≡ 0 → replica_of replica.new.contents ≡ at_first cpus last }
+    ensures state { result ≡ 0 → replica_of replica.new.contents ≡ at_first cpus max_number }
     ensures unchanged { result ≢ 0 → replica.new.contents ≡ replica.old.contents }
 {
-    let contents = accepted!(box_replica(alloc, cpus, last), code);
+    let contents = accepted!(box_replica(alloc, cpus, max_number), code);
     *replica = Handle::of(RawBox::of(contents));
     0
 }

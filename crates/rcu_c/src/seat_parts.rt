@@ -1,9 +1,9 @@
 //! The seat of an open handle.
-ghost use Rattle.std.specs.Prelude.{◌≡◌, ◌<◌, ◌≤◌, IfOk};
+ghost use Rattle.std.specs.Prelude.{◌≡◌, ◌<◌, IfOk};
 ghost use Rattle.rcu_defer.specs.DeferList.{list_at_first};
 ghost use Rattle.rcu_graph.specs.Nodes.{IsReader};
 ghost use Rattle.rcu_live.specs.Words.{base_of};
-ghost use Rattle.rcu_wish.specs.Wishes.{wisher_at_first};
+ghost use Rattle.rcu_request.specs.Requests.{requester_at_first};
 ghost use Rattle.rcu_c.specs.Links.{no_links};
 
 use crate::identity::Identity;
@@ -11,33 +11,51 @@ use crate::keyed_words::KeyedWords;
 use crate::links::Links;
 use rcu_defer::DeferList;
 use rcu_map::{Map, MapSeat, MapWatcher};
-use rcu_wish::{Wisher, Wishes};
+use rcu_request::Requester;
 use std::alloc::{AllocError, Global};
 use std::marker::Model;
 
-/// What all seats of an engine share: the map among the words that they read, their wishes, and
+/// What all seats of an engine share: the map among the words that they read, their requests, and
 /// what tells the engine from others.
 #[derive(Drop)]
 pub(crate) struct SharedParts {
     pub(crate) map: Map<KeyedWords, 0>,
-    pub(crate) wishes: Wishes,
+    /// An end of the requests by which nothing was requested.
+    pub(crate) requester: Requester,
     pub(crate) identity: Identity,
 }
 
 impl Model for SharedParts {
     ghost use Rattle.std.specs.Prelude.{◌≡◌};
     ghost use Rattle.rcu_live.specs.Words.{base_of};
+    ghost use Rattle.rcu_request.specs.Requests.{requester_at_first};
     ghost use Rattle.rcu_c.specs.Seats.{Shared};
 
     ghost Value = { Shared };
 
     ghost view = { λ s. record {
       words = record { table = s.map.table; cpus = s.map.cpus; plan = s.map.plan };
-      wishes = s.wishes.words;
+      requests = s.requester.words;
       identity = s.identity;
     } };
 
-    ghost invariant = { λ s. record { base : s.map.base ≡ base_of s.map.cpus } };
+    ghost invariant = { λ s. record {
+      base : s.map.base ≡ base_of s.map.cpus;
+      unused : s.requester ≡ requester_at_first s.requester.words;
+    } };
+}
+
+impl SharedParts {
+    /// Returns the same parts for a further seat.
+    pub(crate) fn try_clone(&self) -> Result<SharedParts, AllocError>
+        ensures { IfOk result (λ parts. parts ≡ self.now) }
+    {
+        Ok(SharedParts {
+            map: self.map.try_clone()?,
+            requester: self.requester.another()?,
+            identity: self.identity,
+        })
+    }
 }
 
 /// A processor's seat of an engine with a map.
@@ -47,7 +65,7 @@ pub(crate) type CpuSeat = MapSeat<KeyedWords, 0>;
 pub(crate) type Watcher = MapWatcher<KeyedWords, 0>;
 
 /// The seat of an open handle: a processor's, with a watcher, what its thread deferred, its end of
-/// the wishes, and the map among the words that all seats share.
+/// the requests, and the map among the words that all seats share.
 #[derive(Drop)]
 pub struct SeatParts {
     pub(crate) map: Map<KeyedWords, 0>,
@@ -55,7 +73,7 @@ pub struct SeatParts {
     pub(crate) watcher: Watcher,
     pub(crate) values: DeferList<u64>,
     pub(crate) links: Links,
-    pub(crate) wisher: Wisher,
+    pub(crate) requester: Requester,
     pub(crate) identity: Identity,
 }
 
@@ -72,7 +90,7 @@ impl Model for SeatParts {
       watcher = s.watcher;
       values = s.values;
       links = s.links;
-      wisher = s.wisher;
+      requester = s.requester;
       identity = s.identity;
     } };
 
@@ -93,37 +111,40 @@ impl SeatParts {
     /// Returns the seat of a processor, by which nothing was deferred yet.
     pub(crate) fn new(
         alloc: Global,
-        shared: &SharedParts,
+        shared: SharedParts,
         cpu: CpuSeat,
         watcher: Watcher,
-    ) -> Result<SeatParts, AllocError>
-        requires cpu { cpu.table ≡ shared.now.words.table }
-        requires watcher { watcher.table ≡ shared.now.words.table }
-        requires inside { cpu.cpu < shared.now.words.cpus }
-        requires base { cpu.view.base ≡ base_of shared.now.words.cpus }
-        requires planned { cpu.view.client.plan ≡ shared.now.words.plan }
+    ) -> SeatParts
+        requires cpu { cpu.table ≡ shared.words.table }
+        requires watcher { watcher.table ≡ shared.words.table }
+        requires inside { cpu.cpu < shared.words.cpus }
+        requires base { cpu.view.base ≡ base_of shared.words.cpus }
+        requires planned { cpu.view.client.plan ≡ shared.words.plan }
         requires reads { IsReader cpu.view.client.known }
         requires outside { cpu.depth ≡ 0 }
-        ensures { IfOk result (λ made. made ≡ record {
-          words = shared.now.words;
+        ensures { result ≡ record {
+          words = shared.words;
           cpu = cpu;
           watcher = watcher;
           values = list_at_first;
           links = no_links;
-          wisher = wisher_at_first shared.now.wishes;
-          identity = shared.now.identity;
-        }) }
+          requester = requester_at_first shared.requests;
+          identity = shared.identity;
+        } }
     {
-        let map = shared.map.try_clone()?;
-        let wisher = shared.wishes.wisher()?;
-        Ok(SeatParts {
+        let SharedParts {
+            map,
+            requester,
+            identity,
+        } = shared;
+        SeatParts {
             map,
             cpu,
             watcher,
             values: DeferList::new(alloc),
             links: Links::new(),
-            wisher,
-            identity: shared.identity,
-        })
+            requester,
+            identity,
+        }
     }
 }

@@ -1,4 +1,4 @@
--- What a keeper of a cell keeps: at first, and after looks at the number.
+-- What a writer of a cell keeps: at first, and after looks at the number.
 use Rattle.std.proofs.Common.{◌≡◌, ℕ, zero, suc, ◌<◌, ◌≤◌, ⊎_elim, List, length, refl, sym, ap, ◌∙◌}
 use Rattle.std.proofs.Common.{subst, inl, inr, arith}
 use Rattle.std.specs.Prelude.{slice_index}
@@ -29,9 +29,9 @@ one_still A B s one i live =
     ))
     (one i (was_live A B s i live))
 
-pub kept_aged : (width : ℕ) (p q : Plan) (A B : List Node) → q ≡ p → AreAsLive A B
+pub kept_reclaimed : (width : ℕ) (p q : Plan) (A B : List Node) → q ≡ p → AreAsLive A B
     → IsKept width p A → IsKept width q B
-kept_aged width p q A B planned s kept = record {
+kept_reclaimed width p q A B planned s kept = record {
   of_cell = subst (IsOfCell width) (sym planned) kept.of_cell;
   linked = ap (λ (cells : List ℕ). length cells) (s.links 0) ∙ kept.linked;
   one = one_still A B s kept.one;
@@ -96,21 +96,21 @@ tended_along_one holds p A root one t =
     subst (λ (n : ℕ). AreTended holds any n 1 A) root
     (subst (λ (n : ℕ). AreTended holds any p.roots n A) one t)
 
-pub kept_first : (width : ℕ) (p : Plan) (keeper : Watching Planned) (first : List ℕ)
+pub kept_first : (width : ℕ) (p : Plan) (writer : Watching Planned) (first : List ℕ)
     → p.roots ≡ 1
     → p.links ≡ 1
     → p.words ≡ width
     → 2 < p.nodes
-    → keeper.view.client.plan ≡ p
-    → nodes_in keeper.view.client.known ≡ first_nodes p.links p.words (λ _. first) p.roots p.nodes
-    → IsKept width keeper.view.client.plan (nodes_in keeper.view.client.known)
-kept_first width p keeper first root one words several planned nodes =
-    let is : nodes_in keeper.view.client.known ≡ first_nodes 1 p.words (λ _. first) 1 p.nodes =
+    → writer.view.client.plan ≡ p
+    → nodes_in writer.view.client.known ≡ first_nodes p.links p.words (λ _. first) p.roots p.nodes
+    → IsKept width writer.view.client.plan (nodes_in writer.view.client.known)
+kept_first width p writer first root one words several planned nodes =
+    let is : nodes_in writer.view.client.known ≡ first_nodes 1 p.words (λ _. first) 1 p.nodes =
     nodes
     ∙ (ap (λ (n : ℕ). first_nodes n p.words (λ _. first) p.roots p.nodes) one
     ∙ ap (λ (n : ℕ). first_nodes 1 p.words (λ _. first) n p.nodes) root) in
     let some : 0 < p.nodes = omega (arith, several) in
-    subst (λ (q : Plan). IsKept width q (nodes_in keeper.view.client.known)) (sym planned)
+    subst (λ (q : Plan). IsKept width q (nodes_in writer.view.client.known)) (sym planned)
     (subst (λ (l : List Node). IsKept width p l) (sym is) (record {
       of_cell = record { root = root; one = one; words = words; several = several };
       linked = linked_first p.words p.nodes (λ _. first) some;

@@ -1,4 +1,4 @@
--- The nodes of a cell after an update: the new version is shown, and the old one is left.
+-- The nodes of a cell after an update: the new version is shown, and the old one is unlinked.
 use Rattle.std.proofs.Common.{◌≡◌, ◌≢◌, ℕ, zero, suc, ◌<◌, ◌≤◌, ⊎_elim, List, length, None}
 use Rattle.std.proofs.Common.{refl, sym, ap, ◌∙◌, subst, inl, inr, arith, length-set}
 use Rattle.std.specs.Prelude.{slice_index}
@@ -7,23 +7,23 @@ use mathlib.Core.Logic.{dite}
 use native.Mathlib.Decide.{ℕ_discrete}
 use Rattle.rcu_live.specs.Watcher.{Watching}
 use Rattle.rcu_graph.specs.Absence.{next_of}
-use Rattle.rcu_graph.specs.Keeper.{after_store}
+use Rattle.rcu_graph.specs.Writer.{after_store}
 use Rattle.rcu_graph.specs.Nodes.{in_state, linked_to, no_node, node_at, nodes_in, renewed}
 use Rattle.rcu_graph.specs.Nodes.{state_at}
 use Rattle.rcu_graph.specs.Puts.{HasPut, put}
-use Rattle.rcu_graph.specs.Tended.{AreTended, AreTrimmed}
+use Rattle.rcu_graph.specs.Tended.{AreCollected, AreTended}
 use Rattle.rcu_graph.specs.declared.known.Node.{Node}
 use Rattle.rcu_graph.specs.declared.known.Planned.{Planned}
-use Rattle.rcu_graph.specs.declared.node_state.NodeState.TheVariants.{Free, Left, Live}
+use Rattle.rcu_graph.specs.declared.node_state.NodeState.TheVariants.{Free, Live, Unlinked}
 use Rattle.rcu_graph.specs.declared.plan.Plan.{Plan}
 use Rattle.rcu_graph.proofs.Counting.{live_inside, other_node, same_node}
 use Rattle.rcu_graph.proofs.PutNodes.{before, elsewhere, few_put, here}
 use Rattle.rcu_graph.proofs.Puts.{not_free}
 use Rattle.rcu_graph.proofs.Tending.{at_here}
-use Rattle.rcu_graph.proofs.States.{not_left}
+use Rattle.rcu_graph.proofs.States.{not_unlinked}
 use Rattle.rcu_cell.specs.Cell.{slot_of}
-use Rattle.rcu_cell.specs.Keeper.{Updated}
-use Rattle.rcu_cell.specs.Versions.{IsKept, IsOneShown, left_in, shown_in}
+use Rattle.rcu_cell.specs.Writer.{Updated}
+use Rattle.rcu_cell.specs.Versions.{IsKept, IsOneShown, shown_in, unlinked_in}
 use Rattle.rcu_cell.proofs.Kept.{any, shown_live, tended_along_one}
 
 same_parts : (v w : Node) → v.state ≡ w.state → v.links ≡ w.links → v.words ≡ w.words → v ≡ w
@@ -38,7 +38,7 @@ module _ (fits : List ℕ → Type 0) (joins : ℕ → List ℕ → List ℕ →
     (words : List ℕ) (low : by < length A) (free : state_at A by ≡ Free)
     (tended : AreTended fits joins 1 1 A) (single : length (node_at A 0).links ≡ 1)
     (one : IsOneShown A) (kept : AreTended fits joins 1 1 B)
-    (t : AreTrimmed 1 1 (put A 0 by words None) B) where
+    (t : AreCollected 1 1 (put A 0 by words None) B) where
   abbrev S : List Node
   S = put A 0 by words None
 
@@ -69,7 +69,7 @@ module _ (fits : List ℕ → Type 0) (joins : ℕ → List ℕ → List ℕ →
 
   was_live : (i : ℕ) → state_at B i ≡ Live → state_at S i ≡ Live
   was_live i live = ⊎_elim (λ (same : state_at B i ≡ state_at S i). sym same ∙ live)
-      (λ (left : (1 ≤ i) × (state_at S i ≡ Live) × (state_at B i ≡ Left)). left.1)
+      (λ (left : (1 ≤ i) × (state_at S i ≡ Live) × (state_at B i ≡ Unlinked)). left.1)
       (t.states i)
 
   -- a live node of these that leads to another one is the root
@@ -101,10 +101,11 @@ module _ (fits : List ℕ → Type 0) (joins : ℕ → List ℕ → List ℕ →
       let r = kept.led 0 0 (kept.rooted 0 (omega arith)) (omega arith) by (next_same 0 ∙ leads) in
       ap (λ (v : Node). v.state) (at_here B by r.0 r.1) ∙ r.2
 
-  -- only the slot that was shown is left
-  left_is_shown : (i : ℕ) → 1 ≤ i → state_at S i ≡ Live → state_at B i ≡ Left → i ≡ shown_in A
-  left_is_shown i past live left = dite (ℕ_discrete i by)
-      (λ (is : i ≡ by). absurd (not_left (state_at B i) (ap (state_at B) is ∙ by_live) left))
+  -- only the slot that was shown is unlinked
+  unlinked_is_shown : (i : ℕ) → 1 ≤ i → state_at S i ≡ Live → state_at B i ≡ Unlinked
+      → i ≡ shown_in A
+  unlinked_is_shown i past live left = dite (ℕ_discrete i by)
+      (λ (is : i ≡ by). absurd (not_unlinked (state_at B i) (ap (state_at B) is ∙ by_live) left))
       (λ (nb : i ≢ by).
       let nr : i ≢ 0 = λ e. omega (arith, e, past) in
       ⊎_elim (λ (root : i ≡ 0). absurd (nr root))
@@ -114,46 +115,46 @@ module _ (fits : List ℕ → Type 0) (joins : ℕ → List ℕ → List ℕ →
   stays : (i : ℕ) → (1 ≤ i → i ≢ shown_in A) → node_at B i ≡ node_at S i
   stays i ne = same_parts (node_at B i) (node_at S i)
       (⊎_elim (λ (same : state_at B i ≡ state_at S i). same)
-      (λ (left : (1 ≤ i) × (state_at S i ≡ Live) × (state_at B i ≡ Left)).
-      absurd (ne left.0 (left_is_shown i left.0 left.1 left.2)))
+      (λ (left : (1 ≤ i) × (state_at S i ≡ Live) × (state_at B i ≡ Unlinked)).
+      absurd (ne left.0 (unlinked_is_shown i left.0 left.1 left.2)))
       (t.states i))
       (t.links_stay i) (t.words_stay i)
 
   -- and it is
-  leaves : (o : ℕ) → 1 ≤ o → o ≡ shown_in A → node_at B o ≡ in_state Left (node_at S o)
-  leaves o past is =
+  unlinks : (o : ℕ) → 1 ≤ o → o ≡ shown_in A → node_at B o ≡ in_state Unlinked (node_at S o)
+  unlinks o past is =
       let live : state_at A o ≡ Live = ap (state_at A) is ∙ shown_live fits joins A tended in
       let nb : o ≢ by = not_free A by o free live in
       let nr : o ≢ 0 = λ e. omega (arith, e, past) in
       let stored : state_at S o ≡ Live = ap (λ (v : Node). v.state) (other o nb nr) ∙ live in
-      same_parts (node_at B o) (in_state Left (node_at S o))
+      same_parts (node_at B o) (in_state Unlinked (node_at S o))
       (⊎_elim (λ (same : state_at B o ≡ state_at S o).
       absurd (nb (live_is_by o past (same ∙ stored))))
-      (λ (left : (1 ≤ o) × (state_at S o ≡ Live) × (state_at B o ≡ Left)). left.2)
+      (λ (left : (1 ≤ o) × (state_at S o ≡ Live) × (state_at B o ≡ Unlinked)). left.2)
       (t.states o))
       (t.links_stay o) (t.words_stay o)
 
   many : length S ≡ length A
   many = few_put A 0 inside by words None low apart
 
-  pub after_put : B ≡ left_in (shown_in A) S
+  pub after_put : B ≡ unlinked_in (shown_in A) S
   after_put = go (shown_in A) refl
     where
-      go : (s : ℕ) → shown_in A ≡ s → B ≡ left_in s S
+      go : (s : ℕ) → shown_in A ≡ s → B ≡ unlinked_in s S
       go zero e = ext_get_or no_node B S t.few (λ i bound. stays i (λ past is. absurd (
           let z = is ∙ e in omega (arith, past, z))))
-      go (suc k) e = ext_get_or no_node B (renewed S (suc k) (in_state Left))
-          (t.few ∙ sym (length-set S (suc k) (in_state Left (node_at S (suc k)))))
+      go (suc k) e = ext_get_or no_node B (renewed S (suc k) (in_state Unlinked))
+          (t.few ∙ sym (length-set S (suc k) (in_state Unlinked (node_at S (suc k)))))
           (λ i bound. dite (ℕ_discrete i (suc k))
           (λ (is : i ≡ suc k).
           let few = t.few in
           ap (node_at B) is
-          ∙ (leaves (suc k) (omega arith) (sym e)
-          ∙ (sym (same_node S (suc k) (in_state Left) (omega (arith, bound, is, few)))
-          ∙ ap (node_at (renewed S (suc k) (in_state Left))) (sym is))))
+          ∙ (unlinks (suc k) (omega arith) (sym e)
+          ∙ (sym (same_node S (suc k) (in_state Unlinked) (omega (arith, bound, is, few)))
+          ∙ ap (node_at (renewed S (suc k) (in_state Unlinked))) (sym is))))
           (λ (ne : i ≢ suc k).
           stays i (λ past is. ne (is ∙ e))
-          ∙ sym (other_node S (suc k) i (in_state Left) ne)))
+          ∙ sym (other_node S (suc k) i (in_state Unlinked) ne)))
 
   -- one version is shown still
   pub one_put : IsOneShown B
@@ -168,7 +169,7 @@ module _ (fits : List ℕ → Type 0) (joins : ℕ → List ℕ → List ℕ →
       ∙ (ap (λ (v : Node). length v.links) at_root
       ∙ (length-set (node_at A 0).links 0 (suc by) ∙ single))
 
--- what a keeper of a cell put in: it keeps that, and showed it
+-- what a writer of a cell put in: it keeps that, and showed it
 module _ (holds : List ℕ → Type 0) (width : ℕ) (before now : Watching Planned)
     (k : IsKept width before.view.client.plan (nodes_in before.view.client.known))
     (few : length (nodes_in before.view.client.known) ≡ before.view.client.plan.nodes)
@@ -193,9 +194,9 @@ module _ (holds : List ℕ → Type 0) (width : ℕ) (before now : Watching Plan
   tended_B : AreTended holds any 1 1 B
   tended_B = subst (λ (n : ℕ). AreTended holds any n 1 B) k.of_cell.root done.kept.tended
 
-  trimmed : AreTrimmed 1 1 (put A 0 by words None) B
-  trimmed = subst (λ (n : ℕ). AreTrimmed n 1 (put A 0 by words None) B) k.of_cell.root
-      done.trimmed
+  collected : AreCollected 1 1 (put A 0 by words None) B
+  collected = subst (λ (n : ℕ). AreCollected n 1 (put A 0 by words None) B) k.of_cell.root
+      done.collected
 
   pub kept_put : IsKept width now.view.client.plan B
   kept_put =
@@ -204,9 +205,9 @@ module _ (holds : List ℕ → Type 0) (width : ℕ) (before now : Watching Plan
       (record {
         of_cell = k.of_cell;
         linked = linked_put holds any A B by words low done.free tended_A k.linked k.one tended_B
-            trimmed;
+            collected;
         one = one_put holds any A B by words low done.free tended_A k.linked k.one tended_B
-            trimmed;
+            collected;
       })
 
   pub updated : (slot : ℕ) → slot ≡ shown_in A
@@ -217,6 +218,6 @@ module _ (holds : List ℕ → Type 0) (width : ℕ) (before now : Watching Plan
     state =
         done.state
         ∙ ap (λ (l : List Node). after_store before (put A 0 by words None) l)
-        (after_put holds any A B by words low done.free tended_A k.linked k.one tended_B trimmed
-        ∙ ap (λ (n : ℕ). left_in n (put A 0 by words None)) (sym is));
+        (after_put holds any A B by words low done.free tended_A k.linked k.one tended_B collected
+        ∙ ap (λ (n : ℕ). unlinked_in n (put A 0 by words None)) (sym is));
   }

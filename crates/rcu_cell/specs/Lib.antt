@@ -1,6 +1,6 @@
 pub mod Cell
 pub mod Versions
-pub mod Keeper
+pub mod Writer
 pub mod Opening
 pub mod Waits
 pub mod Lent

@@ -5,8 +5,8 @@ use Rattle.rcu_graph.specs.Opening.{IsSized}
 use Rattle.rcu_graph.specs.Planned.{plan_of}
 use Rattle.rcu_graph.specs.declared.known.Planned.{Planned}
 use Rattle.rcu_graph.specs.declared.plan.Plan.{Plan}
-use Rattle.rcu_cell.specs.Keeper.{Updated}
-use Rattle.rcu_cell.specs.declared.keeper.Retired.{Retired}
+use Rattle.rcu_cell.specs.Writer.{Updated}
+use Rattle.rcu_cell.specs.declared.writer.Retired.{Retired}
 
 -- the plan of a cell of so many slots, for versions of so many words: the root is a node more
 abbrev pub plan_of_cell : ℕ → ℕ → Plan
@@ -18,8 +18,8 @@ pub record HasSizes (width slots : ℕ) : Type 0 where
   pub several : 1 < slots
   pub sized : IsSized (plan_of_cell width slots)
 
--- the keeper's first update showed these words in place of the root's
-pub record ShowsFirst (keeper : Watching Planned) (words : List ℕ)
+-- the writer's first update showed these words in place of the root's
+pub record ShowsFirst (writer : Watching Planned) (words : List ℕ)
     (now : Watching Planned) : Type 0 where
   pub retired : Retired
-  pub updated : Updated keeper words retired now
+  pub updated : Updated writer words retired now

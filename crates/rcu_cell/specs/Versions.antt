@@ -1,9 +1,9 @@
--- The versions of a cell, as its keeper knows the nodes.
+-- The versions of a cell, as its writer knows the nodes.
 use Rattle.std.specs.Prelude.{◌≡◌, ◌⊎◌, ◌<◌, ℕ, zero, suc, List, length}
 use Rattle.rcu_graph.specs.Absence.{next_of}
 use Rattle.rcu_graph.specs.Nodes.{in_state, node_at, renewed, state_at}
 use Rattle.rcu_graph.specs.declared.known.Node.{Node}
-use Rattle.rcu_graph.specs.declared.node_state.NodeState.TheVariants.{Left, Live}
+use Rattle.rcu_graph.specs.declared.node_state.NodeState.TheVariants.{Live, Unlinked}
 use Rattle.rcu_graph.specs.declared.plan.Plan.{Plan}
 use Rattle.rcu_cell.specs.Cell.{slot_of}
 
@@ -31,12 +31,12 @@ pub record AreVersions (holds : List ℕ → Type 0) (nodes : List Node) : Type 
   pub one : IsOneShown nodes
   pub whole : holds (node_at nodes (shown_in nodes)).words
 
--- a slot was left, unless it is the root
-abbrev pub left_in : ℕ → List Node → List Node
-left_in zero nodes = nodes
-left_in (suc i) nodes = renewed nodes (suc i) (in_state Left)
+-- a slot was unlinked, unless it is the root
+abbrev pub unlinked_in : ℕ → List Node → List Node
+unlinked_in zero nodes = nodes
+unlinked_in (suc i) nodes = renewed nodes (suc i) (in_state Unlinked)
 
--- what a keeper of a cell keeps
+-- what a writer of a cell keeps
 pub record IsKept (width : ℕ) (plan : Plan) (nodes : List Node) : Type 0 where
   pub of_cell : IsOfCell width plan
   pub linked : length (node_at nodes 0).links ≡ 1

@@ -7,11 +7,11 @@ use Rattle.rcu_graph.specs.Puts.{IsFreeNode}
 use Rattle.rcu_graph.specs.Tended.{AreAllUsed}
 use Rattle.rcu_graph.specs.Waits.{HasMadeRoom}
 use Rattle.rcu_graph.specs.declared.known.Planned.{Planned}
-use Rattle.rcu_cell.specs.Keeper.{Updated}
+use Rattle.rcu_cell.specs.Writer.{Updated}
 use Rattle.rcu_cell.specs.Versions.{shown_in}
-use Rattle.rcu_cell.specs.declared.keeper.Retired.{Retired}
+use Rattle.rcu_cell.specs.declared.writer.Retired.{Retired}
 
--- the keeper waited until a slot was free, and then published the words in one
+-- the writer waited until a slot was free, and then published the words in one
 pub record UpdatedLater {C : Type 0} (seat now : Seated C) (before : Watching Planned)
     (words : List ℕ) (retired : Retired) (after : Watching Planned) : Type 0 where
   pub looked : Watching Planned

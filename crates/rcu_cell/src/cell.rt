@@ -49,8 +49,8 @@ impl<F: Version<W>, const W: usize, P: Within<CellRule<F, W>>> Cell<F, W, P> {
         Cell { graph }
     }
 
-    /// Returns where the nodes' links and words are, by constants: what waits for a load multiplies
-    /// by no other number.
+    /// Returns the layout of the nodes' links and words, by constants: so no multiplication by
+    /// another number waits for a load.
     fn layout(&self) -> Layout
         ensures { result ≡ layout_of self.now }
     {

@@ -4,7 +4,7 @@ ghost use Rattle.std.specs.Arc.{arc_value};
 ghost use Rattle.rcu_live.specs.InPart.{engine_part, watcher_part};
 ghost use Rattle.rcu_live.specs.Watcher.{after_word_step};
 ghost use Rattle.rcu_graph.specs.Joining.{CanJoin};
-ghost use Rattle.rcu_graph.specs.Keeper.{IsKeeperOf};
+ghost use Rattle.rcu_graph.specs.Writer.{IsWriterOf};
 ghost use Rattle.rcu_graph.specs.Opening.{claimed_first};
 ghost use Rattle.rcu_graph.specs.Planned.{of_plan};
 ghost use Rattle.rcu_graph.specs.declared.known.Known.TheVariants.{Idle};
@@ -21,7 +21,7 @@ use std::sync::Arc;
 
 impl<F: Version<W>, const W: usize, P: Within<CellRule<F, W>>> Cell<F, W, P> {
     /// Returns the cell at this place of an engine that was opened by this plan, and the watcher
-    /// that its keeper takes ([`Graph::join`]).
+    /// that its writer takes ([`Graph::join`]).
     pub fn join(
         board: &Arc<Board<P::Whole>, Global>,
         own: &mut CellWatcher<F, W, P>,
@@ -34,16 +34,16 @@ impl<F: Version<W>, const W: usize, P: Within<CellRule<F, W>>> Cell<F, W, P> {
         requires version { (P.own_plan plan).words ≡ W }
         ensures cell { IfOk result (λ joined.
             joined.0 ≡ engine_part P.own_plan P.begins (arc_value board.now)) }
-        ensures keeper { IfOk result (λ joined.
-            IsKeeperOf joined.0 (watcher_part P.lens joined.1)) }
+        ensures writer { IfOk result (λ joined.
+            IsWriterOf joined.0 (watcher_part P.lens joined.1)) }
         ensures claimed { IfOk result (λ joined. P.lens.get joined.1.view.client
             ≡ claimed_first (λ _. F.first) (P.own_plan plan)) }
         ensures left { OnOk result (own.new ≡ after_word_step own.old
             (P.lens.set own.old.view.client (of_plan (P.own_plan plan) Idle))) }
         ensures unchanged { OnErr result (own.new ≡ own.old) }
     {
-        let (graph, keeper) = Graph::join(board, own, plan)?;
-        Ok((Cell::over(graph), keeper))
+        let (graph, writer) = Graph::join(board, own, plan)?;
+        Ok((Cell::over(graph), writer))
     }
 }
 

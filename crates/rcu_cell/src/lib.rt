@@ -4,17 +4,17 @@
 
 pub mod cell;
 mod joining;
-pub mod keeper;
-mod keeper_waits;
 pub mod opening;
 mod section;
 pub mod shape;
 pub mod version_guard;
 mod version_reads;
+pub mod writer;
+mod writer_waits;
 
 pub use cell::Cell;
-pub use keeper::{Keeper, Retired};
 pub use opening::Opened;
 pub use rcu_graph::{Full, Invariant, NotOpened, Value};
 pub use shape::{CellRule, CellSeat, CellWatcher, OneLink, Version};
 pub use version_guard::VersionGuard;
+pub use writer::{Retired, Writer};

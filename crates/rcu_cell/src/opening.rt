@@ -3,9 +3,9 @@ ghost use Rattle.std.specs.Prelude.{◌≡◌, ◌↔◌, ◌+◌, ◌*◌, ◌^
 ghost use Rattle.rcu_geometry.specs.Opening.{opening_refusal};
 ghost use Rattle.rcu_live.specs.Opening.{AreDealt, AreFanouts};
 ghost use Rattle.rcu_graph.specs.Graph.{IsWatcherOf};
-ghost use Rattle.rcu_graph.specs.Keeper.{IsKeeperOf};
+ghost use Rattle.rcu_graph.specs.Writer.{IsWriterOf};
 ghost use Rattle.rcu_graph.specs.Nodes.{first_place};
-ghost use Rattle.rcu_graph.specs.Opening.{keeper_at_first, tested_opening};
+ghost use Rattle.rcu_graph.specs.Opening.{tested_opening, writer_at_first};
 ghost use Rattle.rcu_graph.specs.Planned.{of_plan};
 ghost use Rattle.rcu_graph.specs.Steps.{IsClaimed};
 ghost use Rattle.rcu_graph.specs.declared.known.Known.TheVariants.{Idle};
@@ -13,8 +13,8 @@ ghost use Rattle.rcu_graph.specs.declared.not_opened.NotOpened.{NotOpened};
 ghost use Rattle.rcu_cell.specs.Opening.{HasSizes, ShowsFirst, plan_of_cell};
 
 use crate::cell::Cell;
-use crate::keeper::Keeper;
 use crate::shape::{CellRule, CellSeat, CellWatcher, Version};
+use crate::writer::Writer;
 use rcu_graph::{Graph, NotOpened, Plan};
 use rcu_live::Live;
 use rcu_seq::Fault;
@@ -37,33 +37,33 @@ pub(crate) fn plan_of(width: usize, slots: usize) -> Option<Plan>
     })
 }
 
-/// The keeper of a cell whose nodes are as at first, once it shows these words.
+/// The writer of a cell whose nodes are as at first, once it shows these words.
 fn keep<F: Version<W>, const W: usize>(
     alloc: Global,
     cell: &Cell<F, W>,
     seat: CellWatcher<F, W>,
     words: &[u64; W],
-) -> Result<Keeper<F, W>, AllocError>
-    requires keeper { IsKeeperOf cell.now seat }
+) -> Result<Writer<F, W>, AllocError>
+    requires writer { IsWriterOf cell.now seat }
     requires nodes { IsClaimed (λ _. F.first) cell.now.plan.roots cell.now.plan.links
         cell.now.plan.words cell.now.plan.nodes seat.view.client.known }
     requires several { 2 < cell.now.plan.nodes }
     requires whole { F.holds words.now }
-    ensures { IfOk result (λ keeper. ShowsFirst seat words.now keeper) }
+    ensures { IfOk result (λ writer. ShowsFirst seat words.now writer) }
 {
     // A borrow of a field shows the prover what the type keeps: that there is one root.
     let _ = &cell.graph;
-    let mut keeper = Keeper::new(alloc, cell, seat)?;
-    let Ok(_) = keeper.update(words) else {
+    let mut writer = Writer::new(alloc, cell, seat)?;
+    let Ok(_) = writer.update(words) else {
         unreachable!()
     };
-    Ok(keeper)
+    Ok(writer)
 }
 
 /// A cell as it is opened, with its engine.
 #[derive(Drop)]
 pub struct Opened<L: Drop, F: Version<W>, const W: usize> {
-    /// The engine, which threads share. Somebody has to drive it.
+    /// The engine, which threads share. A thread has to drive it.
     pub live: L,
     /// The cell, which its seats read.
     pub cell: Cell<F, W>,
@@ -71,8 +71,8 @@ pub struct Opened<L: Drop, F: Version<W>, const W: usize> {
     pub seats: Vec<CellSeat<F, W>>,
     /// A watcher a processor.
     pub watchers: Vec<CellWatcher<F, W>>,
-    /// Who publishes versions.
-    pub keeper: Keeper<F, W>,
+    /// The writer, which publishes versions.
+    pub writer: Writer<F, W>,
 }
 
 impl<F: Version<W>, const W: usize> Cell<F, W> {
@@ -99,10 +99,10 @@ impl<F: Version<W>, const W: usize> Cell<F, W> {
             opened.seats.items opened.watchers.items) }
         ensures plan { IfOk result (λ opened. opened.cell.plan ≡ plan_of_cell W slots) }
         ensures live { IfOk result (λ opened. opened.live ≡ opened.cell) }
-        ensures keeper { IfOk result (λ opened. IsWatcherOf opened.cell opened.keeper) }
+        ensures writer { IfOk result (λ opened. IsWatcherOf opened.cell opened.writer) }
         ensures shown { IfOk result (λ opened. ShowsFirst
-            (keeper_at_first (λ _. F.first) opened.cell.table cpus (plan_of_cell W slots))
-            words.now opened.keeper) }
+            (writer_at_first (λ _. F.first) opened.cell.table cpus (plan_of_cell W slots))
+            words.now opened.writer) }
     {
         let Some(plan) = plan_of(W, slots) else {
             return Err(NotOpened::BadSizes);
@@ -117,7 +117,7 @@ impl<F: Version<W>, const W: usize> Cell<F, W> {
             own,
         } = opened;
         let cell = Cell::over(graph);
-        let Ok(keeper) = keep(alloc, &cell, own, words) else {
+        let Ok(writer) = keep(alloc, &cell, own, words) else {
             return Err(NotOpened::Fault(Fault::NoMemory));
         };
         Ok(Opened {
@@ -125,7 +125,7 @@ impl<F: Version<W>, const W: usize> Cell<F, W> {
             cell,
             seats,
             watchers,
-            keeper,
+            writer,
         })
     }
 }

@@ -45,7 +45,7 @@ impl<F: Version<W>, const W: usize, P: Within<CellRule<F, W>>> Cell<F, W, P> {
 }
 
 impl<F: Value<W> + Version<W>, const W: usize, P: Within<CellRule<F, W>>> Cell<F, W, P> {
-    /// The value that is shown, by one load, and one a word, in an open section.
+    /// Returns the value that is shown, by one load, and one a word, in an open section.
     pub fn value(&self, seat: &mut CellSeat<F, W, P>) -> F
         requires { IsWalking self.now (seat_part P.lens seat.old) }
         ensures state { ReadsOn P.lens self.now seat.old seat.new }

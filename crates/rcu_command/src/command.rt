@@ -14,7 +14,7 @@ use grammar::rcu_command;
 use rcu_script::Setup;
 use std::alloc::Global;
 
-/// What the program is to do.
+/// An order to the program.
 #[derive(Clone, Copy, Debug, PartialEq, Eq)]
 pub enum Order {
     /// Reply to a script of lines.
@@ -29,8 +29,8 @@ pub enum Order {
 /// Reads the program's arguments, which are the words without its name.
 ///
 /// An error is `clap`'s: its text says what is wrong with the words, or is the help that they ask
-/// for. The kind `OutOfMemory` stands for an allocation that was refused, and tests show that it
-/// comes only then. The cost is `clap`'s, for each word.
+/// for. The kind `OutOfMemory` means that an allocation was refused, and tests show that it comes
+/// only then. The cost is `clap`'s, for each word.
 pub fn read_command<'a>(alloc: Global, words: &'a [&'a str]) -> Result<Order, Error>
     ensures order { IfOk result (IsOrderOf (subcommand_of rcu (map (λ word. word.now) words.now))) }
     ensures limits { IfOk result IsWithinLimits }
@@ -40,7 +40,7 @@ pub fn read_command<'a>(alloc: Global, words: &'a [&'a str]) -> Result<Order, Er
     Ok(order_of(&matches).unwrap())
 }
 
-/// What the subcommand that `clap` met orders.
+/// Returns the order of the subcommand that `clap` found.
 #[tactic(auto, using(crate::proofs::CommandLemmas::no_order))]
 fn order_of(matches: &ArgMatches<'_>) -> Option<Order>
     ensures { let met = subcommand_rows_of matches.now in
@@ -59,7 +59,7 @@ fn order_of(matches: &ArgMatches<'_>) -> Option<Order>
     }
 }
 
-/// The setup that the options give. Those of the second replica's tree have these names.
+/// Returns the setup that the options give. Those of the second replica's tree have these names.
 fn setup_of(matches: &ArgMatches<'_>, leaf2: &str, inner2: &str) -> Option<Setup>
     ensures { let rows = rows_of (found_of matches.now) in
         MatchOption result (HasNoSetup leaf2.now inner2.now rows)
@@ -75,14 +75,14 @@ fn setup_of(matches: &ArgMatches<'_>, leaf2: &str, inner2: &str) -> Option<Setup
     })
 }
 
-/// The option's number, where its text is read as one.
+/// Returns the option's number, if its text is one.
 fn u32_of(matches: &ArgMatches<'_>, id: &str) -> Option<u32>
     ensures { result ≡ number_up_to u32_max (rows_of (found_of matches.now)) id.now }
 {
     matches.get_one(id)
 }
 
-/// The option's number of 64 bits, where its text is read as one.
+/// Returns the option's number of 64 bits, if its text is one.
 fn u64_of(matches: &ArgMatches<'_>, id: &str) -> Option<u64>
     ensures { result ≡ number_up_to u64_max (rows_of (found_of matches.now)) id.now }
 {

@@ -29,7 +29,7 @@ impl fmt::Display for Reason<'_> {
     }
 }
 
-/// Writes the options that the fault speaks of, those of a second tree too where there is one.
+/// Writes the options that the fault is about, also those of a second tree if there is one.
 fn write_options<W: fmt::Write>(
     f: &mut fmt::Formatter<W>,
     fault: Fault,

@@ -1,4 +1,4 @@
-//! What the words of the laws say: where each holds, and where it does not.
+//! The definitions that the laws name: a case in which each holds, and one in which it does not.
 ghost use Rattle.std.specs.Prelude.{◌≡◌, ◌≢◌, ◌<◌, ◌≤◌, [], ◌∷◌, ℕ, List, None, Some, slice_index};
 ghost use mathlib.Core.Option.{some};
 ghost use lib.ListN.{get_elem?};
@@ -11,8 +11,8 @@ ghost use Rattle.rcu_defer.specs.Moments.{HasOpen, IsMoment, Moment, calls_of};
 
 use rcu_live::Client;
 
-/// A moment of a thread's call is one where the engine's rule holds, and where the call is a tend,
-/// it is at the number of then. Calls come in the order of their moments.
+/// At a moment of a thread's call the engine's rule holds, and a tend is at the number of that
+/// moment. Calls come in the order of their moments.
 pub fn a_tend_is_at_the_number_of_its_moment<T, P: Client>()
     ensures tend { (plan : P.Plan) (cpus : ℕ) (m : Moment P.Known T) →
         IsKept (P.holds plan) cpus m.state →
@@ -31,8 +31,8 @@ pub fn a_tend_is_at_the_number_of_its_moment<T, P: Client>()
         calls_of (m ∷ earlier) ≡ m.call ∷ calls_of earlier }
 {}
 
-/// A seat has a section open at a moment where its view shows one that began at this number, and
-/// none where that shows none.
+/// A seat has a section open at a moment if its view shows one that began at this number, and none
+/// if the view shows none.
 pub fn a_moment_has_the_sections_that_its_views_show<T, P: Client>()
     ensures open { (m : Moment P.Known T) (seat : ℕ) (at : Number) (view : View P.Known) →
         get_elem? m.state.views seat ≡ some view → view.role ≡ Cpu → view.section ≡ Some at →
@@ -41,8 +41,8 @@ pub fn a_moment_has_the_sections_that_its_views_show<T, P: Client>()
         get_elem? m.state.views seat ≡ some view → view.section ≡ None → HasOpen seat at m → ⊥ }
 {}
 
-/// The numbers of the tends never fall where each is no less than that of the tend before. A
-/// deferral and a take have none.
+/// The numbers of the tends never fall if each is no less than that of the tend before. A deferral
+/// and a take have none.
 pub fn numbers_never_fall_where_each_is_no_less<T>()
     ensures none { NeverFalls {X = T} [] }
     ensures defer { (calls : List (Call T)) (value : T) → NeverFalls calls →

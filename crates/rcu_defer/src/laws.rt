@@ -1,4 +1,4 @@
-//! What deferrals promise over all that a thread does to them.
+//! The laws of deferral, over all calls that a thread makes.
 ghost use Rattle.std.specs.Prelude.{◌≡◌, ℕ, ◌<◌, ◌≤◌, ◌++◌, All, IfSome, List, length};
 ghost use Rattle.std.specs.Prelude.{slice_get, take, true};
 ghost use Rattle.rcu_seq.specs.Numbers.{Number};
@@ -13,7 +13,7 @@ use rcu_live::Client;
 use rcu_live::laws::readers_finish_before_done;
 use rcu_seq::laws::done_means_a_full_grace_period;
 
-/// The numbers that are due are the longest front of those that are reached.
+/// The due deferrals are the longest front of those whose number has been reached.
 pub fn due_is_the_longest_front()
     ensures front { (n : Number) (us : List Number) →
         All (λ until. until ≤ n) (take (due n us) us) }
@@ -21,8 +21,8 @@ pub fn due_is_the_longest_front()
         IfSome (slice_get us (due n us)) (λ until. n < until) }
 {}
 
-/// Each deferral is counted once: those that were taken out are among those that are done, and
-/// these, those that wait and those that came since the last tend are all there were.
+/// Each deferral is counted once: those taken out are among those that are done, and the ones that
+/// are done, that wait, and that came since the last tend are all of them.
 pub fn deferrals_are_counted_once<T>()
     ensures taken { (calls : List (Call T)) →
         (marks_after calls).taken ≤ (marks_after calls).done }
@@ -30,9 +30,10 @@ pub fn deferrals_are_counted_once<T>()
         deferred_of (marks_after calls) ≡ length (deferred_in calls) }
 {}
 
-/// No value comes early: a deferral that is done came before a tend, and a full grace period lies
-/// between that one and a later one: whichever begins and ends led the engine's number from the one
-/// to the other, one began among them and ended. Those that were taken out are done.
+/// No value comes early: a full grace period lies between its deferral and the tend at which it is
+/// done. More exactly: it was deferred before a tend, and the number at a later tend has reached
+/// the first tend's snapshot; whichever begins and ends led from the one number to the other, a
+/// grace period began among them and ended. A value that was taken out is done.
 pub fn no_value_comes_early<T>()
     ensures waited { (calls : List (Call T)) (k : ℕ) → k < (marks_after calls).done →
         HasWaited calls k }
@@ -44,16 +45,16 @@ pub fn no_value_comes_early<T>()
     done_means_a_full_grace_period();
 }
 
-/// Where the numbers of the tends never fall, none is done late: one that came before a tend is
-/// done once a full grace period lies between that one and a later one.
+/// No deferral is done late: if the numbers of the tends never fall, as a `Deferrer`'s do not, a
+/// deferral that came before a tend is done once a full grace period lies between that tend and a
+/// later one.
 pub fn deferrals_that_waited_are_done<T>()
     ensures { (calls : List (Call T)) (k : ℕ) → NeverFalls calls → HasWaited calls k →
         k < (marks_after calls).done }
 {}
 
-/// No value comes twice: those that were taken out are the first ones of those that were deferred,
-/// in order. The marks of the list are those of its calls, so the value that is taken out as the
-/// i-th is that of the i-th deferral.
+/// No value comes twice: the values taken out are the first ones deferred, in order. The marks of
+/// the list are those of its calls, so the i-th value taken out is that of the i-th deferral.
 pub fn no_value_comes_twice<T: Drop>()
     ensures first { (calls : List (Call T)) →
         taken_in calls ≡ take (length (taken_in calls)) (deferred_in calls) }
@@ -63,16 +64,18 @@ pub fn no_value_comes_twice<T: Drop>()
         (list_after calls).marks ≡ marks_after calls }
 {}
 
-/// No value is lost: what was taken out, and then what is in the list, is what was deferred, in
-/// order.
+/// No value is lost: the values taken out, followed by those in the list, are the values deferred,
+/// in order.
 pub fn no_value_is_lost<T: Drop>()
     ensures { (calls : List (Call T)) →
         taken_in calls ++ (list_after calls).values ≡ deferred_in calls }
 {}
 
-/// A thread defers, tends and takes at moments of the engine, at each of which the engine's rule
-/// holds. While a section stays open, no more is done than was deferred before: so each section
-/// that was open at a deferral has ended if that is done, and if it is taken out.
+/// Sections end before deferrals are done: while a section stays open, only values that were
+/// deferred before are done or taken out. So each section that was open at a deferral has ended
+/// once the value is done. The calls are made at moments of the engine, at each of which the
+/// engine's rule holds, and each tend is at the number of its moment, as `Deferrer::tend` is: at
+/// that of its one load.
 pub fn sections_end_before_deferrals_are_done<T, P: Client>()
     ensures { (plan : P.Plan) (cpus seat : ℕ) (at : Number)
         (later earlier : List (Moment P.Known T)) →

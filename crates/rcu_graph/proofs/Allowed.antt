@@ -5,21 +5,21 @@ use Rattle.std.specs.Prelude.{IsSome}
 use Rattle.rcu_live.specs.Client.{AllowsNumber, AllowsWord}
 use Rattle.rcu_live.specs.Several.{IsWordOf}
 use Rattle.rcu_graph.specs.Beside.{cell_of}
-use Rattle.rcu_graph.specs.Keeper.{IsReady}
+use Rattle.rcu_graph.specs.Writer.{IsReady}
 use Rattle.rcu_graph.specs.Nodes.{IsKeeping, IsOn, IsReader, IsTarget, IsUnlinked, first_place}
 use Rattle.rcu_graph.specs.Nodes.{node_at, nodes_in, place_of, state_at}
-use Rattle.rcu_graph.specs.Planned.{IsKeptBy, tells_age, tells_claim, tells_follow, tells_leave}
-use Rattle.rcu_graph.specs.Planned.{tells_link, tells_publish, tells_read, tells_write}
-use Rattle.rcu_graph.specs.Planned.{tells_write_link}
-use Rattle.rcu_graph.specs.Steps.{IsAged, IsClaimed, IsFollowed, IsLeft, IsLinkWritten, IsLinked}
-use Rattle.rcu_graph.specs.Steps.{IsPublished, IsRead, IsWritten}
+use Rattle.rcu_graph.specs.Planned.{IsKeptBy, tells_claim, tells_follow, tells_link}
+use Rattle.rcu_graph.specs.Planned.{tells_mark_unlinked, tells_publish, tells_read, tells_reclaim}
+use Rattle.rcu_graph.specs.Planned.{tells_write, tells_write_link}
+use Rattle.rcu_graph.specs.Steps.{IsClaimed, IsFollowed, IsLinkWritten, IsLinked, IsMarkedUnlinked}
+use Rattle.rcu_graph.specs.Steps.{IsPublished, IsRead, IsReclaimed, IsWritten}
 use Rattle.rcu_graph.specs.declared.known.Known.TheVariants.{Owner}
 use Rattle.rcu_graph.specs.declared.known.Planned.{Planned}
 use Rattle.rcu_graph.specs.declared.node_state.NodeState.TheVariants.{Free, Live}
 use Rattle.rcu_graph.specs.declared.plan.Layout.{Layout}
 use Rattle.rcu_graph.specs.declared.plan.Plan.{Plan}
-use Rattle.rcu_graph.proofs.At.{ages_at, claims_at, follows_at, leaves_at, links_at, publishes_at}
-use Rattle.rcu_graph.proofs.At.{reads_at, writes_at, writes_link_at}
+use Rattle.rcu_graph.proofs.At.{claims_at, follows_at, links_at, marks_unlinked_at, publishes_at}
+use Rattle.rcu_graph.proofs.At.{reads_at, reclaims_at, writes_at, writes_link_at}
 use Rattle.rcu_graph.proofs.Planned.{number_at, word_at}
 
 module _ (fits : Plan → List ℕ → Type 0) (joins : Plan → ℕ → List ℕ → List ℕ → Type 0)
@@ -190,8 +190,8 @@ module _ (fits : Plan → List ℕ → Type 0) (joins : Plan → ℕ → List �
       was.known
       i l j place x keeps bound bound_j low live ready joined e same))
 
-  -- it may leave a live node to which no live one leads
-  pub leave_allowed : (i place : ℕ)
+  -- it may mark a live node unlinked to which no live one leads
+  pub mark_unlinked_allowed : (i place : ℕ)
       → IsKeeping was.known
       → i < length (nodes_in was.known)
       → 0 < plan.links + plan.words
@@ -200,8 +200,8 @@ module _ (fits : Plan → List ℕ → Type 0) (joins : Plan → ℕ → List �
       → IsUnlinked plan.links (nodes_in was.known) i
       → place ≡ place_of plan.roots plan.links plan.words i 0
       → AllowsWord (IsKeptBy fits joins first plan) cpu section was place (λ n. n)
-      (tells_leave place was)
-  leave_allowed i place keeps bound =
+      (tells_mark_unlinked place was)
+  mark_unlinked_allowed i place keeps bound =
       subst (λ (p : Plan).
       0 < p.links + p.words
       → p.roots ≤ i
@@ -209,20 +209,20 @@ module _ (fits : Plan → List ℕ → Type 0) (joins : Plan → ℕ → List �
       → IsUnlinked p.links (nodes_in was.known) i
       → place ≡ place_of p.roots p.links p.words i 0
       → AllowsWord (IsKeptBy fits joins first p) cpu section was place (λ n. n)
-      (tells_leave place was))
+      (tells_mark_unlinked place was))
       is (λ some past live unlinked e.
       word_at fits joins first cpu section was q refl place (λ n. n)
-      (IsLeft q.roots q.links q.words place was.known)
-      (leaves_at (fits q) (joins q) (first q) q.roots q.links q.words q.nodes cpu section was.known
-      i place keeps bound some past live unlinked e))
+      (IsMarkedUnlinked q.roots q.links q.words place was.known)
+      (marks_unlinked_at (fits q) (joins q) (first q) q.roots q.links q.words q.nodes cpu section
+      was.known i place keeps bound some past live unlinked e))
 
-  -- it may look at the number, by which the nodes age
-  pub age_allowed : IsKeeping was.known
-      → AllowsNumber (IsKeptBy fits joins first plan) cpu section was (tells_age was)
-  age_allowed keeps =
-      number_at fits joins first cpu section was plan is (IsAged was.known)
-      (ages_at (fits q) (joins q) (first q) q.roots q.links q.words q.nodes cpu section was.known
-      keeps)
+  -- it may look at the number, by which nodes are reclaimed
+  pub reclaim_allowed : IsKeeping was.known
+      → AllowsNumber (IsKeptBy fits joins first plan) cpu section was (tells_reclaim was)
+  reclaim_allowed keeps =
+      number_at fits joins first cpu section was plan is (IsReclaimed was.known)
+      (reclaims_at (fits q) (joins q) (first q) q.roots q.links q.words q.nodes cpu section
+      was.known keeps)
 
   -- who opened the engine may load a word, and keeps the nodes then
   pub claim_allowed : was.known ≡ Owner

@@ -3,17 +3,17 @@ use Rattle.std.proofs.Common.{◌≡◌, ℕ, suc, ◌+◌, ◌<◌, ◌≤◌, 
 use Rattle.std.proofs.Common.{inl, inr, sym, subst}
 use Rattle.std.specs.Prelude.{IsSome}
 use Rattle.rcu_live.specs.Client.{AllowsNumber, AllowsWord}
-use Rattle.rcu_graph.specs.Keeper.{IsReady}
+use Rattle.rcu_graph.specs.Writer.{IsReady}
 use Rattle.rcu_graph.specs.Nodes.{IsKeeping, IsOn, IsReader, IsTarget, IsUnlinked, node_at}
 use Rattle.rcu_graph.specs.Nodes.{nodes_in, place_of, state_at}
 use Rattle.rcu_graph.specs.Rule.{IsKept}
-use Rattle.rcu_graph.specs.Steps.{IsAged, IsClaimed, IsFollowed, IsLeft, IsLinkWritten, IsLinked}
-use Rattle.rcu_graph.specs.Steps.{IsPublished, IsRead, IsWritten}
+use Rattle.rcu_graph.specs.Steps.{IsClaimed, IsFollowed, IsLinkWritten, IsLinked, IsMarkedUnlinked}
+use Rattle.rcu_graph.specs.Steps.{IsPublished, IsRead, IsReclaimed, IsWritten}
 use Rattle.rcu_graph.specs.declared.known.Known.{Known}
-use Rattle.rcu_graph.specs.declared.known.Known.TheVariants.{Idle, Owner, Reader, Keeper}
+use Rattle.rcu_graph.specs.declared.known.Known.TheVariants.{Idle, Owner, Reader, Writer}
 use Rattle.rcu_graph.specs.declared.node_state.NodeState.TheVariants.{Free, Live}
-use Rattle.rcu_graph.proofs.Moves.{ages, claims, follows, leaves, links_to, publishes, reads_word}
-use Rattle.rcu_graph.proofs.Moves.{writes}
+use Rattle.rcu_graph.proofs.Moves.{claims, follows, links_to, marks_unlinked, publishes, reads_word}
+use Rattle.rcu_graph.proofs.Moves.{reclaims, writes}
 
 module _ (fits : List ℕ → Type 0) (joins : ℕ → List ℕ → List ℕ → Type 0) (first : ℕ → List ℕ)
     (roots links width count : ℕ) where
@@ -57,9 +57,9 @@ module _ (fits : List ℕ → Type 0) (joins : ℕ → List ℕ → List ℕ →
   writes_at cpu section Idle i k place x keeps bound free low e = absurd keeps
   writes_at cpu section Owner i k place x keeps bound free low e = absurd keeps
   writes_at cpu section (Reader held) i k place x keeps bound free low e = absurd keeps
-  writes_at cpu section (Keeper t s b) i k place x keeps bound free low e =
+  writes_at cpu section (Writer t s b) i k place x keeps bound free low e =
       subst (λ (p : ℕ). AllowsWord (IsKept fits joins first roots links width count) cpu section
-      (Keeper t s b) p (λ _. x) (λ _ now. IsWritten roots links width p (Keeper t s b) x now))
+      (Writer t s b) p (λ _. x) (λ _ now. IsWritten roots links width p (Writer t s b) x now))
       (sym e)
       (writes fits joins first roots links width count cpu section t i k x s b bound free low)
 
@@ -74,9 +74,9 @@ module _ (fits : List ℕ → Type 0) (joins : ℕ → List ℕ → List ℕ →
   writes_link_at cpu section Idle i l place x keeps bound free low e = absurd keeps
   writes_link_at cpu section Owner i l place x keeps bound free low e = absurd keeps
   writes_link_at cpu section (Reader held) i l place x keeps bound free low e = absurd keeps
-  writes_link_at cpu section (Keeper t s b) i l place x keeps bound free low e =
+  writes_link_at cpu section (Writer t s b) i l place x keeps bound free low e =
       subst (λ (p : ℕ). AllowsWord (IsKept fits joins first roots links width count) cpu section
-      (Keeper t s b) p (λ _. x) (λ _ now. IsLinkWritten roots links width p (Keeper t s b) x now))
+      (Writer t s b) p (λ _. x) (λ _ now. IsLinkWritten roots links width p (Writer t s b) x now))
       (sym e)
       (links_to fits joins first roots links width count cpu section t i l x s b (λ _. b) bound low
       (inl free))
@@ -93,9 +93,9 @@ module _ (fits : List ℕ → Type 0) (joins : ℕ → List ℕ → List ℕ →
   links_at cpu section Idle i l place x keeps bound low live target e = absurd keeps
   links_at cpu section Owner i l place x keeps bound low live target e = absurd keeps
   links_at cpu section (Reader held) i l place x keeps bound low live target e = absurd keeps
-  links_at cpu section (Keeper t s b) i l place x keeps bound low live target e =
+  links_at cpu section (Writer t s b) i l place x keeps bound low live target e =
       subst (λ (p : ℕ). AllowsWord (IsKept fits joins first roots links width count) cpu section
-      (Keeper t s b) p (λ _. x) (λ _ now. IsLinked roots links width p (Keeper t s b) x now))
+      (Writer t s b) p (λ _. x) (λ _ now. IsLinked roots links width p (Writer t s b) x now))
       (sym e)
       (links_to fits joins first roots links width count cpu section t i l x s b (λ n. n ∷ b) bound
       low (inr (live, target)))
@@ -116,15 +116,15 @@ module _ (fits : List ℕ → Type 0) (joins : ℕ → List ℕ → List ℕ →
   publishes_at cpu section Owner i l j place x keeps a b low live ready joined e is = absurd keeps
   publishes_at cpu section (Reader held) i l j place x keeps a b low live ready joined e is =
       absurd keeps
-  publishes_at cpu section (Keeper t s c) i l j place x keeps a b low live ready joined e is =
+  publishes_at cpu section (Writer t s c) i l j place x keeps a b low live ready joined e is =
       subst (λ (y : ℕ × ℕ). AllowsWord (IsKept fits joins first roots links width count) cpu section
-      (Keeper t s c) y.0 (λ _. y.1)
-      (λ _ now. IsPublished roots links width y.0 (Keeper t s c) y.1 now))
+      (Writer t s c) y.0 (λ _. y.1)
+      (λ _ now. IsPublished roots links width y.0 (Writer t s c) y.1 now))
       (λ z. (sym e z, sym is z))
       (publishes fits joins first roots links width count cpu section t i l j s c a b low live
       ready.free ready.whole ready.led joined)
 
-  pub leaves_at : (cpu section : Option ℕ) (was : Known) (i place : ℕ)
+  pub marks_unlinked_at : (cpu section : Option ℕ) (was : Known) (i place : ℕ)
       → IsKeeping was
       → i < length (nodes_in was)
       → 0 < links + width
@@ -133,24 +133,26 @@ module _ (fits : List ℕ → Type 0) (joins : ℕ → List ℕ → List ℕ →
       → IsUnlinked links (nodes_in was) i
       → place ≡ place_of roots links width i 0
       → AllowsWord (IsKept fits joins first roots links width count) cpu section was place (λ n. n)
-      (IsLeft roots links width place was)
-  leaves_at cpu section Idle i place keeps bound low past live unlinked e = absurd keeps
-  leaves_at cpu section Owner i place keeps bound low past live unlinked e = absurd keeps
-  leaves_at cpu section (Reader held) i place keeps bound low past live unlinked e = absurd keeps
-  leaves_at cpu section (Keeper t s b) i place keeps bound low past live unlinked e =
+      (IsMarkedUnlinked roots links width place was)
+  marks_unlinked_at cpu section Idle i place keeps bound low past live unlinked e = absurd keeps
+  marks_unlinked_at cpu section Owner i place keeps bound low past live unlinked e = absurd keeps
+  marks_unlinked_at cpu section (Reader held) i place keeps bound low past live unlinked e =
+      absurd keeps
+  marks_unlinked_at cpu section (Writer t s b) i place keeps bound low past live unlinked e =
       subst (λ (p : ℕ). AllowsWord (IsKept fits joins first roots links width count) cpu section
-      (Keeper t s b) p (λ n. n) (IsLeft roots links width p (Keeper t s b)))
+      (Writer t s b) p (λ n. n) (IsMarkedUnlinked roots links width p (Writer t s b)))
       (sym e)
-      (leaves fits joins first roots links width count cpu section t i 0 s b bound low past live
-      unlinked)
+      (marks_unlinked fits joins first roots links width count cpu section t i 0 s b bound low
+      past live unlinked)
 
-  pub ages_at : (cpu section : Option ℕ) (was : Known) → IsKeeping was
-      → AllowsNumber (IsKept fits joins first roots links width count) cpu section was (IsAged was)
-  ages_at cpu section Idle keeps = absurd keeps
-  ages_at cpu section Owner keeps = absurd keeps
-  ages_at cpu section (Reader held) keeps = absurd keeps
-  ages_at cpu section (Keeper t s b) keeps =
-      ages fits joins first roots links width count cpu section t s b
+  pub reclaims_at : (cpu section : Option ℕ) (was : Known) → IsKeeping was
+      → AllowsNumber (IsKept fits joins first roots links width count) cpu section was
+      (IsReclaimed was)
+  reclaims_at cpu section Idle keeps = absurd keeps
+  reclaims_at cpu section Owner keeps = absurd keeps
+  reclaims_at cpu section (Reader held) keeps = absurd keeps
+  reclaims_at cpu section (Writer t s b) keeps =
+      reclaims fits joins first roots links width count cpu section t s b
 
   pub claims_at : (cpu section : Option ℕ) (was : Known) → was ≡ Owner
       → AllowsWord (IsKept fits joins first roots links width count) cpu section was 0 (λ n. n)

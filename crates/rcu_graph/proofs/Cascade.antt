@@ -1,4 +1,4 @@
--- What a keeper knows on the way of a change, step by step.
+-- What a writer knows on the way of a change, step by step.
 use Rattle.std.proofs.Common.{◌≡◌, ◌⊎◌, inr, ℕ, zero, suc, ◌+◌, ◌*◌, ◌<◌, ◌≤◌, List, [], ◌∷◌, ◌++◌}
 use Rattle.std.proofs.Common.{Option, length, get_or, set, take, drop, refl, sym, ap, ◌∙◌, arith}
 use Rattle.std.proofs.Common.{subst, length-set}
@@ -9,26 +9,26 @@ use Rattle.std.proofs.lemmas.List.Sums.{sum_by-append, sum_by-cons}
 use Rattle.rcu_live.specs.Watcher.{Watching, after_word_step}
 use Rattle.rcu_graph.specs.Counts.{counted_up, links_to, one_if, times_in}
 use Rattle.rcu_graph.specs.Graph.{word_to}
-use Rattle.rcu_graph.specs.Keeper.{IsReady, after_step, after_store, stored_to}
+use Rattle.rcu_graph.specs.Writer.{IsReady, after_step, after_store, stored_to}
 use Rattle.rcu_graph.specs.Mirror.{AreSized}
 use Rattle.rcu_graph.specs.Nodes.{IsKeeping, IsTarget, IsUnlinked, in_state, linked_to, node_at}
 use Rattle.rcu_graph.specs.Nodes.{nodes_in, renewed, state_at}
 use Rattle.rcu_graph.specs.Tended.{IsReached}
-use Rattle.rcu_graph.specs.Trimming.{IsCounted, IsInside, IsTrimming}
+use Rattle.rcu_graph.specs.Collecting.{IsCollecting, IsCounted, IsInside}
 use Rattle.rcu_graph.specs.Planned.{knowing}
 use Rattle.rcu_graph.specs.declared.known.Known.{Known}
 use Rattle.rcu_graph.specs.declared.known.Planned.{Planned}
 use Rattle.rcu_graph.specs.declared.known.Node.{Node}
-use Rattle.rcu_graph.specs.declared.node_state.NodeState.TheVariants.{Left, Live}
-use Rattle.rcu_graph.proofs.Counting.{leads_counts, live_in-left, live_inside}
+use Rattle.rcu_graph.specs.declared.node_state.NodeState.TheVariants.{Live, Unlinked}
+use Rattle.rcu_graph.proofs.Counting.{leads_counts, live_in-unlinked, live_inside}
 use Rattle.rcu_graph.proofs.Counting.{state_keeps_links, state_keeps_words}
 use Rattle.rcu_graph.proofs.Filling.{known_is}
 use Rattle.rcu_graph.proofs.Tending.{AreWhole, are_whole, at_here, counts_are, led_there}
 use Rattle.rcu_graph.proofs.Tending.{links_to-le, promoted_counts, promoted_state}
-use Rattle.rcu_graph.proofs.Trims.{kept_let_go, left_let_go, none_let_go, owed_is_counted}
-use Rattle.rcu_graph.proofs.Trims.{owed_is_inside, unlinked}
-use Rattle.rcu_graph.proofs.Tending.{promoted_up, promoted_whole, starts_trimming}
-use Rattle.rcu_graph.proofs.Tending.{still_live, stored_whole, tended}
+use Rattle.rcu_graph.proofs.Releases.{kept_released, none_released, owed_is_counted, owed_is_inside}
+use Rattle.rcu_graph.proofs.Releases.{unlinked, unlinked_released}
+use Rattle.rcu_graph.proofs.Tending.{promoted_up, promoted_whole, starts_collecting, still_live}
+use Rattle.rcu_graph.proofs.Tending.{stored_whole, tended}
 
 -- nothing is done, one step, and a step after others
 pub no_step : (s : Watching Planned) → IsKeeping s.view.client.known
@@ -47,11 +47,11 @@ pub step_on : (a b c : Watching Planned)
 step_on a b c e f = f ∙ ap (λ (w : Watching Planned). after_step w (nodes_in c.view.client.known)) e
 
 -- a store, and steps after it
-pub trimmed_on : (a b c : Watching Planned) (stored : List Node)
+pub collected_on : (a b c : Watching Planned) (stored : List Node)
     → b ≡ stored_to a stored
     → c ≡ after_step b (nodes_in c.view.client.known)
     → c ≡ after_store a stored (nodes_in c.view.client.known)
-trimmed_on a b c stored e f =
+collected_on a b c stored e f =
     f ∙ ap (λ (w : Watching Planned). after_step w (nodes_in c.view.client.known)) e
 
 -- where none is counted, no live node leads there
@@ -63,44 +63,47 @@ none_lead links nodes i none = λ j l v is live low leads.
     (ap (λ (w : Node). slice_index w.links l) e ∙ leads) in
     omega (arith, a, none)
 
-module _ (count roots links : ℕ) (stored nodes : List Node) (counts leaving : List ℕ)
+module _ (count roots links : ℕ) (stored nodes : List Node) (counts unlinking : List ℕ)
     (from to : ℕ) where
   -- there is room for a node more
   pub room_left : (words : List ℕ) (i : ℕ)
-      → IsTrimming count roots links stored nodes counts leaving from to words
+      → IsCollecting count roots links stored nodes counts unlinking from to words
       → state_at nodes i ≡ Live
-      → to < length leaving
+      → to < length unlinking
   room_left words i t live =
       let a = t.enough in
-      let b = live_in-left nodes i live in let c = t.room in omega (arith, a, b, c)
+      let b = live_in-unlinked nodes i live in let c = t.room in omega (arith, a, b, c)
 
   pub in_room : (words : List ℕ)
-      → IsTrimming count roots links stored nodes counts leaving from to words → to ≤ length leaving
+      → IsCollecting count roots links stored nodes counts unlinking from to words
+      → to ≤ length unlinking
   in_room words t = let a = t.enough in let c = t.room in omega (arith, a, c)
 
-  -- the next link of a node that was left, and no further one
+  -- the next link of a node that was unlinked, and no further one
   module _ (i : ℕ) (inside : i < count) where
     abbrev own : List ℕ
     own = (node_at stored i).links
 
     pub next_link : (l : ℕ)
         → l < links
-        → IsTrimming count roots links stored nodes counts leaving from to (drop l own)
-        → IsTrimming count roots links stored nodes counts leaving from to
+        → IsCollecting count roots links stored nodes counts unlinking from to (drop l own)
+        → IsCollecting count roots links stored nodes counts unlinking from to
         (slice_index (node_at nodes i).links l ∷ drop (l + 1) own)
     next_link l low t =
         subst
-        (λ (words : List ℕ). IsTrimming count roots links stored nodes counts leaving from to words)
+        (λ (words : List ℕ). IsCollecting count roots links stored nodes counts unlinking from
+        to words)
         (drop_more own l 0 (let size = t.sized i inside in omega (arith, low, size))
         ∙ ap (λ (c : List ℕ). slice_index c l ∷ drop (l + 1) own) (sym (t.links_stay i)))
         t
 
-    pub no_link_more : IsTrimming count roots links stored nodes counts leaving from to
+    pub no_link_more : IsCollecting count roots links stored nodes counts unlinking from to
         (drop links own)
-        → IsTrimming count roots links stored nodes counts leaving from to []
+        → IsCollecting count roots links stored nodes counts unlinking from to []
     no_link_more t =
         subst
-        (λ (words : List ℕ). IsTrimming count roots links stored nodes counts leaving from to words)
+        (λ (words : List ℕ). IsCollecting count roots links stored nodes counts unlinking from
+        to words)
         (none links own (t.sized i inside)) t
       where
         none : (n : ℕ) (l : List ℕ) → length l ≡ n → drop n l ≡ []
@@ -165,10 +168,10 @@ module _ (fits : List ℕ → Type 0) (joins : ℕ → List ℕ → List ℕ →
       let low = live_inside nodes j on.0 in omega (arith, low, few)
 
   -- what leads to a node that is live and no root is counted
-  pub counted_live : (nodes : List Node) (counts leaving : List ℕ) → length nodes ≡ count
-      → IsCounted fits joins count roots links nodes counts leaving
+  pub counted_live : (nodes : List Node) (counts unlinking : List ℕ) → length nodes ≡ count
+      → IsCounted fits joins count roots links nodes counts unlinking
       → (k : ℕ) → state_at nodes k ≡ Live → roots ≤ k → 0 < slice_index counts k
-  counted_live nodes counts leaving few c k live past =
+  counted_live nodes counts unlinking few c k live past =
       let r : IsReached links nodes k = c.tended.reached k live past in
       let some = leads_counts nodes r.from r.link k r.live r.leads in
       let low = live_inside nodes k live in
@@ -176,21 +179,22 @@ module _ (fits : List ℕ → Type 0) (joins : ℕ → List ℕ → List ℕ →
       omega (arith, some, a)
 
   -- when nothing is owed any more, the nodes are tended and counted
-  pub counted_after : (width : ℕ) (stored nodes : List Node) (counts leaving : List ℕ) (to : ℕ)
+  pub counted_after : (width : ℕ) (stored nodes : List Node) (counts unlinking : List ℕ) (to : ℕ)
       → AreWhole fits joins count roots links width stored
-      → IsTrimming count roots links stored nodes counts leaving to to []
-      → IsCounted fits joins count roots links nodes counts leaving
-  counted_after width stored nodes counts leaving to whole t = record {
-    tended = tended fits joins count roots links width stored nodes counts leaving to whole t;
+      → IsCollecting count roots links stored nodes counts unlinking to to []
+      → IsCounted fits joins count roots links nodes counts unlinking
+  counted_after width stored nodes counts unlinking to whole t = record {
+    tended = tended fits joins count roots links width stored nodes counts unlinking to whole t;
     many = t.counts_many;
     room = t.room;
-    counted = counts_are fits joins count roots links width stored nodes counts leaving to whole t;
+    counted =
+        counts_are fits joins count roots links width stored nodes counts unlinking to whole t;
   }
 
   -- a link of a live node is led elsewhere
-  module _ (width : ℕ) (nodes : List Node) (counts leaving : List ℕ) (few : length nodes ≡ count)
+  module _ (width : ℕ) (nodes : List Node) (counts unlinking : List ℕ) (few : length nodes ≡ count)
       (sizes : AreSized count links width nodes)
-      (c : IsCounted fits joins count roots links nodes counts leaving) where
+      (c : IsCounted fits joins count roots links nodes counts unlinking) where
     module _ (i l x : ℕ) (live : state_at nodes i ≡ Live) (low : l < links)
         (target : IsTarget (joins l) (node_at nodes i).words nodes x) where
       there : (j : ℕ) → x ≡ suc j
@@ -200,18 +204,19 @@ module _ (fits : List ℕ → Type 0) (joins : ℕ → List ℕ → List ℕ →
 
       rising : (k : ℕ) → state_at nodes k ≡ Live → roots ≤ k
           → (x ≡ suc k) ⊎ (0 < slice_index counts k)
-      rising k on past = inr (counted_live nodes counts leaving few c k on past)
+      rising k on past = inr (counted_live nodes counts unlinking few c k on past)
 
-      pub relinked_starts : IsTrimming count roots links (renewed nodes i (linked_to l x))
-          (renewed nodes i (linked_to l x)) (counted_up counts x) leaving 0 0
+      pub relinked_starts : IsCollecting count roots links (renewed nodes i (linked_to l x))
+          (renewed nodes i (linked_to l x)) (counted_up counts x) unlinking 0 0
           (slice_index (node_at nodes i).links l ∷ [])
-      relinked_starts = starts_trimming fits joins count roots links width nodes counts leaving i l
+      relinked_starts =
+          starts_collecting fits joins count roots links width nodes counts unlinking i l
           x few sizes c.many c.room (are_whole fits joins count roots links width nodes c.tended)
           c.counted rising live low there
 
       pub relinked_whole : AreWhole fits joins count roots links width
           (renewed nodes i (linked_to l x))
-      relinked_whole = stored_whole fits joins count roots links width nodes counts leaving i l x
+      relinked_whole = stored_whole fits joins count roots links width nodes counts unlinking i l x
           few sizes c.many c.room (are_whole fits joins count roots links width nodes c.tended)
           c.counted rising live low there
 
@@ -303,21 +308,21 @@ module _ (fits : List ℕ → Type 0) (joins : ℕ → List ℕ → List ℕ →
         rising_promoted = promoted_up fits joins count roots links width nodes counts j few c.tended
             c.counted inside ready new counted_promoted
 
-        pub published_starts : IsTrimming count roots links
+        pub published_starts : IsCollecting count roots links
             (renewed promoted i (linked_to l (suc j))) (renewed promoted i (linked_to l (suc j)))
-            (counted_up new (suc j)) leaving 0 0 (slice_index (node_at nodes i).links l ∷ [])
+            (counted_up new (suc j)) unlinking 0 0 (slice_index (node_at nodes i).links l ∷ [])
         published_starts =
-            subst (λ (cells : List ℕ). IsTrimming count roots links
+            subst (λ (cells : List ℕ). IsCollecting count roots links
             (renewed promoted i (linked_to l (suc j))) (renewed promoted i (linked_to l (suc j)))
-            (counted_up new (suc j)) leaving 0 0 (slice_index cells l ∷ []))
+            (counted_up new (suc j)) unlinking 0 0 (slice_index cells l ∷ []))
             (state_keeps_links nodes j i Live within)
-            (starts_trimming fits joins count roots links width promoted new leaving i l (suc j)
+            (starts_collecting fits joins count roots links width promoted new unlinking i l (suc j)
             few_promoted sizes_promoted many c.room whole_promoted counted_promoted rising_promoted
             live_promoted low there_promoted)
 
         pub published_whole : AreWhole fits joins count roots links width
             (renewed promoted i (linked_to l (suc j)))
-        published_whole = stored_whole fits joins count roots links width promoted new leaving i l
+        published_whole = stored_whole fits joins count roots links width promoted new unlinking i l
             (suc j) few_promoted sizes_promoted many c.room whole_promoted counted_promoted
             rising_promoted live_promoted low there_promoted
 
@@ -331,49 +336,56 @@ word_fits None count most inside fit = tt
 word_fits (Some node) count most inside fit = let low = inside node refl in omega (arith, low, fit)
 
 -- of equal nodes, counts and words
-pub same_trimming : (count roots links : ℕ) (stored stored' nodes nodes' : List Node)
-    (counts counts' leaving leaving' : List ℕ) (from to : ℕ) (words words' : List ℕ)
+pub same_collecting : (count roots links : ℕ) (stored stored' nodes nodes' : List Node)
+    (counts counts' unlinking unlinking' : List ℕ) (from to : ℕ) (words words' : List ℕ)
     → stored ≡ stored'
     → nodes ≡ nodes'
     → counts ≡ counts'
-    → leaving ≡ leaving'
+    → unlinking ≡ unlinking'
     → words ≡ words'
-    → IsTrimming count roots links stored' nodes' counts' leaving' from to words'
-    → IsTrimming count roots links stored nodes counts leaving from to words
-same_trimming count roots links stored stored' nodes nodes' counts counts' leaving leaving' from
+    → IsCollecting count roots links stored' nodes' counts' unlinking' from to words'
+    → IsCollecting count roots links stored nodes counts unlinking from to words
+same_collecting count roots links stored stored' nodes nodes' counts counts' unlinking
+    unlinking' from
     to words words' a b d e f t =
-    subst (λ (l : List Node). IsTrimming count roots links l nodes counts leaving from to words)
+    subst (λ (l : List Node). IsCollecting count roots links l nodes counts unlinking from to words)
     (sym a)
-    (subst (λ (l : List Node). IsTrimming count roots links stored' l counts leaving from to words)
-    (sym b)
-    (subst (λ (l : List ℕ). IsTrimming count roots links stored' nodes' l leaving from to words)
+    (subst (λ (l : List Node). IsCollecting count roots links stored' l counts unlinking from
+    to words) (sym b)
+    (subst (λ (l : List ℕ). IsCollecting count roots links stored' nodes' l unlinking from to words)
     (sym d)
-    (subst (λ (l : List ℕ). IsTrimming count roots links stored' nodes' counts' l from to words)
+    (subst (λ (l : List ℕ). IsCollecting count roots links stored' nodes' counts' l from to words)
     (sym e)
-    (subst (λ (l : List ℕ). IsTrimming count roots links stored' nodes' counts' leaving' from to l)
-    (sym f) t))))
+    (subst (λ (l : List ℕ). IsCollecting count roots links stored' nodes' counts' unlinking'
+    from to l) (sym f) t))))
 
--- a link is let go of: nowhere, to a node that stays, or to one that is left
-module _ (count roots links : ℕ) (stored nodes : List Node) (counts leaving : List ℕ) (from to : ℕ)
+-- a link is released: nowhere, to a node that stays, or to one that is unlinked
+module _ (count roots links : ℕ) (stored nodes : List Node) (counts unlinking : List ℕ)
+    (from to : ℕ)
     (words : List ℕ) where
-  pub let_go_nowhere : (word : ℕ)
-      → word ≡ 0 → IsTrimming count roots links stored nodes counts leaving from to (word ∷ words)
-      → IsTrimming count roots links stored nodes counts leaving from to words
-  let_go_nowhere word e t =
-      none_let_go count roots links stored nodes counts leaving from to words
+  pub released_nowhere : (word : ℕ)
+      → word ≡ 0 → IsCollecting count roots links stored nodes counts unlinking from to
+      (word ∷ words)
+      → IsCollecting count roots links stored nodes counts unlinking from to words
+  released_nowhere word e t =
+      none_released count roots links stored nodes counts unlinking from to words
       (subst
-      (λ (w : ℕ). IsTrimming count roots links stored nodes counts leaving from to (w ∷ words)) e t)
+      (λ (w : ℕ). IsCollecting count roots links stored nodes counts unlinking from to
+      (w ∷ words)) e t)
 
   module _ (i word : ℕ) (e : suc i ≡ word)
-      (t : IsTrimming count roots links stored nodes counts leaving from to (word ∷ words)) where
-    turned : IsTrimming count roots links stored nodes counts leaving from to (suc i ∷ words)
+      (t : IsCollecting count roots links stored nodes counts unlinking from to
+      (word ∷ words)) where
+    turned : IsCollecting count roots links stored nodes counts unlinking from to (suc i ∷ words)
     turned =
         subst
-        (λ (w : ℕ). IsTrimming count roots links stored nodes counts leaving from to (w ∷ words))
+        (λ (w : ℕ). IsCollecting count roots links stored nodes counts unlinking from to
+        (w ∷ words))
         (sym e) t
 
     pub led_inside : i < count
-    led_inside = owed_is_inside count roots links stored nodes counts leaving from to words i turned
+    led_inside =
+        owed_is_inside count roots links stored nodes counts unlinking from to words i turned
 
     pub led_within : i < length counts
     led_within = let a = led_inside in let b = t.counts_many in omega (arith, a, b)
@@ -381,22 +393,25 @@ module _ (count roots links : ℕ) (stored nodes : List Node) (counts leaving : 
     pub led_counted : 0 < slice_index counts i
     led_counted =
         let a =
-        owed_is_counted count roots links stored nodes counts leaving from to words i turned in
+        owed_is_counted count roots links stored nodes counts unlinking from to words i turned in
         omega (arith, a)
 
     module _ (x : ℕ) (less : x + 1 ≡ slice_index counts i) where
-      pub let_go_kept : (state_at nodes i ≡ Live → roots ≤ i → 0 < x)
-          → IsTrimming count roots links stored nodes (set counts i x) leaving from to words
-      let_go_kept stays = kept_let_go count roots links stored nodes counts leaving from to words i
+      pub released_kept : (state_at nodes i ≡ Live → roots ≤ i → 0 < x)
+          → IsCollecting count roots links stored nodes (set counts i x) unlinking from to words
+      released_kept stays =
+          kept_released count roots links stored nodes counts unlinking from to words i
           x turned less stays
 
       module _ (live : state_at nodes i ≡ Live) (past : roots ≤ i) (last : x ≡ 0) where
-        pub let_go_unlinked : IsUnlinked links nodes i
-        let_go_unlinked = none_lead links nodes i
-            (unlinked count roots links stored nodes counts leaving from to words i x turned less
+        pub released_unlinked : IsUnlinked links nodes i
+        released_unlinked = none_lead links nodes i
+            (unlinked count roots links stored nodes counts unlinking from to words i x turned less
             live past last)
 
-        pub let_go_left : IsTrimming count roots links stored (renewed nodes i (in_state Left))
-            (set counts i x) (set leaving to i) from (to + 1) words
-        let_go_left = left_let_go count roots links stored nodes counts leaving from to words i x
+        pub released_marked : IsCollecting count roots links stored
+            (renewed nodes i (in_state Unlinked))
+            (set counts i x) (set unlinking to i) from (to + 1) words
+        released_marked =
+            unlinked_released count roots links stored nodes counts unlinking from to words i x
             turned less live past last

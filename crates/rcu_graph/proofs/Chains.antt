@@ -1,4 +1,4 @@
--- Chains at one moment, and what a step of the keeper leaves of them.
+-- Chains at one moment, and what a step of the writer leaves of them.
 use Rattle.std.proofs.Common.{◌≡◌, ◌≢◌, ◌⊎◌, ℕ, suc, ◌<◌, ◌≤◌, List, Bool, length, refl, sym, ap}
 use Rattle.std.proofs.Common.{◌∙◌, subst, true, inl, inr, arith}
 use Rattle.std.specs.Prelude.{IsTrue, slice_index}
@@ -11,16 +11,16 @@ use lib.ListN.{get_elem?}
 use Rattle.rcu_live.specs.Numbers.{is_open_at}
 use Rattle.atomic_table.proofs.Lists.{at_map}
 use Rattle.rcu_live.proofs.ClientRows.{at_inside, inside}
-use Rattle.rcu_graph.specs.Absence.{AreSameFor, IsChained, IsKeeperStep, IsOnIfOurs, IsSameFor}
+use Rattle.rcu_graph.specs.Absence.{AreSameFor, IsChained, IsOnIfOurs, IsSameFor, IsWriterStep}
 use Rattle.rcu_graph.specs.Absence.{Reaches, arrived, aside, key_at, linked, next_of, onwards}
 use Rattle.rcu_graph.specs.Absence.{published}
-use Rattle.rcu_graph.specs.Nodes.{MayRead, aged, aged_node, in_state, linked_to, no_node, node_at}
-use Rattle.rcu_graph.specs.Nodes.{renewed, state_at}
+use Rattle.rcu_graph.specs.Nodes.{MayRead, in_state, linked_to, no_node, node_at, reclaimed}
+use Rattle.rcu_graph.specs.Nodes.{reclaimed_node, renewed, state_at}
 use Rattle.rcu_graph.specs.declared.known.Node.{Node}
 use Rattle.rcu_graph.specs.declared.node_state.NodeState.{NodeState}
 use Rattle.rcu_graph.specs.declared.node_state.NodeState.TheVariants.{Free, Live}
 use Rattle.rcu_graph.proofs.Counting.{other_node, same_node}
-use Rattle.rcu_graph.proofs.States.{may_aged, not_both}
+use Rattle.rcu_graph.proofs.States.{may_reclaimed, not_both}
 
 pub free_unread : (opened : ℕ) (st : NodeState) → st ≡ Free → MayRead opened st → ⊥
 free_unread opened st free may = subst (MayRead opened) free may
@@ -33,14 +33,14 @@ is_inside opened nodes j may = dite (dec_lt j (length nodes))
     (λ (high : j < length nodes → ⊥). absurd (subst (λ (v : Node). MayRead opened v.state)
     (get_or_past nodes j no_node (omega (arith, high))) may))
 
-pub aged_at : (n m : ℕ) (nodes : List Node) (j : ℕ) → j < length nodes
-    → node_at (aged n m nodes) j ≡ aged_node n m (node_at nodes j)
-aged_at n m nodes j low =
-    let there : get_elem? (aged n m nodes) j ≡ some (aged_node n m (node_at nodes j)) =
-    at_map (aged_node n m) nodes j (node_at nodes j) (at_inside nodes j no_node low) in
+pub reclaimed_at : (n m : ℕ) (nodes : List Node) (j : ℕ) → j < length nodes
+    → node_at (reclaimed n m nodes) j ≡ reclaimed_node n m (node_at nodes j)
+reclaimed_at n m nodes j low =
+    let there : get_elem? (reclaimed n m nodes) j ≡ some (reclaimed_node n m (node_at nodes j)) =
+    at_map (reclaimed_node n m) nodes j (node_at nodes j) (at_inside nodes j no_node low) in
     some-injective _ _
-    (sym (at_inside (aged n m nodes) j no_node
-    (inside (aged n m nodes) j (aged_node n m (node_at nodes j)) there))
+    (sym (at_inside (reclaimed n m nodes) j no_node
+    (inside (reclaimed n m nodes) j (reclaimed_node n m (node_at nodes j)) there))
     ∙ there)
 
 module _ (nodes : List Node) where
@@ -147,7 +147,7 @@ module _ (opened : ℕ) where
 
   -- a step leaves what the section may be on as it is
   pub stays_readable : (ours : List ℕ → Bool) (root : ℕ) (before after : List Node) (j : ℕ)
-      → IsKeeperStep ours opened root before after → MayRead opened (state_at before j)
+      → IsWriterStep ours opened root before after → MayRead opened (state_at before j)
       → MayRead opened (state_at after j) × ((node_at after j).words ≡ (node_at before j).words)
   stays_readable ours root before after j (aside same) may =
       let s = same j may in (s.0, s.2)
@@ -179,14 +179,14 @@ module _ (opened : ℕ) where
   unseen_where_free nodes i f free = same_where nodes i f
       (λ may. absurd (free_unread opened (state_at nodes i) free may))
 
-  -- and where the nodes age by a number at which it may be open
-  pub same_aged : (n m : ℕ) (nodes : List Node) → n ≤ m → is_open_at n opened ≡ true
-      → AreSameFor opened nodes (aged n m nodes)
-  same_aged n m nodes up opens j may =
+  -- and where nodes are reclaimed by a number at which it may be open
+  pub same_reclaimed : (n m : ℕ) (nodes : List Node) → n ≤ m → is_open_at n opened ≡ true
+      → AreSameFor opened nodes (reclaimed n m nodes)
+  same_reclaimed n m nodes up opens j may =
       subst (λ (v : Node). MayRead opened v.state × (v.links ≡ (node_at nodes j).links)
       × (v.words ≡ (node_at nodes j).words))
-      (sym (aged_at n m nodes j (is_inside opened nodes j may)))
-      (may_aged opened n m (state_at nodes j) up opens may, refl, refl)
+      (sym (reclaimed_at n m nodes j (is_inside opened nodes j may)))
+      (may_reclaimed opened n m (state_at nodes j) up opens may, refl, refl)
 
 next_else : (i y : ℕ) (f : Node → Node) (nodes : List Node) → y ≢ i
     → next_of (renewed nodes i f) y ≡ next_of nodes y
@@ -216,7 +216,7 @@ module _ (opened : ℕ) (ours : List ℕ → Bool) (root : ℕ) (before : List N
 
   -- a node of the chain, which the section may be on, leads where it led, or it is on the chain
   -- after the step
-  pub stays_or_on : (after : List Node) → IsKeeperStep ours opened root before after
+  pub stays_or_on : (after : List Node) → IsWriterStep ours opened root before after
       → (next_of after j ≡ next_of before j) ⊎ Reaches after j root
   stays_or_on after (aside same) =
       inl (ap (λ (links : List ℕ). slice_index links 0) (same j may).1)

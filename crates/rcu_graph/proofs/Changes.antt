@@ -12,16 +12,16 @@ use lib.ListN.{get_elem?, length-map}
 use Rattle.atomic_table.proofs.Lists.{at_map, set_here, set_else}
 use Rattle.rcu_live.proofs.ClientLemmas.{at_map_back}
 use Rattle.rcu_live.proofs.ClientRows.{inside, reseat}
-use Rattle.rcu_graph.specs.Nodes.{IsBy, IsTarget, IsUnlinked, IsUsed, Outlives, aged, aged_node}
-use Rattle.rcu_graph.specs.Nodes.{aged_state, first_place, in_state, linked_to, place_of, row_of}
-use Rattle.rcu_graph.specs.Nodes.{worded}
+use Rattle.rcu_graph.specs.Nodes.{IsBy, IsTarget, IsUnlinked, IsUsed, Outlives, first_place}
+use Rattle.rcu_graph.specs.Nodes.{in_state, linked_to, place_of, reclaimed, reclaimed_node}
+use Rattle.rcu_graph.specs.Nodes.{reclaimed_state, row_of, worded}
 use Rattle.rcu_graph.specs.Rule.{AreKept, IsLed, Leads}
 use Rattle.rcu_graph.specs.declared.known.Node.{Node}
 use Rattle.rcu_graph.specs.declared.node_state.NodeState.{NodeState}
-use Rattle.rcu_graph.specs.declared.node_state.NodeState.TheVariants.{Free, Live, Left, Retired}
+use Rattle.rcu_graph.specs.declared.node_state.NodeState.TheVariants.{Free, Live, Retired, Unlinked}
 use Rattle.rcu_graph.proofs.Cells.{place_inside_all, told}
-use Rattle.rcu_graph.proofs.States.{by_aged, live_outlived, none_outlives, not_both, outlives_aged}
-use Rattle.rcu_graph.proofs.States.{used_aged}
+use Rattle.rcu_graph.proofs.States.{by_reclaimed, live_outlived, none_outlives, not_both}
+use Rattle.rcu_graph.proofs.States.{outlives_reclaimed, used_reclaimed}
 
 nowhere : (j : ℕ) → 0 ≡ suc j → ⊥
 nowhere j e = omega (arith, e)
@@ -305,16 +305,16 @@ module _ (fits : List ℕ → Type 0) (joins : ℕ → List ℕ → List ℕ →
       (λ j l u e used lasts joined small link.
       absurd (none_outlives u.state used (subst (Outlives u.state) free lasts)))
 
-  -- a live node to which no live one leads is left
-  pub node_left : (ws : List ℕ) (s : List Node) (t i : ℕ) (v : Node)
+  -- a live node to which no live one leads is marked unlinked
+  pub node_unlinked : (ws : List ℕ) (s : List Node) (t i : ℕ) (v : Node)
       → AreKept fits joins first roots links width count ws s t
       → get_elem? s i ≡ some v
       → v.state ≡ Live
       → roots ≤ i
       → IsUnlinked links s i
-      → AreKept fits joins first roots links width count ws (set s i (in_state Left v)) t
-  node_left ws s t i v h at live past unlinked =
-      let w : Node = in_state Left v in
+      → AreKept fits joins first roots links width count ws (set s i (in_state Unlinked v)) t
+  node_unlinked ws s t i v h at live past unlinked =
+      let w : Node = in_state Unlinked v in
       let live_used : IsUsed v.state = subst IsUsed (sym live) tt in
       renode ws ws s t i v w h at refl (λ r. absurd (omega (arith, r, past))) (h.linked i v at)
       (h.sized i v at) (h.written i v at) (λ j k ne high. refl) (λ used. h.whole i v at live_used)
@@ -328,54 +328,59 @@ module _ (fits : List ℕ → Type 0) (joins : ℕ → List ℕ → List ℕ →
       record {
         to = d.to;
         here = set_else s i k w ne ∙ d.here;
-        lasts = subst (Outlives Left) (sym on) tt;
+        lasts = subst (Outlives Unlinked) (sym on) tt;
         joined = d.joined;
       }))
       (λ j l u e used lasts joined small link. (
-        left_outlives u.state used (λ is. unlinked j l u e is small link),
+        unlinked_outlives u.state used (λ is. unlinked j l u e is small link),
         joined,
       ))
     where
-      left_outlives : (st : NodeState) → IsUsed st → (st ≡ Live → ⊥) → Outlives st Left
-      left_outlives Free used apart = absurd used
-      left_outlives Live used apart = absurd (apart refl)
-      left_outlives Left used apart = tt
-      left_outlives (Retired a) used apart = tt
+      unlinked_outlives : (st : NodeState) → IsUsed st → (st ≡ Live → ⊥) → Outlives st Unlinked
+      unlinked_outlives Free used apart = absurd used
+      unlinked_outlives Live used apart = absurd (apart refl)
+      unlinked_outlives Unlinked used apart = tt
+      unlinked_outlives (Retired a) used apart = tt
 
   -- a look at the number
-  pub nodes_aged : (ws : List ℕ) (s : List Node) (t n m : ℕ)
+  pub nodes_reclaimed : (ws : List ℕ) (s : List Node) (t n m : ℕ)
       → AreKept fits joins first roots links width count ws s t → t ≤ m
-      → AreKept fits joins first roots links width count ws (aged n m s) m
-  nodes_aged ws s t n m h up = record {
-    few = length-map s (aged_node n m) ∙ h.few;
+      → AreKept fits joins first roots links width count ws (reclaimed n m s) m
+  nodes_reclaimed ws s t n m h up = record {
+    few = length-map s (reclaimed_node n m) ∙ h.few;
     long = h.long;
-    rooted = λ j low. let r = h.rooted j low in
-        (aged_node n m r.0, at_map (aged_node n m) s j r.0 r.1, ap (aged_state n m) r.2, r.3);
-    linked = λ j u e. let b = at_map_back (aged_node n m) s j u e in
+    rooted = λ j low. let r = h.rooted j low in (
+      reclaimed_node n m r.0,
+      at_map (reclaimed_node n m) s j r.0 r.1,
+      ap (reclaimed_state n m)
+          r.2,
+      r.3,
+    );
+    linked = λ j u e. let b = at_map_back (reclaimed_node n m) s j u e in
         subst (λ (x : Node). length x.links ≡ links) b.2 (h.linked j b.0 b.1);
-    sized = λ j u e. let b = at_map_back (aged_node n m) s j u e in
+    sized = λ j u e. let b = at_map_back (reclaimed_node n m) s j u e in
         subst (λ (x : Node). length x.words ≡ width) b.2 (h.sized j b.0 b.1);
     written = λ j u e.
-        let b = at_map_back (aged_node n m) s j u e in
+        let b = at_map_back (reclaimed_node n m) s j u e in
         subst (λ (x : Node).
         (k : ℕ) → k < links + width → slice_index ws (place_of roots links width j k)
         ≡ slice_index (row_of x) k)
         b.2 (h.written j b.0 b.1);
     whole = λ j u e.
-        let b = at_map_back (aged_node n m) s j u e in
+        let b = at_map_back (reclaimed_node n m) s j u e in
         subst (λ (x : Node). IsUsed x.state → fits x.words) b.2
-        (λ used. h.whole j b.0 b.1 (used_aged n m b.0.state used));
-    by = λ j u e. let b = at_map_back (aged_node n m) s j u e in
-        subst (λ (x : Node). IsBy m x.state) b.2 (by_aged n m t b.0.state up (h.by j b.0 b.1));
+        (λ used. h.whole j b.0 b.1 (used_reclaimed n m b.0.state used));
+    by = λ j u e. let b = at_map_back (reclaimed_node n m) s j u e in
+        subst (λ (x : Node). IsBy m x.state) b.2 (by_reclaimed n m t b.0.state up (h.by j b.0 b.1));
     led = λ j u e.
-        let b = at_map_back (aged_node n m) s j u e in
-        subst (λ (x : Node). IsUsed x.state → IsLed joins links (aged n m s) x) b.2
+        let b = at_map_back (reclaimed_node n m) s j u e in
+        subst (λ (x : Node). IsUsed x.state → IsLed joins links (reclaimed n m s) x) b.2
         (λ used l k low link.
-        let d = h.led j b.0 b.1 (used_aged n m b.0.state used) l k low link in
+        let d = h.led j b.0 b.1 (used_reclaimed n m b.0.state used) l k low link in
         record {
-          to = aged_node n m d.to;
-          here = at_map (aged_node n m) s k d.to d.here;
-          lasts = outlives_aged n m t b.0.state d.to.state up (h.by j b.0 b.1) d.lasts used;
+          to = reclaimed_node n m d.to;
+          here = at_map (reclaimed_node n m) s k d.to d.here;
+          lasts = outlives_reclaimed n m t b.0.state d.to.state up (h.by j b.0 b.1) d.lasts used;
           joined = d.joined;
         });
   }

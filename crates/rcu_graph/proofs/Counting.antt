@@ -10,10 +10,10 @@ use native.Mathlib.Decide.{ℕ_discrete}
 use Rattle.rcu_graph.specs.Counts.{links_from, links_to, one_if, times_in}
 use Rattle.rcu_graph.specs.Nodes.{in_state, is_live, no_node, node_at, renewed, state_at}
 use Rattle.rcu_graph.specs.Tended.{IsReached}
-use Rattle.rcu_graph.specs.Trimming.{live_in}
+use Rattle.rcu_graph.specs.Collecting.{live_in}
 use Rattle.rcu_graph.specs.declared.known.Node.{Node}
 use Rattle.rcu_graph.specs.declared.node_state.NodeState.{NodeState}
-use Rattle.rcu_graph.specs.declared.node_state.NodeState.TheVariants.{Free, Left, Live, Retired}
+use Rattle.rcu_graph.specs.declared.node_state.NodeState.TheVariants.{Free, Live, Retired, Unlinked}
 
 pub one_same : (a b : ℕ) → a ≡ b → one_if (nat_eq a b) ≡ 1
 one_same a b e = ap one_if (eq-eqb a b e)
@@ -31,7 +31,7 @@ live_test s e = ap is_live e
 pub test_live : (s : NodeState) → is_live s ≡ true → s ≡ Live
 test_live Free e = absurd (cc)
 test_live Live e = refl
-test_live Left e = absurd (cc)
+test_live Unlinked e = absurd (cc)
 test_live (Retired n) e = absurd (cc)
 
 pub from_live : (v : Node) (i : ℕ) → v.state ≡ Live → links_from v i ≡ times_in v.links (suc i)
@@ -175,11 +175,11 @@ pub state_keeps_words : (nodes : List Node) (i j : ℕ) (s : NodeState) → i < 
     → (node_at (renewed nodes i (in_state s)) j).words ≡ (node_at nodes j).words
 state_keeps_words nodes i j s low = kept_at (λ (v : Node). v.words) nodes i j (in_state s) low refl
 
-pub live_in-left : (nodes : List Node) (i : ℕ) → state_at nodes i ≡ Live
-    → live_in (renewed nodes i (in_state Left)) + 1 ≡ live_in nodes
-live_in-left nodes i live =
+pub live_in-unlinked : (nodes : List Node) (i : ℕ) → state_at nodes i ≡ Live
+    → live_in (renewed nodes i (in_state Unlinked)) + 1 ≡ live_in nodes
+live_in-unlinked nodes i live =
     let low = live_inside nodes i live in
-    let v : Node = in_state Left (node_at nodes i) in
+    let v : Node = in_state Unlinked (node_at nodes i) in
     let one : one_if (is_live (state_at nodes i)) ≡ 1 =
     ap (λ (s : NodeState). one_if (is_live s)) live in
     let all : live_in (set nodes i v) + one_if (is_live (state_at nodes i)) ≡ live_in nodes + 0 =

@@ -9,9 +9,9 @@ use Rattle.rcu_seq.specs.Numbers.{Number}
 use Rattle.rcu_live.specs.Numbers.{is_past}
 use Rattle.rcu_graph.specs.Counts.{one_if}
 use Rattle.rcu_graph.specs.Cycle.{IsCycle, IsGone, StandsAt, how_many, is_idle, is_over, state_in}
-use Rattle.rcu_graph.specs.Nodes.{IsBy, aged_state, is_free}
+use Rattle.rcu_graph.specs.Nodes.{IsBy, is_free, reclaimed_state}
 use Rattle.rcu_graph.specs.declared.node_state.NodeState.{NodeState}
-use Rattle.rcu_graph.specs.declared.node_state.NodeState.TheVariants.{Free, Left, Live, Retired}
+use Rattle.rcu_graph.specs.declared.node_state.NodeState.TheVariants.{Free, Live, Retired, Unlinked}
 use Rattle.rcu_graph.proofs.Queues.{queue_aside, queue_popped, queue_pushed, queue_retired}
 use Rattle.rcu_graph.proofs.Stacks.{stack_aside, stack_left, stack_pushed}
 
@@ -21,7 +21,7 @@ weight s = one_if (is_idle s)
 light : (s : NodeState) → weight s ≤ 1
 light Free = omega arith
 light Live = omega arith
-light Left = omega arith
+light Unlinked = omega arith
 light (Retired a) = omega arith
 
 -- no more are so than there are
@@ -68,17 +68,17 @@ module _ (states : List NodeState) (free heights waiting : List ℕ) (retired : 
             let b = c.many in omega (arith, a, b, fewer);
       }
 
-    -- a live node is left
-    pub cycle_left : state_in states node ≡ Live
-        → IsCycle (after Left) free heights (waiting ++ node ∷ []) retired
-    cycle_left is_live = record {
-      stack = stack_aside states node Left low free heights c.stack
+    -- a live node is unlinked
+    pub cycle_unlinked : state_in states node ≡ Live
+        → IsCycle (after Unlinked) free heights (waiting ++ node ∷ []) retired
+    cycle_unlinked is_live = record {
+      stack = stack_aside states node Unlinked low free heights c.stack
           (λ (e : state_in states node ≡ Free). live_or_free (sym is_live ∙ e))
-          (λ (e : Left ≡ Free). cc);
-      queue = queue_pushed states node Left low waiting retired c.queue
+          (λ (e : Unlinked ≡ Free). cc);
+      queue = queue_pushed states node Unlinked low waiting retired c.queue
           (none_gone (state_in states node) Live is_live (λ g. g)) refl;
       many =
-          let a = weighed Left Live is_live in
+          let a = weighed Unlinked Live is_live in
           let b = c.many in
           let m = length-append waiting (node ∷ []) in omega (arith, a, b, m);
     }
@@ -89,10 +89,10 @@ module _ (states : List NodeState) (free heights waiting : List ℕ) (retired : 
     -- there is room for one more where a node is live
     pub room_left : state_in states node ≡ Live → length waiting < length states
     room_left is_live =
-        let a = (cycle_left is_live).many in
-        let b = all_idle (after Left) in
+        let a = (cycle_unlinked is_live).many in
+        let b = all_idle (after Unlinked) in
         let m = length-append waiting (node ∷ []) in
-        let n = length-set states node Left in omega (arith, a, b, m, n)
+        let n = length-set states node Unlinked in omega (arith, a, b, m, n)
 
     -- the node that was retired first is free
     pub cycle_freed : (at : Number) (rest : List ℕ)
@@ -117,25 +117,26 @@ module _ (states : List NodeState) (free heights waiting : List ℕ) (retired : 
         retired_or_free : Retired at ≡ Free → ⊥
         retired_or_free e = cc
 
-    -- the node that was left first is retired
+    -- the node that was unlinked first is retired
     pub cycle_retired : (number : Number)
-        → state_in states node ≡ Left
+        → state_in states node ≡ Unlinked
         → retired < length waiting
         → get_or waiting retired 0 ≡ node
         → ((i : ℕ) → i < length states → IsBy number (state_in states i))
         → IsCycle (after (Retired number)) free heights waiting (retired + 1)
-    cycle_retired number is_left there next late = record {
+    cycle_retired number is_unlinked there next late = record {
       stack = stack_aside states node (Retired number) low free heights c.stack
-          (λ (e : state_in states node ≡ Free). left_or_free (sym is_left ∙ e))
+          (λ (e : state_in states node ≡ Free). unlinked_or_free (sym is_unlinked ∙ e))
           (λ (e : Retired number ≡ Free). cc);
       queue = queue_retired states node (Retired number) low waiting retired c.queue number refl
           there next late;
       many =
-          let a = weighed (Retired number) Left is_left in let b = c.many in omega (arith, a, b);
+          let a = weighed (Retired number) Unlinked is_unlinked in let b = c.many in omega
+          (arith, a, b);
     }
       where
-        left_or_free : Left ≡ Free → ⊥
-        left_or_free e = cc
+        unlinked_or_free : Unlinked ≡ Free → ⊥
+        unlinked_or_free e = cc
 
 -- all nodes are free at first, and those with low numbers are on top
 module _ (count : ℕ) (free heights : List ℕ) (many : length free ≡ count)
@@ -191,11 +192,11 @@ module _ (count : ℕ) (free heights : List ℕ) (many : length free ≡ count)
 
 -- what was retired first is free where a look frees it
 pub is_retired : (number retired : ℕ) (s : NodeState) → StandsAt retired s 0 → 0 < retired
-    → is_free (aged_state number number s) ≡ true
+    → is_free (reclaimed_state number number s) ≡ true
     → (at : Number) × (s ≡ Retired at) × (is_over number s ≡ true)
 is_retired number retired Free h some so = absurd h
 is_retired number retired Live h some so = absurd h
-is_retired number retired Left h some so =
+is_retired number retired Unlinked h some so =
     let a : retired ≤ 0 = h in absurd (omega (arith, a, some))
 is_retired number retired (Retired at) h some so = (at, refl, go (is_past at number) so)
   where
@@ -203,9 +204,9 @@ is_retired number retired (Retired at) h some so = (at, refl, go (is_past at num
     go true e = refl
     go false e = absurd (cc)
 
--- what was left first is left
-pub is_left_at : (retired : ℕ) (s : NodeState) → StandsAt retired s retired → s ≡ Left
-is_left_at retired Free h = absurd h
-is_left_at retired Live h = absurd h
-is_left_at retired Left h = refl
-is_left_at retired (Retired at) h = let a : retired < retired = h in absurd (omega (arith, a))
+-- what was unlinked first is unlinked
+pub is_unlinked_at : (retired : ℕ) (s : NodeState) → StandsAt retired s retired → s ≡ Unlinked
+is_unlinked_at retired Free h = absurd h
+is_unlinked_at retired Live h = absurd h
+is_unlinked_at retired Unlinked h = refl
+is_unlinked_at retired (Retired at) h = let a : retired < retired = h in absurd (omega (arith, a))

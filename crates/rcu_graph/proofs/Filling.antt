@@ -7,7 +7,7 @@ use Rattle.rcu_live.specs.Board.{Object}
 use Rattle.rcu_live.specs.Watcher.{Watching, after_word_step}
 use Rattle.rcu_graph.specs.Graph.{IsWatcherOf}
 use Rattle.rcu_graph.specs.Graph.{word_to}
-use Rattle.rcu_graph.specs.Keeper.{after_step, after_write, after_write_link}
+use Rattle.rcu_graph.specs.Writer.{after_step, after_write, after_write_link}
 use Rattle.rcu_graph.specs.Filling.{CanFill, CanStore, after_links, after_words, with_links}
 use Rattle.rcu_graph.specs.Mirror.{with_links_to, with_words, with_words_to}
 use Rattle.rcu_graph.specs.Nodes.{IsKeeping, linked_to, no_node, node_at, nodes_in}
@@ -17,7 +17,7 @@ use Rattle.rcu_graph.specs.Tended.{after_fill}
 use Rattle.rcu_graph.specs.Planned.{knowing}
 use Rattle.rcu_graph.specs.declared.known.Known.{Known}
 use Rattle.rcu_graph.specs.declared.known.Planned.{Planned}
-use Rattle.rcu_graph.specs.declared.known.Known.TheVariants.{Idle, Keeper, Owner, Reader}
+use Rattle.rcu_graph.specs.declared.known.Known.TheVariants.{Idle, Owner, Reader, Writer}
 use Rattle.rcu_graph.specs.declared.known.Node.{Node}
 use Rattle.rcu_graph.specs.declared.node_state.NodeState.{NodeState}
 use Rattle.rcu_graph.specs.declared.node_state.NodeState.TheVariants.{Free}
@@ -57,7 +57,7 @@ pub known_is : (k : Known) → IsKeeping k → k ≡ keeping k (nodes_in k)
 known_is Idle keeps = absurd keeps
 known_is Owner keeps = absurd keeps
 known_is (Reader held) keeps = absurd keeps
-known_is (Keeper latest nodes stored) keeps = refl
+known_is (Writer latest nodes stored) keeps = refl
 
 -- what leads to one of so many nodes leads below each bound of their number
 pub below_more : (o : Option ℕ) (n m : ℕ) → n ≤ m → IfSome o (λ j. j < n) → IfSome o (λ j. j < m)

@@ -18,7 +18,7 @@ use Rattle.rcu_graph.specs.Search.{Ascends}
 use Rattle.rcu_graph.specs.Steps.{Followed, IsFollowed}
 use Rattle.rcu_graph.specs.declared.known.Hop.{Hop}
 use Rattle.rcu_graph.specs.declared.known.Known.{Known}
-use Rattle.rcu_graph.specs.declared.known.Known.TheVariants.{Keeper}
+use Rattle.rcu_graph.specs.declared.known.Known.TheVariants.{Writer}
 use Rattle.rcu_graph.specs.declared.known.Node.{Node}
 use Rattle.rcu_graph.specs.declared.node_state.NodeState.{NodeState}
 use Rattle.rcu_graph.specs.declared.node_state.NodeState.TheVariants.{Free, Live}
@@ -26,7 +26,7 @@ use Rattle.rcu_graph.proofs.Moves.{knows_held}
 use Rattle.rcu_graph.proofs.States.{live_outlived, not_both}
 use Rattle.rcu_graph.proofs.Tending.{at_here}
 
-not_reader : (known : Known) (n : ℕ) (s : List Node) (b : List (List Node)) → known ≡ Keeper n s b
+not_reader : (known : Known) (n : ℕ) (s : List Node) (b : List (List Node)) → known ≡ Writer n s b
     → IsReader known → ⊥
 not_reader known n s b e reads = subst IsReader e reads
 
@@ -40,7 +40,7 @@ module _ (fits : List ℕ → Type 0) (joins : ℕ → List ℕ → List ℕ →
       → IsHeld known i words
       → Reading h.nodes section i words
   holds_it ws xs h id i cpu section known words at reads held =
-      knows_held fits joins first roots links width count h.nodes h.latest h.keeper id section known
+      knows_held fits joins first roots links width count h.nodes h.latest h.writer id section known
       reads (h.seats id cpu section known at) i words held
 
   word_held : (ws : List ℕ) (xs : Views Known)
@@ -77,76 +77,76 @@ module _ (fits : List ℕ → Type 0) (joins : ℕ → List ℕ → List ℕ →
       ∙ sym (word_held before xs h id i k cpu section was words at reads held low)
 
   pub not_held : (table : List ℕ) (xs : Views Known)
-      (keeper id i latest : ℕ) (who own cpu section : Option ℕ) (nodes : List Node)
+      (writer id i latest : ℕ) (who own cpu section : Option ℕ) (nodes : List Node)
       (stored : List (List Node)) (known : Known)
       (words : List ℕ) (v : Node)
       → IsKept fits joins first roots links width count table xs
-      → get_elem? xs keeper ≡ some (who, own, Keeper latest nodes stored)
+      → get_elem? xs writer ≡ some (who, own, Writer latest nodes stored)
       → get_elem? xs id ≡ some (cpu, section, known)
       → IsReader known
       → IsHeld known i words
       → get_elem? nodes i ≡ some v
       → v.state ≢ Free
-  not_held table xs keeper id i latest who own cpu section nodes stored known words v h kept
+  not_held table xs writer id i latest who own cpu section nodes stored known words v h kept
       at
       reads held is free =
       let r = holds_it table xs h id i cpu section known words at reads held in
-      let k = h.seats keeper who own (Keeper latest nodes stored) kept in
+      let k = h.seats writer who own (Writer latest nodes stored) kept in
       let same : v ≡ r.on =
       some-injective _ _ (sym is ∙ (ap (λ (s : List Node). get_elem? s i) k.1 ∙ r.here)) in
       subst (λ (st : NodeState). MayRead r.opened st) (sym (ap (λ (x : Node). x.state) same) ∙ free)
       r.may
 
   pub as_known : (table : List ℕ) (xs : Views Known)
-      (keeper id i latest : ℕ) (who own cpu section : Option ℕ) (nodes : List Node)
+      (writer id i latest : ℕ) (who own cpu section : Option ℕ) (nodes : List Node)
       (stored : List (List Node)) (known : Known)
       (words : List ℕ) (v : Node)
       → IsKept fits joins first roots links width count table xs
-      → get_elem? xs keeper ≡ some (who, own, Keeper latest nodes stored)
+      → get_elem? xs writer ≡ some (who, own, Writer latest nodes stored)
       → get_elem? xs id ≡ some (cpu, section, known)
       → IsReader known
       → IsHeld known i words
       → get_elem? nodes i ≡ some v
       → v.words ≡ words
-  as_known table xs keeper id i latest who own cpu section nodes stored known words v h kept
+  as_known table xs writer id i latest who own cpu section nodes stored known words v h kept
       at
       reads held is =
       let r = holds_it table xs h id i cpu section known words at reads held in
-      let k = h.seats keeper who own (Keeper latest nodes stored) kept in
+      let k = h.seats writer who own (Writer latest nodes stored) kept in
       let same : v ≡ r.on =
       some-injective _ _ (sym is ∙ (ap (λ (s : List Node). get_elem? s i) k.1 ∙ r.here)) in
       ap (λ (x : Node). x.words) same ∙ r.same
 
-  -- the words with which a section holds a node are those that the keeper knows of it
+  -- the words with which a section holds a node are those that the writer knows of it
   pub held_words : (table : List ℕ) (xs : Views Known)
-      (keeper id i latest : ℕ) (who own cpu section : Option ℕ) (nodes : List Node)
+      (writer id i latest : ℕ) (who own cpu section : Option ℕ) (nodes : List Node)
       (stored : List (List Node)) (known : Known) (words : List ℕ)
       → IsKept fits joins first roots links width count table xs
-      → get_elem? xs keeper ≡ some (who, own, Keeper latest nodes stored)
+      → get_elem? xs writer ≡ some (who, own, Writer latest nodes stored)
       → get_elem? xs id ≡ some (cpu, section, known)
       → IsReader known
       → IsHeld known i words
       → (node_at nodes i).words ≡ words
-  held_words table xs keeper id i latest who own cpu section nodes stored known words h kept at
+  held_words table xs writer id i latest who own cpu section nodes stored known words h kept at
       reads held =
       let r = holds_it table xs h id i cpu section known words at reads held in
-      let k = h.seats keeper who own (Keeper latest nodes stored) kept in
+      let k = h.seats writer who own (Writer latest nodes stored) kept in
       let same : node_at nodes i ≡ r.on =
       ap (λ (s : List Node). node_at s i) k.1 ∙ at_here h.nodes i r.on r.here in
       ap (λ (x : Node). x.words) same ∙ r.same
 
   pub live_leads : (table : List ℕ) (xs : Views Known)
-      (keeper i l j latest : ℕ) (who own : Option ℕ) (nodes : List Node)
+      (writer i l j latest : ℕ) (who own : Option ℕ) (nodes : List Node)
       (stored : List (List Node)) (v : Node)
       → IsKept fits joins first roots links width count table xs
-      → get_elem? xs keeper ≡ some (who, own, Keeper latest nodes stored)
+      → get_elem? xs writer ≡ some (who, own, Writer latest nodes stored)
       → get_elem? nodes i ≡ some v
       → v.state ≡ Live
       → l < links
       → slice_index table (place_of roots links width i l) ≡ suc j
       → (to : Node) × (get_elem? nodes j ≡ some to) × (to.state ≡ Live) × joins l v.words to.words
-  live_leads table xs keeper i l j latest who own nodes stored v h kept at live low link =
-      let k = h.seats keeper who own (Keeper latest nodes stored) kept in
+  live_leads table xs writer i l j latest who own nodes stored v h kept at live low link =
+      let k = h.seats writer who own (Writer latest nodes stored) kept in
       let here : get_elem? h.nodes i ≡ some v =
       ap (λ (s : List Node). get_elem? s i) (sym k.1) ∙ at in
       let many : length v.links ≡ links = h.kept.linked i v here in
@@ -175,15 +175,15 @@ module _ (fits : List ℕ → Type 0) (joins : ℕ → List ℕ → List ℕ →
   on_node ws xs h id i cpu section known words at reads (inr held) =
       let r = holds_it ws xs h id i cpu section known words at reads held in (r.on, r.here)
 
-  -- a hop was true of the nodes at its load, which the keeper knows right after it still
+  -- a hop was true of the nodes at its load, which the writer knows right after it still
   pub hop_true_then : (table later_table : List ℕ)
-      (xs ys : Views Known) (keeper id i l latest : ℕ) (who own cpu section : Option ℕ)
+      (xs ys : Views Known) (writer id i l latest : ℕ) (who own cpu section : Option ℕ)
       (later_who later_own later_cpu later_section : Option ℕ) (nodes : List Node)
       (stored : List (List Node)) (was now : Known) (words : List ℕ)
       → IsKept fits joins first roots links width count table xs
       → IsKept fits joins first roots links width count later_table ys
-      → get_elem? xs keeper ≡ some (who, own, Keeper latest nodes stored)
-      → get_elem? ys keeper ≡ some (later_who, later_own, Keeper latest nodes stored)
+      → get_elem? xs writer ≡ some (who, own, Writer latest nodes stored)
+      → get_elem? ys writer ≡ some (later_who, later_own, Writer latest nodes stored)
       → get_elem? xs id ≡ some (cpu, section, was)
       → get_elem? ys id ≡ some (later_cpu, later_section, now)
       → IsReader was
@@ -196,14 +196,14 @@ module _ (fits : List ℕ → Type 0) (joins : ℕ → List ℕ → List ℕ →
       × (hop.from ≡ i)
       × (hop.link ≡ l)
       × IsTrueOf nodes hop
-  hop_true_then table later_table xs ys keeper id i l latest who own cpu section
+  hop_true_then table later_table xs ys writer id i l latest who own cpu section
       later_who later_own later_cpu later_section nodes stored was now words h h' kept still at then
       reads on low told =
       let x : ℕ = slice_index table (place_of roots links width i l) in
       let f : Followed fits (joins l words) width count was i l x now =
       told i l words low refl on in
       let hop : Hop = record { from = i; link = l; to = x; words = f.words } in
-      let k = h.seats keeper who own (Keeper latest nodes stored) kept in
+      let k = h.seats writer who own (Writer latest nodes stored) kept in
       let there = on_node table xs h id i cpu section was words at reads on in
       let many : length there.0.links ≡ links = h.kept.linked i there.0 there.1 in
       let found : x ≡ slice_index there.0.links l =
@@ -223,7 +223,7 @@ module _ (fits : List ℕ → Type 0) (joins : ℕ → List ℕ → List ℕ →
           → slice_index table (place_of roots links width i l) ≡ suc j
           → f.words ≡ (node_at nodes j).words
       came f j e =
-          let known = h'.seats keeper later_who later_own (Keeper latest nodes stored) still in
+          let known = h'.seats writer later_who later_own (Writer latest nodes stored) still in
           let held : IsHeld now j f.words = subst (λ (k : Known). IsHeld k j f.words) (sym f.is) (
             0,
             record {
@@ -243,11 +243,11 @@ module _ (fits : List ℕ → Type 0) (joins : ℕ → List ℕ → List ℕ →
           ∙ r.same)
 
   pub hop_true : (table : List ℕ) (xs : Views Known)
-      (keeper id i l latest : ℕ) (who own cpu section : Option ℕ) (nodes : List Node)
+      (writer id i l latest : ℕ) (who own cpu section : Option ℕ) (nodes : List Node)
       (stored : List (List Node)) (was now : Known) (words : List ℕ)
       → IsKept fits joins first roots links width count table xs
       → IsKept fits joins first roots links width count table (set xs id (cpu, section, now))
-      → get_elem? xs keeper ≡ some (who, own, Keeper latest nodes stored)
+      → get_elem? xs writer ≡ some (who, own, Writer latest nodes stored)
       → get_elem? xs id ≡ some (cpu, section, was)
       → IsReader was
       → IsOn first roots was i words
@@ -259,32 +259,32 @@ module _ (fits : List ℕ → Type 0) (joins : ℕ → List ℕ → List ℕ →
       × (hop.from ≡ i)
       × (hop.link ≡ l)
       × IsTrueOf nodes hop
-  hop_true table xs keeper id i l latest who own cpu section nodes stored was now words h h'
+  hop_true table xs writer id i l latest who own cpu section nodes stored was now words h h'
       kept at reads on low told =
-      let apart : keeper ≢ id = λ same. not_reader was latest nodes stored
+      let apart : writer ≢ id = λ same. not_reader was latest nodes stored
       (ap (λ (y : ClientView Known). y.2)
       (some-injective _ _ (sym at ∙ (ap (λ (n : ℕ). get_elem? xs n) (sym same) ∙ kept))))
       reads in
-      hop_true_then table table xs (set xs id (cpu, section, now)) keeper id i l latest
+      hop_true_then table table xs (set xs id (cpu, section, now)) writer id i l latest
       who own cpu section who own cpu section nodes stored was now words h h' kept
-      (set_else xs id keeper (cpu, section, now) apart ∙ kept) at
+      (set_else xs id writer (cpu, section, now) apart ∙ kept) at
       (set_here xs id (cpu, section, now) (inside xs id (cpu, section, was) at)) reads on low told
 
   -- at each moment the nodes are chained, where the keys go up and a link stays in its chain
   pub chains : (ours : List ℕ → Bool) (root : ℕ) (table : List ℕ)
-      (xs : Views Known) (keeper latest : ℕ) (who own : Option ℕ) (nodes : List Node)
+      (xs : Views Known) (writer latest : ℕ) (who own : Option ℕ) (nodes : List Node)
       (stored : List (List Node))
       → IsKept fits joins first roots links width count table xs
-      → get_elem? xs keeper ≡ some (who, own, Keeper latest nodes stored)
+      → get_elem? xs writer ≡ some (who, own, Writer latest nodes stored)
       → Ascends joins 0
       → ((from to : List ℕ) → joins 0 from to → IsTrue (ours from) → IsTrue (ours to))
       → root < roots
       → 0 < links
       → IsTrue (ours (first root))
       → IsChained ours root nodes
-  chains ours root table xs keeper latest who own nodes stored h kept up stays low some_link
+  chains ours root table xs writer latest who own nodes stored h kept up stays low some_link
       mine =
-      let k = h.seats keeper who own (Keeper latest nodes stored) kept in
+      let k = h.seats writer who own (Writer latest nodes stored) kept in
       let r = h.kept.rooted root low in
       let here : node_at nodes root ≡ r.0 =
       ap (λ (s : List Node). node_at s root) k.1 ∙ at_here h.nodes root r.0 r.1 in
@@ -308,7 +308,7 @@ module _ (fits : List ℕ → Type 0) (joins : ℕ → List ℕ → List ℕ →
       next : (i j : ℕ) → state_at nodes i ≡ Live → slice_index (node_at nodes i).links 0 ≡ suc j
           → (state_at nodes j ≡ Live) × joins 0 (node_at nodes i).words (node_at nodes j).words
       next i j live link =
-          let k = h.seats keeper who own (Keeper latest nodes stored) kept in
+          let k = h.seats writer who own (Writer latest nodes stored) kept in
           let at : get_elem? h.nodes i ≡ some (node_at nodes i) =
           ap (λ (s : List Node). get_elem? s i) (sym k.1) ∙ there i live in
           let many : length (node_at nodes i).links ≡ links =
@@ -318,7 +318,7 @@ module _ (fits : List ℕ → Type 0) (joins : ℕ → List ℕ → List ℕ →
           ∙ (get_or_append_left (node_at nodes i).links (node_at nodes i).words 0 0
           (omega (arith, some_link, many))
           ∙ link) in
-          let t = live_leads table xs keeper i 0 j latest who own nodes stored
+          let t = live_leads table xs writer i 0 j latest who own nodes stored
           (node_at nodes i) h
           kept (there i live) live some_link word in
           let to : node_at nodes j ≡ t.0 = at_here nodes j t.0 t.1 in (

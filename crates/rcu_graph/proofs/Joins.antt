@@ -5,12 +5,12 @@ use Rattle.rcu_live.specs.InPart.{engine_part, watcher_part}
 use Rattle.rcu_live.specs.Several.{IsLens, Lens}
 use Rattle.rcu_live.specs.Watcher.{IsWatcherOf, Watching, after_word_step, watcher_at_first}
 use Rattle.rcu_live.proofs.InPart.{watcher_with}
-use Rattle.rcu_graph.specs.Keeper.{IsKeeperOf}
+use Rattle.rcu_graph.specs.Writer.{IsWriterOf}
 use Rattle.rcu_graph.specs.Nodes.{first_nodes}
 use Rattle.rcu_graph.specs.Opening.{claimed_first}
 use Rattle.rcu_graph.specs.Planned.{knowing, of_plan}
 use Rattle.rcu_graph.specs.declared.known.Known.{Known}
-use Rattle.rcu_graph.specs.declared.known.Known.TheVariants.{Keeper, Owner}
+use Rattle.rcu_graph.specs.declared.known.Known.TheVariants.{Owner, Writer}
 use Rattle.rcu_graph.specs.declared.known.Planned.{Planned}
 use Rattle.rcu_graph.specs.declared.plan.Plan.{Plan}
 use Rattle.rcu_graph.proofs.Keeping.{keeps_first}
@@ -26,15 +26,15 @@ module _ {D Q : Type 0} (lens : Lens D Planned) (idle closed : Planned → Plann
       (lens.set (idle_whole own.view.client) (lens.get own.view.client))
       → seat ≡ after_word_step new (lens.set new.view.client
       (knowing (lens.get new.view.client)
-      (Keeper 0 (first_nodes (own_plan engine.plan).links (own_plan engine.plan).words first
+      (Writer 0 (first_nodes (own_plan engine.plan).links (own_plan engine.plan).words first
       (own_plan engine.plan).roots (own_plan engine.plan).nodes) [])))
-      → IsKeeperOf (engine_part own_plan begins engine) (watcher_part lens seat)
+      → IsWriterOf (engine_part own_plan begins engine) (watcher_part lens seat)
   joins engine own new seat first watches owner handed claimed =
       let plan : Plan = own_plan engine.plan in
       let graph : Object Plan = engine_part own_plan begins engine in
       let d : D = own.view.client in
       let e : D = lens.set (idle_whole d) (lens.get d) in
-      let kept : Known = Keeper 0
+      let kept : Known = Writer 0
       (first_nodes plan.links plan.words first plan.roots plan.nodes) [] in
       let known : Planned = knowing (lens.get new.view.client) kept in
       let base : lens.begins own.view.base e ≡ graph.base =
@@ -62,12 +62,12 @@ module _ {D Q : Type 0} (lens : Lens D Planned) (idle closed : Planned → Plann
       (lens.set (idle_whole own.view.client) (lens.get own.view.client))
       → seat ≡ after_word_step new (lens.set new.view.client
       (knowing (lens.get new.view.client)
-      (Keeper 0 (first_nodes plan.links plan.words first plan.roots plan.nodes) [])))
+      (Writer 0 (first_nodes plan.links plan.words first plan.roots plan.nodes) [])))
       → seat ≡ watcher_at_first own.table own.view.base
       (lens.set (idle_whole own.view.client) (claimed_first first plan))
   joined_as own new seat first plan owner handed claimed =
       let d : D = own.view.client in
-      let kept : Known = Keeper 0
+      let kept : Known = Writer 0
       (first_nodes plan.links plan.words first plan.roots plan.nodes) [] in
       let knows : lens.get (lens.set (idle_whole d) (lens.get d)) ≡ of_plan plan Owner =
       is.got (idle_whole d) (lens.get d) ∙ owner in

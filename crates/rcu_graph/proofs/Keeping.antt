@@ -4,14 +4,14 @@ use Rattle.std.proofs.lemmas.List.FromFn.{length-map-range_with_len}
 use Rattle.rcu_live.specs.Board.{Object}
 use Rattle.rcu_live.specs.Watcher.{Watching, after_word_step, watcher_at_first}
 use Rattle.rcu_graph.specs.Graph.{IsWatcherOf}
-use Rattle.rcu_graph.specs.Keeper.{IsKeeperOf, after_publish, stored_to}
+use Rattle.rcu_graph.specs.Writer.{IsWriterOf, after_publish, stored_to}
 use Rattle.rcu_graph.specs.Nodes.{first_node, first_nodes, in_state, linked_to, nodes_in}
 use Rattle.rcu_graph.specs.Nodes.{place_of, renewed}
 use Rattle.rcu_graph.specs.Planned.{knowing, tells_publish}
 use Rattle.rcu_graph.specs.Steps.{IsPublished}
 use Rattle.rcu_graph.specs.declared.known.Known.{Known}
 use Rattle.rcu_graph.specs.declared.known.Planned.{Planned}
-use Rattle.rcu_graph.specs.declared.known.Known.TheVariants.{Keeper, Owner}
+use Rattle.rcu_graph.specs.declared.known.Known.TheVariants.{Owner, Writer}
 use Rattle.rcu_graph.specs.declared.known.Node.{Node}
 use Rattle.rcu_graph.specs.declared.node_state.NodeState.TheVariants.{Live}
 use Rattle.rcu_graph.specs.declared.plan.Plan.{Plan}
@@ -26,19 +26,19 @@ pub keeps_on : (graph : Object Plan) (old new : Watching Planned) (latest : ℕ)
     (nodes : List Node) (stored : List (List Node))
     → new ≡ after_word_step old new.view.client
     → new.view.client.plan ≡ old.view.client.plan
-    → new.view.client.known ≡ Keeper latest nodes stored
+    → new.view.client.known ≡ Writer latest nodes stored
     → length nodes ≡ graph.plan.nodes
-    → IsKeeperOf graph old
-    → IsKeeperOf graph new
+    → IsWriterOf graph old
+    → IsWriterOf graph new
 keeps_on graph old new latest nodes stored same stays is few k =
     let after : Planned = record {
       plan = old.view.client.plan;
-      known = Keeper latest nodes stored;
+      known = Writer latest nodes stored;
     } in
     let both : new.view.client ≡ after = λ i. record { plan = stays i; known = is i } in
-    subst (IsKeeperOf graph) (sym (same ∙ ap (λ (c : Planned). after_word_step old c) both))
+    subst (IsWriterOf graph) (sym (same ∙ ap (λ (c : Planned). after_word_step old c) both))
     (record {
-      watches = watches_on graph old (Keeper latest nodes stored) k.watches;
+      watches = watches_on graph old (Writer latest nodes stored) k.watches;
       role = k.role;
       keeps = tt;
       few = few;
@@ -70,16 +70,16 @@ pub keeps_first : (plan : Plan) (base : ℕ) (first : ℕ → List ℕ) (graph :
     → own ≡ watcher_at_first graph.table base (record { plan = plan; known = Owner })
     → seat ≡ after_word_step own
     (knowing own.view.client
-    (Keeper 0
+    (Writer 0
     (first_nodes graph.plan.links graph.plan.words first graph.plan.roots graph.plan.nodes)
     []))
-    → IsKeeperOf graph seat
+    → IsWriterOf graph seat
 keeps_first plan base first graph own seat begins same first_seat is =
     let p : Plan = graph.plan in
     let nodes : List Node = first_nodes p.links p.words first p.roots p.nodes in
-    subst (IsKeeperOf graph)
+    subst (IsWriterOf graph)
     (sym (is ∙ ap (λ (w : Watching Planned).
-    after_word_step w (knowing w.view.client (Keeper 0 nodes []))) first_seat))
+    after_word_step w (knowing w.view.client (Writer 0 nodes []))) first_seat))
     (record {
       watches = record { engine = (refl, sym begins); planned = sym same };
       role = refl;

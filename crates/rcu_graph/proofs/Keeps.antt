@@ -1,5 +1,5 @@
--- The nodes stay tended and counted where a free node is written and where the nodes age, and are
--- so at first.
+-- The nodes stay tended and counted where a free node is written and where nodes are reclaimed, and
+-- are so at first.
 use Rattle.std.proofs.Common.{◌≡◌, ◌≢◌, ℕ, zero, suc, ◌+◌, ◌<◌, ◌≤◌, Bool, true, false, List, []}
 use Rattle.std.proofs.Common.{◌∷◌, length, get_or, replicate, refl, sym, ap, ◌∙◌, arith, subst}
 use Rattle.std.specs.Prelude.{if◌then◌else◌, nat_lt, slice_index}
@@ -10,25 +10,26 @@ use Rattle.std.proofs.Math.ListN.{get_or-map}
 use mathlib.Core.Logic.{dite}
 use native.Mathlib.Decide.{ℕ_discrete}
 use Rattle.rcu_graph.specs.Counts.{links_from, links_to, times_in}
-use Rattle.rcu_graph.specs.Nodes.{aged, aged_node, aged_state, first_node, first_nodes, free_node}
-use Rattle.rcu_graph.specs.Nodes.{is_live, no_node, node_at, renewed, root, state_at}
+use Rattle.rcu_graph.specs.Nodes.{first_node, first_nodes, free_node, is_live, no_node, node_at}
+use Rattle.rcu_graph.specs.Nodes.{reclaimed, reclaimed_node, reclaimed_state, renewed, root}
+use Rattle.rcu_graph.specs.Nodes.{state_at}
 use Rattle.rcu_graph.specs.Tended.{IsReached}
-use Rattle.rcu_graph.specs.Trimming.{IsCounted}
+use Rattle.rcu_graph.specs.Collecting.{IsCounted}
 use Rattle.rcu_graph.specs.declared.known.Node.{Node}
 use Rattle.rcu_graph.specs.declared.node_state.NodeState.{NodeState}
-use Rattle.rcu_graph.specs.declared.node_state.NodeState.TheVariants.{Free, Left, Live, Retired}
+use Rattle.rcu_graph.specs.declared.node_state.NodeState.TheVariants.{Free, Live, Retired, Unlinked}
 use Rattle.rcu_graph.proofs.Counting.{found_node, from_others, kept_at, links_to-set, live_inside}
 use Rattle.rcu_graph.proofs.Counting.{other_node}
 use Rattle.rcu_graph.proofs.FirstNodes.{below, is_below}
 use Rattle.rcu_graph.proofs.Puts.{free_or_live}
-use Rattle.rcu_graph.proofs.States.{live_aged}
+use Rattle.rcu_graph.proofs.States.{live_reclaimed}
 use Rattle.rcu_graph.proofs.Tending.{are_whole, here_at}
 
-pub is_live_aged : (n m : ℕ) (st : NodeState) → is_live (aged_state n m st) ≡ is_live st
-is_live_aged n m Free = refl
-is_live_aged n m Live = refl
-is_live_aged n m Left = refl
-is_live_aged n m (Retired a) = past _
+pub is_live_reclaimed : (n m : ℕ) (st : NodeState) → is_live (reclaimed_state n m st) ≡ is_live st
+is_live_reclaimed n m Free = refl
+is_live_reclaimed n m Live = refl
+is_live_reclaimed n m Unlinked = refl
+is_live_reclaimed n m (Retired a) = past _
   where
     past : (b : Bool) → is_live (if b then Free else Retired a) ≡ false
     past true = refl
@@ -36,8 +37,8 @@ is_live_aged n m (Retired a) = past _
 
 module _ (fits : List ℕ → Type 0) (joins : ℕ → List ℕ → List ℕ → Type 0)
     (count roots links : ℕ) where
-  module _ (nodes : List Node) (counts leaving : List ℕ)
-      (c : IsCounted fits joins count roots links nodes counts leaving) where
+  module _ (nodes : List Node) (counts unlinking : List ℕ)
+      (c : IsCounted fits joins count roots links nodes counts unlinking) where
     -- a free node is written
     module _ (i : ℕ) (f : Node → Node) (inside : i < length nodes) (free : state_at nodes i ≡ Free)
         (same : (f (node_at nodes i)).state ≡ (node_at nodes i).state) where
@@ -72,7 +73,7 @@ module _ (fits : List ℕ → Type 0) (joins : ℕ → List ℕ → List ℕ →
           (not_live (f (node_at nodes i)).state (same ∙ free)) in
           omega (arith, a, b, d)
 
-      pub counted_written : IsCounted fits joins count roots links new counts leaving
+      pub counted_written : IsCounted fits joins count roots links new counts unlinking
       counted_written = record {
         tended = record {
           rooted = λ j low. states j ∙ c.tended.rooted j low;
@@ -106,35 +107,38 @@ module _ (fits : List ℕ → Type 0) (joins : ℕ → List ℕ → List ℕ →
         counted = λ k low. c.counted k low ∙ sym (same_counts k);
       }
 
-    -- the nodes age
+    -- nodes are reclaimed
     module _ (n m : ℕ) where
-      at : (j : ℕ) → node_at (aged n m nodes) j ≡ aged_node n m (node_at nodes j)
-      at j = get_or-map (aged_node n m) nodes j no_node
+      at : (j : ℕ) → node_at (reclaimed n m nodes) j ≡ reclaimed_node n m (node_at nodes j)
+      at j = get_or-map (reclaimed_node n m) nodes j no_node
 
-      before : (j : ℕ) → state_at (aged n m nodes) j ≡ Live → state_at nodes j ≡ Live
-      before j on = live_aged n m (state_at nodes j) (sym (ap (λ (v : Node). v.state) (at j)) ∙ on)
+      before : (j : ℕ) → state_at (reclaimed n m nodes) j ≡ Live → state_at nodes j ≡ Live
+      before j on =
+          live_reclaimed n m (state_at nodes j) (sym (ap (λ (v : Node). v.state) (at j)) ∙ on)
 
-      still : (j : ℕ) → state_at nodes j ≡ Live → state_at (aged n m nodes) j ≡ Live
-      still j on = ap (λ (v : Node). v.state) (at j) ∙ ap (aged_state n m) on
+      still : (j : ℕ) → state_at nodes j ≡ Live → state_at (reclaimed n m nodes) j ≡ Live
+      still j on = ap (λ (v : Node). v.state) (at j) ∙ ap (reclaimed_state n m) on
 
-      from_aged : (v : Node) (k : ℕ) → links_from (aged_node n m v) k ≡ links_from v k
-      from_aged v k =
-          ap (λ (b : Bool). if b then times_in v.links (suc k) else 0) (is_live_aged n m v.state)
+      from_reclaimed : (v : Node) (k : ℕ) → links_from (reclaimed_node n m v) k ≡ links_from v k
+      from_reclaimed v k =
+          ap (λ (b : Bool). if b then times_in v.links (suc k) else 0)
+          (is_live_reclaimed n m v.state)
 
-      as_many : (l : List Node) (k : ℕ) → links_to (aged n m l) k ≡ links_to l k
+      as_many : (l : List Node) (k : ℕ) → links_to (reclaimed n m l) k ≡ links_to l k
       as_many [] k = refl
       as_many (v ∷ l) k =
-          let a : links_to (aged n m (v ∷ l)) k
-          ≡ links_from (aged_node n m v) k + links_to (aged n m l) k =
-          sum_by-cons (λ (x : Node). links_from x k) (aged_node n m v) (aged n m l) in
+          let a : links_to (reclaimed n m (v ∷ l)) k
+          ≡ links_from (reclaimed_node n m v) k + links_to (reclaimed n m l) k =
+          sum_by-cons (λ (x : Node). links_from x k) (reclaimed_node n m v) (reclaimed n m l) in
           let b : links_to (v ∷ l) k ≡ links_from v k + links_to l k =
           sum_by-cons (λ (x : Node). links_from x k) v l in
-          let d = from_aged v k in
+          let d = from_reclaimed v k in
           let e = as_many l k in
           omega (arith, a, b, d, e)
 
-      pub counted_aged : IsCounted fits joins count roots links (aged n m nodes) counts leaving
-      counted_aged = record {
+      pub counted_reclaimed : IsCounted fits joins count roots links (reclaimed n m nodes)
+          counts unlinking
+      counted_reclaimed = record {
         tended = record {
           rooted = λ j low. still j (c.tended.rooted j low);
           whole = λ j on.
@@ -143,10 +147,10 @@ module _ (fits : List ℕ → Type 0) (joins : ℕ → List ℕ → List ℕ →
               let r = (are_whole fits joins count roots links 0 nodes c.tended).led j l k
               (before j on) low (ap (λ (v : Node). slice_index v.links l) (sym (at j)) ∙ is) in
               let there = still k r.0 in (
-                node_at (aged n m nodes) k,
-                here_at (aged n m nodes) k (live_inside (aged n m nodes) k there),
+                node_at (reclaimed n m nodes) k,
+                here_at (reclaimed n m nodes) k (live_inside (reclaimed n m nodes) k there),
                 there,
-                subst (λ (v : Node). joins l v.words (node_at (aged n m nodes) k).words)
+                subst (λ (v : Node). joins l v.words (node_at (reclaimed n m nodes) k).words)
                     (sym (at j))
                     (subst (λ (v : Node). joins l (node_at nodes j).words v.words) (sym (at k))
                     r.1),
@@ -219,12 +223,12 @@ module _ (fits : List ℕ → Type 0) (joins : ℕ → List ℕ → List ℕ →
         absurd (no_links f.0 f.2 k
         (let b = live_inside begin f.0 f.1 in let e = size in omega (arith, b, e)) f.4))
 
-    pub counted_first : (counts leaving : List ℕ)
+    pub counted_first : (counts unlinking : List ℕ)
         → ((i : ℕ) → i < roots → fits (first i))
         → counts ≡ replicate count 0
-        → length leaving ≡ count
-        → IsCounted fits joins count roots links begin counts leaving
-    counted_first counts leaving fit zeros room = record {
+        → length unlinking ≡ count
+        → IsCounted fits joins count roots links begin counts unlinking
+    counted_first counts unlinking fit zeros room = record {
       tended = record {
         rooted = λ i low. ap (λ (v : Node). v.state) (root_at i low);
         whole = λ i on. subst (λ (v : Node). fits v.words) (sym (root_at i (live_root i on)))

@@ -24,7 +24,7 @@ pub mod Filling
 pub mod Keeps
 pub mod Mirrors
 pub mod Tending
-pub mod Trims
+pub mod Releases
 pub mod Cascade
 pub mod Stacks
 pub mod Queues

@@ -9,16 +9,16 @@ use Rattle.rcu_seq.specs.Numbers.{Number}
 use Rattle.rcu_live.specs.CpuSeat.{Seated}
 use Rattle.rcu_live.specs.Watcher.{Watching}
 use Rattle.rcu_graph.specs.Graph.{IsOfSameGraph}
-use Rattle.rcu_graph.specs.Keeper.{after_look}
-use Rattle.rcu_graph.specs.Nodes.{aged, aged_node, is_live, latest_in, no_node}
-use Rattle.rcu_graph.specs.Nodes.{node_at, nodes_in, state_at}
+use Rattle.rcu_graph.specs.Writer.{after_look}
+use Rattle.rcu_graph.specs.Nodes.{is_live, latest_in, no_node, node_at, nodes_in, reclaimed}
+use Rattle.rcu_graph.specs.Nodes.{reclaimed_node, state_at}
 use Rattle.rcu_graph.specs.Tended.{AreAllUsed}
-use Rattle.rcu_graph.specs.Waits.{AreLooks, HasAged, HasGivenUp, HasMadeRoom, IsLook}
+use Rattle.rcu_graph.specs.Waits.{AreLooks, HasGivenUp, HasMadeRoom, HasReclaimed, IsLook}
 use Rattle.rcu_graph.specs.declared.known.Planned.{Planned}
 use Rattle.rcu_graph.specs.declared.known.Node.{Node}
 use Rattle.rcu_graph.specs.declared.node_state.NodeState.TheVariants.{Free, Live}
 use Rattle.rcu_graph.proofs.Counting.{live_test, test_live}
-use Rattle.rcu_graph.proofs.Keeps.{is_live_aged}
+use Rattle.rcu_graph.proofs.Keeps.{is_live_reclaimed}
 
 -- a look, a first one, and one more
 look : (k m : Watching Planned) (n : Number)
@@ -30,24 +30,24 @@ look k m n full later new =
       state = new ∙ ap (λ (j : Number). after_look k j) (sym seen);
     }
 
-pub aged_once : (k m : Watching Planned) (n : Number)
+pub reclaimed_once : (k m : Watching Planned) (n : Number)
     → AreAllUsed (nodes_in k.view.client.known)
     → k.view.seen ≤ n
     → m ≡ after_look k n
-    → HasAged k m
-aged_once k m n full later new =
+    → HasReclaimed k m
+reclaimed_once k m n full later new =
     record { more = 0; looks = (k, refl, look k m n full later new) }
 
-pub aged_more : (k l m : Watching Planned) (n : Number)
-    → HasAged k l
+pub reclaimed_more : (k l m : Watching Planned) (n : Number)
+    → HasReclaimed k l
     → AreAllUsed (nodes_in l.view.client.known)
     → l.view.seen ≤ n
     → m ≡ after_look l n
-    → HasAged k m
-aged_more k l m n r full later new =
+    → HasReclaimed k m
+reclaimed_more k l m n r full later new =
     record { more = suc r.more; looks = (l, r.looks, look l m n full later new) }
 
--- a keeper's graph stays as large
+-- a writer's graph stays as large
 looks_keep_plan : (looks : ℕ) (k m : Watching Planned) → AreLooks looks k m
     → m.view.client.plan ≡ k.view.client.plan
 looks_keep_plan zero k m same = ap (λ (w : Watching Planned). w.view.client.plan) same
@@ -55,8 +55,9 @@ looks_keep_plan (suc looks) k m (last, before, one) =
     ap (λ (w : Watching Planned). w.view.client.plan) one.state
     ∙ looks_keep_plan looks k last before
 
-pub aged_plan : (k m : Watching Planned) → HasAged k m → m.view.client.plan ≡ k.view.client.plan
-aged_plan k m aged = looks_keep_plan (suc aged.more) k m aged.looks
+pub reclaimed_plan : (k m : Watching Planned) → HasReclaimed k m
+    → m.view.client.plan ≡ k.view.client.plan
+reclaimed_plan k m reclaimed = looks_keep_plan (suc reclaimed.more) k m reclaimed.looks
 
 -- as many nodes have the same links and words, and those that were live are
 pub record AreAsLive (before after : List Node) : Type 0 where
@@ -74,16 +75,16 @@ pub still_live : (A B : List Node) → AreAsLive A B → (i : ℕ) → state_at 
 still_live A B s i live = test_live (state_at B i) (s.live i ∙ live_test (state_at A i) live)
 
 -- so they are after a look, and after looks
-pub aged_as_live : (A : List Node) (n latest : ℕ) → AreAsLive A (aged n latest A)
-aged_as_live A n latest = record {
-  many = length-map A (aged_node n latest);
+pub reclaimed_as_live : (A : List Node) (n latest : ℕ) → AreAsLive A (reclaimed n latest A)
+reclaimed_as_live A n latest = record {
+  many = length-map A (reclaimed_node n latest);
   links = λ i. ap (λ (v : Node). v.links) (at i);
   words = λ i. ap (λ (v : Node). v.words) (at i);
-  live = λ i. ap (λ (v : Node). is_live v.state) (at i) ∙ is_live_aged n latest (state_at A i);
+  live = λ i. ap (λ (v : Node). is_live v.state) (at i) ∙ is_live_reclaimed n latest (state_at A i);
 }
   where
-    at : (i : ℕ) → node_at (aged n latest A) i ≡ aged_node n latest (node_at A i)
-    at i = get_or-map (aged_node n latest) A i no_node
+    at : (i : ℕ) → node_at (reclaimed n latest A) i ≡ reclaimed_node n latest (node_at A i)
+    at i = get_or-map (reclaimed_node n latest) A i no_node
 
 pub looked_as_live : (k m : Watching Planned) (n : Number) → m ≡ after_look k n
     → AreAsLive (nodes_in k.view.client.known) (nodes_in m.view.client.known)
@@ -91,7 +92,7 @@ looked_as_live k m n new =
     subst (λ (w : Watching Planned).
     AreAsLive (nodes_in k.view.client.known) (nodes_in w.view.client.known))
     (sym new)
-    (aged_as_live (nodes_in k.view.client.known) n (max n (latest_in k.view.client.known)))
+    (reclaimed_as_live (nodes_in k.view.client.known) n (max n (latest_in k.view.client.known)))
 
 looks_as_live : (looks : ℕ) (k m : Watching Planned) → AreLooks looks k m
     → AreAsLive (nodes_in k.view.client.known) (nodes_in m.view.client.known)
@@ -110,18 +111,18 @@ looks_as_live (suc looks) k m (last, before, one) =
       live = λ i. b.live i ∙ a.live i;
     }
 
-pub aged_nodes : (k m : Watching Planned) → HasAged k m
+pub reclaimed_nodes : (k m : Watching Planned) → HasReclaimed k m
     → AreAsLive (nodes_in k.view.client.known) (nodes_in m.view.client.known)
-aged_nodes k m aged = looks_as_live (suc aged.more) k m aged.looks
+reclaimed_nodes k m reclaimed = looks_as_live (suc reclaimed.more) k m reclaimed.looks
 
--- whatever a wait came to, the keeper looked
+-- whatever a wait came to, the writer looked
 pub looked_by : {C E : Type 0} (seat now : Seated C) (k m : Watching Planned)
     (r : Result (Unit {0}) E)
-    → OnOk r (HasMadeRoom seat now k m) → OnErr r (HasGivenUp seat now k m) → HasAged k m
+    → OnOk r (HasMadeRoom seat now k m) → OnErr r (HasGivenUp seat now k m) → HasReclaimed k m
 looked_by seat now k m (Ok _) room up = room.looked
 looked_by seat now k m (Err _) room up = up.looked
 
--- after a look it is a keeper of the same graph
+-- after a look it is a writer of the same graph
 pub same_after_look : (k m : Watching Planned) (n : Number) → m ≡ after_look k n
     → IsOfSameGraph k m
 same_after_look k m n new = record {

@@ -5,8 +5,8 @@ use Rattle.std.specs.Prelude.{slice_index}
 use Rattle.std.proofs.lemmas.List.{drop-set-lt, drop-set-add, get_or-drop, set-get_or, take-set-le}
 use Rattle.std.proofs.Math.Seq.{take-set-lt}
 use Rattle.rcu_graph.specs.Mirror.{nodes_of, with_words, with_words_to}
-use Rattle.rcu_graph.specs.Nodes.{aged, aged_state, in_state, linked_to, no_node, node_at, renewed}
-use Rattle.rcu_graph.specs.Nodes.{worded}
+use Rattle.rcu_graph.specs.Nodes.{in_state, linked_to, no_node, node_at, reclaimed, reclaimed_state}
+use Rattle.rcu_graph.specs.Nodes.{renewed, worded}
 use Rattle.rcu_graph.specs.declared.known.Node.{Node}
 use Rattle.rcu_graph.specs.declared.node_state.NodeState.{NodeState}
 use Rattle.rcu_graph.specs.declared.node_state.NodeState.TheVariants.{Free}
@@ -279,11 +279,11 @@ words_all nodes i n words many size =
     ap (λ (ws : List ℕ). set nodes i (made (node_at nodes i).state (node_at nodes i).links ws))
     (mixed_all n words (node_at nodes i).words many size)
 
--- nodes whose states are an age older
-pub aged_of : (links width n : ℕ) (states : List NodeState) (cells words : List ℕ)
-    → nodes_of links width (map (aged_state n n) states) cells words
-    ≡ aged n n (nodes_of links width states cells words)
-aged_of links width n [] cells words = refl
-aged_of links width n (s ∷ states) cells words =
-    ap (λ (l : List Node). made (aged_state n n s) (take links cells) (take width words) ∷ l)
-    (aged_of links width n states (drop links cells) (drop width words))
+-- nodes whose states are those after a look
+pub reclaimed_of : (links width n : ℕ) (states : List NodeState) (cells words : List ℕ)
+    → nodes_of links width (map (reclaimed_state n n) states) cells words
+    ≡ reclaimed n n (nodes_of links width states cells words)
+reclaimed_of links width n [] cells words = refl
+reclaimed_of links width n (s ∷ states) cells words =
+    ap (λ (l : List Node). made (reclaimed_state n n s) (take links cells) (take width words) ∷ l)
+    (reclaimed_of links width n states (drop links cells) (drop width words))

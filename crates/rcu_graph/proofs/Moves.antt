@@ -15,20 +15,21 @@ use Rattle.atomic_table.proofs.Lists.{at_map, set_here, set_else}
 use Rattle.rcu_live.specs.Client.{Views, AllowsNumber, AllowsWord}
 use Rattle.rcu_live.proofs.ClientRows.{at_inside, inside, reseat}
 use Rattle.rcu_graph.specs.Nodes.{IsHeld, IsOn, IsReader, IsTarget, IsUnlinked, MayRead, after_hop}
-use Rattle.rcu_graph.specs.Nodes.{aged, aged_node, first_nodes, hops_in, in_state}
-use Rattle.rcu_graph.specs.Nodes.{linked_to, no_node, node_at, place_of, renewed, row_of, worded}
+use Rattle.rcu_graph.specs.Nodes.{first_nodes, hops_in, in_state, linked_to, no_node, node_at}
+use Rattle.rcu_graph.specs.Nodes.{place_of, reclaimed, reclaimed_node, renewed, row_of, worded}
 use Rattle.rcu_graph.specs.Rule.{AreKept, IsKept, Knows, Leads, Reading}
 use Rattle.rcu_graph.specs.Stability.{SeatKnows, one_changes}
-use Rattle.rcu_graph.specs.Steps.{Followed, IsAged, IsClaimed, IsFollowed, IsLeft}
-use Rattle.rcu_graph.specs.Steps.{IsPublished, IsRead, IsWritten}
+use Rattle.rcu_graph.specs.Steps.{Followed, IsClaimed, IsFollowed, IsMarkedUnlinked, IsPublished}
+use Rattle.rcu_graph.specs.Steps.{IsRead, IsReclaimed, IsWritten}
 use Rattle.rcu_graph.specs.declared.known.Hop.{Hop}
 use Rattle.rcu_graph.specs.declared.known.Known.{Known}
-use Rattle.rcu_graph.specs.declared.known.Known.TheVariants.{Idle, Owner, Reader, Keeper}
+use Rattle.rcu_graph.specs.declared.known.Known.TheVariants.{Idle, Owner, Reader, Writer}
 use Rattle.rcu_graph.specs.declared.known.Node.{Node}
-use Rattle.rcu_graph.specs.declared.node_state.NodeState.TheVariants.{Free, Live, Left}
-use Rattle.rcu_graph.proofs.Changes.{link_stored, node_left, nodes_aged, promoted, word_stored}
+use Rattle.rcu_graph.specs.declared.node_state.NodeState.TheVariants.{Free, Live, Unlinked}
+use Rattle.rcu_graph.proofs.Changes.{link_stored, node_unlinked, nodes_reclaimed, promoted}
+use Rattle.rcu_graph.proofs.Changes.{word_stored}
 use Rattle.rcu_graph.proofs.Cells.{told}
-use Rattle.rcu_graph.proofs.States.{may_aged, may_follow, may_is_used, not_both}
+use Rattle.rcu_graph.proofs.States.{may_follow, may_is_used, may_reclaimed, not_both}
 
 number_of_some : (a b : ℕ) → Some a ≡ Some b → a ≡ b
 number_of_some a b e = cc
@@ -36,17 +37,17 @@ number_of_some a b e = cc
 module _ (fits : List ℕ → Type 0) (joins : ℕ → List ℕ → List ℕ → Type 0) (first : ℕ → List ℕ)
     (roots links width count : ℕ) where
   -- what a reader knows of each node that it holds
-  pub knows_held : (nodes : List Node) (latest keeper id : ℕ) (section : Option ℕ) (known : Known)
+  pub knows_held : (nodes : List Node) (latest writer id : ℕ) (section : Option ℕ) (known : Known)
       → IsReader known
-      → Knows first roots links width count nodes latest keeper id section known
+      → Knows first roots links width count nodes latest writer id section known
       → (i : ℕ) (words : List ℕ)
       → IsHeld known i words
       → Reading nodes section i words
-  knows_held nodes latest keeper id section Idle reads k i words h =
+  knows_held nodes latest writer id section Idle reads k i words h =
       absurd (some-ne-none h.1 (sym h.2))
-  knows_held nodes latest keeper id section Owner reads k i words h = absurd reads
-  knows_held nodes latest keeper id section (Reader hops) reads k i words h = k i words h
-  knows_held nodes latest keeper id section (Keeper l s b) reads k i words h = absurd reads
+  knows_held nodes latest writer id section Owner reads k i words h = absurd reads
+  knows_held nodes latest writer id section (Reader hops) reads k i words h = k i words h
+  knows_held nodes latest writer id section (Writer l s b) reads k i words h = absurd reads
 
   -- and after one hop more
   one_more : (nodes : List Node) (section : Option ℕ) (hop : Hop) (hops : List Hop)
@@ -66,18 +67,18 @@ module _ (fits : List ℕ → Type 0) (joins : ℕ → List ℕ → List ℕ →
       at (suc k) x e to is = others i words (k, x, e, to, is)
 
   -- a node on which a section is, with the words that it has there
-  is_on : (ws : List ℕ) (nodes : List Node) (latest keeper id at i : ℕ) (known : Known)
+  is_on : (ws : List ℕ) (nodes : List Node) (latest writer id at i : ℕ) (known : Known)
       (words : List ℕ)
       → AreKept fits joins first roots links width count ws nodes latest
       → IsReader known
-      → Knows first roots links width count nodes latest keeper id (Some at) known
+      → Knows first roots links width count nodes latest writer id (Some at) known
       → IsOn first roots known i words
       → (v : Node) × (get_elem? nodes i ≡ some v) × (v.words ≡ words) × MayRead at v.state
-  is_on ws nodes latest keeper id at i known words kept reads k (inl on) =
+  is_on ws nodes latest writer id at i known words kept reads k (inl on) =
       let r = kept.rooted i on.0 in (r.0, r.1, r.3 ∙ on.1, subst (MayRead at) (sym r.2) tt)
-  is_on ws nodes latest keeper id at i known words kept reads k (inr on) =
+  is_on ws nodes latest writer id at i known words kept reads k (inr on) =
       let r : Reading nodes (Some at) i words =
-      knows_held nodes latest keeper id (Some at) known reads k i words on in (
+      knows_held nodes latest writer id (Some at) known reads k i words on in (
         r.on,
         r.here,
         r.same,
@@ -116,7 +117,7 @@ module _ (fits : List ℕ → Type 0) (joins : ℕ → List ℕ → List ℕ →
       ∙ get_or_append_left v.links v.words 0 l (omega (arith, low, many)) in
       leads x (sym found)
     where
-      k : Knows first roots links width count h.nodes h.latest h.keeper id (Some at) was
+      k : Knows first roots links width count h.nodes h.latest h.writer id (Some at) was
       k = h.seats id cpu (Some at) was there
 
       leads : (x : ℕ)
@@ -132,7 +133,7 @@ module _ (fits : List ℕ → Type 0) (joins : ℕ → List ℕ → List ℕ →
                 (cpu, Some at, after)
                 (one_more h.nodes (Some at) (record { from = i; link = l; to = zero; words = [] })
                 (hops_in was) (λ j e. absurd (omega (arith, e)))
-                (knows_held h.nodes h.latest h.keeper id (Some at) was reads k)),
+                (knows_held h.nodes h.latest h.writer id (Some at) was reads k)),
             record { words = []; is = refl; led = inl (refl, refl) },
           )
       leads (suc j) is =
@@ -153,7 +154,7 @@ module _ (fits : List ℕ → Type 0) (joins : ℕ → List ℕ → List ℕ →
           → Reading h.nodes (Some at) i words =
           one_more h.nodes (Some at) hop (hops_in was)
           (λ m e. subst (λ (n : ℕ). Reading h.nodes (Some at) n d.to.words) (suc_inj e) mine)
-          (knows_held h.nodes h.latest h.keeper id (Some at) was reads k) in
+          (knows_held h.nodes h.latest h.writer id (Some at) was reads k) in
           let bound : j < length h.nodes = inside h.nodes j d.to d.here in (
             after,
             one_changes fits joins first roots links width count ws xs h id
@@ -184,7 +185,7 @@ module _ (fits : List ℕ → Type 0) (joins : ℕ → List ℕ → List ℕ →
       (IsFollowed fits joins first roots links width count (place_of roots links width i l) was)
   follows cpu at was i l words reads on low n ws xs id h are lone there =
       let p : ℕ = place_of roots links width i l in
-      let o = is_on ws h.nodes h.latest h.keeper id at i was words h.kept reads
+      let o = is_on ws h.nodes h.latest h.writer id at i was words h.kept reads
       (h.seats id cpu (Some at) was there) on in
       let t = comes ws xs h id cpu at was i l o.0 words there reads o.1 o.2 o.3 low in (
         t.0,
@@ -196,7 +197,7 @@ module _ (fits : List ℕ → Type 0) (joins : ℕ → List ℕ → List ℕ →
             (omega (arith, low')) e in
             let one : i ≡ i' = cell.0 in
             let two : l ≡ l' = cell.1 in
-            let o' = is_on ws h.nodes h.latest h.keeper id at i' was words' h.kept reads
+            let o' = is_on ws h.nodes h.latest h.writer id at i' was words' h.kept reads
             (h.seats id cpu (Some at) was there) on' in
             let node : o.0 ≡ o'.0 =
             some-injective _ _ (sym o.1 ∙ (ap (λ (m : ℕ). get_elem? h.nodes m) one ∙ o'.1)) in
@@ -229,7 +230,7 @@ module _ (fits : List ℕ → Type 0) (joins : ℕ → List ℕ → List ℕ →
               let one : i ≡ i' = cell.0 in
               let two : links + k ≡ links + k' = cell.1 in
               let o =
-              is_on ws h.nodes h.latest h.keeper id at i' was words' h.kept reads knows on' in
+              is_on ws h.nodes h.latest h.writer id at i' was words' h.kept reads knows on' in
               let many : length o.0.links ≡ links = h.kept.linked i' o.0 o.1 in
               let here : slice_index ws p ≡ slice_index (row_of o.0) (links + k') =
               ap (λ (m : ℕ). slice_index ws m) e
@@ -241,34 +242,34 @@ module _ (fits : List ℕ → Type 0) (joins : ℕ → List ℕ → List ℕ →
         ),
       )
 
-  -- the keeper's step: the nodes become these, and who is on one goes on
+  -- the writer's step: the nodes become these, and who is on one goes on
   rekeep : (ws new : List ℕ) (xs : Views Known)
       (h : IsKept fits joins first roots links width count ws xs) (id : ℕ)
       (cpu section : Option ℕ) (known : Known)
       → get_elem? xs id ≡ some (cpu, section, known)
-      → h.keeper ≡ id
+      → h.writer ≡ id
       → (t : ℕ) (s : List Node) (stored : List (List Node))
       → AreKept fits joins first roots links width count new s t
       → ((j at i : ℕ) (who : Option ℕ) (d : Known) (u : Node)
       → get_elem? xs j ≡ some (who, Some at, d) → get_elem? h.nodes i ≡ some u → MayRead at u.state
       → (w : Node) × (get_elem? s i ≡ some w) × (w.words ≡ u.words) × MayRead at w.state)
       → IsKept fits joins first roots links width count new
-      (set xs id (cpu, section, Keeper t s stored))
-  rekeep ws new xs h id cpu section known at is_keeper t s stored kept goes = record {
+      (set xs id (cpu, section, Writer t s stored))
+  rekeep ws new xs h id cpu section known at is_writer t s stored kept goes = record {
     nodes = s;
     latest = t;
-    keeper = id;
+    writer = id;
     kept = kept;
     seats = λ j who o d e. reseat (SeatKnows first roots links width count s t id) xs id
-        (cpu, section, Keeper t s stored) (refl, refl, refl)
+        (cpu, section, Writer t s stored) (refl, refl, refl)
         (λ i y apart f. other i y.0 y.1 y.2 apart f (h.seats i y.0 y.1 y.2 f)) j (who, o, d) e;
   }
     where
       other : (j : ℕ) (who o : Option ℕ) (d : Known) → j ≢ id → get_elem? xs j ≡ some (who, o, d)
-          → Knows first roots links width count h.nodes h.latest h.keeper j o d
+          → Knows first roots links width count h.nodes h.latest h.writer j o d
           → Knows first roots links width count s t id j o d
       other j who o Idle apart e k = tt
-      other j who o Owner apart e k = absurd (apart (sym k.2 ∙ is_keeper))
+      other j who o Owner apart e k = absurd (apart (sym k.2 ∙ is_writer))
       other j who o (Reader hops) apart e k = λ i words held.
           let r : Reading h.nodes o i words = k i words held in
           let q = goes j r.opened i who (Reader hops) r.on
@@ -282,26 +283,26 @@ module _ (fits : List ℕ → Type 0) (joins : ℕ → List ℕ → List ℕ →
             same = q.2 ∙ r.same;
             may = q.3;
           }
-      other j who o (Keeper c l b) apart e k = absurd (apart (sym k.2 ∙ is_keeper))
+      other j who o (Writer c l b) apart e k = absurd (apart (sym k.2 ∙ is_writer))
 
   -- the same where one node changes
   renews : (ws new : List ℕ) (xs : Views Known)
       (h : IsKept fits joins first roots links width count ws xs) (id : ℕ)
       (cpu section : Option ℕ) (t : ℕ) (s : List Node) (b stored : List (List Node)) (i : ℕ)
       (v w : Node)
-      → get_elem? xs id ≡ some (cpu, section, Keeper t s b)
+      → get_elem? xs id ≡ some (cpu, section, Writer t s b)
       → get_elem? s i ≡ some v
       → (AreKept fits joins first roots links width count ws s t → AreKept fits joins first roots
       links width count new (set s i w) t)
       → ((at : ℕ) → MayRead at v.state → (w.words ≡ v.words) × MayRead at w.state)
       → IsKept fits joins first roots links width count new
-      (set xs id (cpu, section, Keeper t (set s i w) stored))
+      (set xs id (cpu, section, Writer t (set s i w) stored))
   renews ws new xs h id cpu section t s b stored i v w there at keeps stay =
-      let k = h.seats id cpu section (Keeper t s b) there in
+      let k = h.seats id cpu section (Writer t s b) there in
       let was : AreKept fits joins first roots links width count ws s t =
       subst (λ (y : List Node × ℕ). AreKept fits joins first roots links width count ws y.0 y.1)
       (λ z. (sym k.1 z, sym k.0 z)) h.kept in
-      rekeep ws new xs h id cpu section (Keeper t s b) there k.2 t (set s i w) stored
+      rekeep ws new xs h id cpu section (Writer t s b) there k.2 t (set s i w) stored
       (keeps was)
       (λ j a q who d u e here may. dite (ℕ_discrete q i)
       (λ (is : q ≡ i).
@@ -327,14 +328,14 @@ module _ (fits : List ℕ → Type 0) (joins : ℕ → List ℕ → List ℕ →
       → i < length s
       → (node_at s i).state ≡ Free
       → k < width
-      → AllowsWord (IsKept fits joins first roots links width count) cpu section (Keeper t s b)
+      → AllowsWord (IsKept fits joins first roots links width count) cpu section (Writer t s b)
       (place_of roots links width i (links + k)) (λ _. x)
       (λ _ now. IsWritten roots links width (place_of roots links width i (links + k))
-      (Keeper t s b) x now)
+      (Writer t s b) x now)
   writes cpu section t i k x s b bound free low n ws xs id h are lone there =
       let v : Node = node_at s i in
       let at : get_elem? s i ≡ some v = at_inside s i no_node bound in (
-        Keeper t (set s i (worded k x v)) b,
+        Writer t (set s i (worded k x v)) b,
         renews ws (set ws (place_of roots links width i (links + k)) x) xs h id cpu section t s
             b b i v (worded k x v) there at
             (λ was.
@@ -346,26 +347,26 @@ module _ (fits : List ℕ → Type 0) (joins : ℕ → List ℕ → List ℕ →
             let one : i ≡ i' = cell.0 in
             let both : links + k ≡ links + k' = cell.1 in
             let two : k ≡ k' = omega (arith, both) in
-            ap (λ (y : ℕ × ℕ). Keeper t (renewed s y.0 (worded y.1 x)) b) (λ z. (one z, two z)),
+            ap (λ (y : ℕ × ℕ). Writer t (renewed s y.0 (worded y.1 x)) b) (λ z. (one z, two z)),
       )
 
   -- a link is stored: of a free node, or of a live one, which leads nowhere or to a live one then.
-  -- What the keeper knows of such stores is this then
+  -- What the writer knows of such stores is this then
   pub links_to : (cpu section : Option ℕ) (t i l x : ℕ) (s : List Node) (b : List (List Node))
       (stored : List Node → List (List Node))
       → i < length s
       → l < links
       → ((node_at s i).state ≡ Free)
       ⊎ (((node_at s i).state ≡ Live) × IsTarget (joins l) (node_at s i).words s x)
-      → AllowsWord (IsKept fits joins first roots links width count) cpu section (Keeper t s b)
+      → AllowsWord (IsKept fits joins first roots links width count) cpu section (Writer t s b)
       (place_of roots links width i l) (λ _. x)
       (λ _ now. (i' l' : ℕ) → l' < links
       → place_of roots links width i l ≡ place_of roots links width i' l'
-      → now ≡ Keeper t (renewed s i' (linked_to l' x)) (stored (renewed s i' (linked_to l' x))))
+      → now ≡ Writer t (renewed s i' (linked_to l' x)) (stored (renewed s i' (linked_to l' x))))
   links_to cpu section t i l x s b stored bound low allowed n ws xs id h are lone there =
       let v : Node = node_at s i in
       let at : get_elem? s i ≡ some v = at_inside s i no_node bound in (
-        Keeper t (set s i (linked_to l x v)) (stored (set s i (linked_to l x v))),
+        Writer t (set s i (linked_to l x v)) (stored (set s i (linked_to l x v))),
         renews ws (set ws (place_of roots links width i l) x) xs h id cpu section t s b
             (stored (set s i (linked_to l x v))) i v (linked_to l x v) there at
             (λ was.
@@ -376,7 +377,7 @@ module _ (fits : List ℕ → Type 0) (joins : ℕ → List ℕ → List ℕ →
             (omega (arith, low')) e in
             let one : i ≡ i' = cell.0 in
             let two : l ≡ l' = cell.1 in
-            ap (λ (y : ℕ × ℕ). Keeper t (renewed s y.0 (linked_to y.1 x))
+            ap (λ (y : ℕ × ℕ). Writer t (renewed s y.0 (linked_to y.1 x))
             (stored (renewed s y.0 (linked_to y.1 x)))) (λ z. (one z, two z)),
       )
 
@@ -391,9 +392,9 @@ module _ (fits : List ℕ → Type 0) (joins : ℕ → List ℕ → List ℕ →
       → ((m : ℕ) → m < links → IsTarget (joins m) (node_at s j).words s
       (slice_index (node_at s j).links m))
       → joins l (node_at s i).words (node_at s j).words
-      → AllowsWord (IsKept fits joins first roots links width count) cpu section (Keeper t s b)
+      → AllowsWord (IsKept fits joins first roots links width count) cpu section (Writer t s b)
       (place_of roots links width i l) (λ _. suc j)
-      (λ _ now. IsPublished roots links width (place_of roots links width i l) (Keeper t s b)
+      (λ _ now. IsPublished roots links width (place_of roots links width i l) (Writer t s b)
       (suc j) now)
   publishes cpu section t i l j s b bound low_j low live free fit targets joined n ws xs id h
       are lone there =
@@ -407,16 +408,16 @@ module _ (fits : List ℕ → Type 0) (joins : ℕ → List ℕ → List ℕ →
       let at : get_elem? s₁ i ≡ some v = at_inside s₁ i no_node
       (let q = length-set s j (in_state Live u) in omega (arith, q, bound)) in
       let w : Node = linked_to l (suc j) v in
-      let xs₁ : Views Known = set xs id (cpu, section, Keeper t s₁ b) in
+      let xs₁ : Views Known = set xs id (cpu, section, Writer t s₁ b) in
       let p : ℕ = place_of roots links width i l in
       let mid : IsKept fits joins first roots links width count ws xs₁ =
       renews ws ws xs h id cpu section t s b b j u (in_state Live u) there at_j
       (λ was.
       promoted fits joins first roots links width count ws s t j u was at_j free fit targets)
       (λ a may. absurd (subst (MayRead a) free may)) in
-      let there₁ : get_elem? xs₁ id ≡ some (cpu, section, Keeper t s₁ b) =
-      set_here xs id (cpu, section, Keeper t s₁ b)
-      (inside xs id (cpu, section, Keeper t s b) there) in
+      let there₁ : get_elem? xs₁ id ≡ some (cpu, section, Writer t s₁ b) =
+      set_here xs id (cpu, section, Writer t s₁ b)
+      (inside xs id (cpu, section, Writer t s b) there) in
       let target : IsTarget (joins l) v.words s₁ (suc j) = λ k e.
       let is : k ≡ j = suc_inj (sym e) in (
         in_state Live u,
@@ -425,17 +426,17 @@ module _ (fits : List ℕ → Type 0) (joins : ℕ → List ℕ → List ℕ →
         subst (λ (x : Node). joins l x.words u.words) (sym same) joined,
       ) in
       let after : IsKept fits joins first roots links width count (set ws p (suc j))
-      (set xs₁ id (cpu, section, Keeper t (set s₁ i w) (set s₁ i w ∷ b))) =
+      (set xs₁ id (cpu, section, Writer t (set s₁ i w) (set s₁ i w ∷ b))) =
       renews ws (set ws p (suc j)) xs₁ mid id cpu section t s₁ b (set s₁ i w ∷ b) i v w
       there₁ at
       (λ was. link_stored fits joins first roots links width count ws s₁ t i l (suc j) v was at low
       (inr (ap (λ (x : Node). x.state) same ∙ live, target)))
       (λ a may. (refl, may)) in (
-        Keeper t (set s₁ i w) (set s₁ i w ∷ b),
+        Writer t (set s₁ i w) (set s₁ i w ∷ b),
         subst (λ (l : Views Known).
             IsKept fits joins first roots links width count (set ws p (suc j)) l)
-            (set-set xs id (cpu, section, Keeper t s₁ b)
-            (cpu, section, Keeper t (set s₁ i w) (set s₁ i w ∷ b))) after,
+            (set-set xs id (cpu, section, Writer t s₁ b)
+            (cpu, section, Writer t (set s₁ i w) (set s₁ i w ∷ b))) after,
         λ i' l' j' low' e f.
             let cell = told roots links width i i' l l' (omega (arith, low))
             (omega (arith, low')) e in
@@ -444,55 +445,57 @@ module _ (fits : List ℕ → Type 0) (joins : ℕ → List ℕ → List ℕ →
             let three : j ≡ j' = suc_inj f in
             ap (λ (y : ℕ × ℕ × ℕ).
             let n = renewed (renewed s y.2 (in_state Live)) y.0 (linked_to y.1 (suc j)) in
-            Keeper t n (n ∷ b))
+            Writer t n (n ∷ b))
             (λ z. (one z, two z, three z)),
       )
 
-  -- a live node to which no live one leads is left
-  pub leaves : (cpu section : Option ℕ) (t i k : ℕ) (s : List Node) (b : List (List Node))
+  -- a live node to which no live one leads is marked unlinked
+  pub marks_unlinked : (cpu section : Option ℕ) (t i k : ℕ) (s : List Node) (b : List (List Node))
       → i < length s
       → k < links + width
       → roots ≤ i
       → (node_at s i).state ≡ Live
       → IsUnlinked links s i
-      → AllowsWord (IsKept fits joins first roots links width count) cpu section (Keeper t s b)
+      → AllowsWord (IsKept fits joins first roots links width count) cpu section (Writer t s b)
       (place_of roots links width i k) (λ n. n)
-      (IsLeft roots links width (place_of roots links width i k) (Keeper t s b))
-  leaves cpu section t i k s b bound low past live unlinked n ws xs id h are lone there =
+      (IsMarkedUnlinked roots links width (place_of roots links width i k) (Writer t s b))
+  marks_unlinked cpu section t i k s b bound low past live unlinked n ws xs id h are lone there =
       let v : Node = node_at s i in
       let p : ℕ = place_of roots links width i k in
       let at : get_elem? s i ≡ some v = at_inside s i no_node bound in (
-        Keeper t (set s i (in_state Left v)) b,
+        Writer t (set s i (in_state Unlinked v)) b,
         subst (λ (cells : List ℕ). IsKept fits joins first roots links width count cells
-            (set xs id (cpu, section, Keeper t (set s i (in_state Left v)) b)))
+            (set xs id (cpu, section, Writer t (set s i (in_state Unlinked v)) b)))
             (sym (set-get_or ws p 0))
-            (renews ws ws xs h id cpu section t s b b i v (in_state Left v) there at
+            (renews ws ws xs h id cpu section t s b b i v (in_state Unlinked v) there at
             (λ was.
-            node_left fits joins first roots links width count ws s t i v was at live past unlinked)
+            node_unlinked fits joins first roots links width count ws s t i v was at live past
+            unlinked)
             (λ a may. (refl, tt))),
-        λ i' k' low' e. ap (λ (m : ℕ). Keeper t (renewed s m (in_state Left)) b)
+        λ i' k' low' e. ap (λ (m : ℕ). Writer t (renewed s m (in_state Unlinked)) b)
             (told roots links width i i' k k' low low' e).0,
       )
 
-  -- the keeper's look: what no section may be on any more is free
-  pub ages : (cpu section : Option ℕ) (t : ℕ) (s : List Node) (b : List (List Node))
-      → AllowsNumber (IsKept fits joins first roots links width count) cpu section (Keeper t s b)
-      (IsAged (Keeper t s b))
-  ages cpu section t s b n ws xs id h are lone there =
-      let k = h.seats id cpu section (Keeper t s b) there in
+  -- the writer's look: what no section may be on any more is free
+  pub reclaims : (cpu section : Option ℕ) (t : ℕ) (s : List Node) (b : List (List Node))
+      → AllowsNumber (IsKept fits joins first roots links width count) cpu section (Writer t s b)
+      (IsReclaimed (Writer t s b))
+  reclaims cpu section t s b n ws xs id h are lone there =
+      let k = h.seats id cpu section (Writer t s b) there in
       let m : ℕ = max n t in
       let was : AreKept fits joins first roots links width count ws s t =
       subst (λ (y : List Node × ℕ). AreKept fits joins first roots links width count ws y.0 y.1)
       (λ z. (sym k.1 z, sym k.0 z)) h.kept in (
-        Keeper m (aged n m s) b,
-        rekeep ws ws xs h id cpu section (Keeper t s b) there k.2 m (aged n m s)
+        Writer m (reclaimed n m s) b,
+        rekeep ws ws xs h id cpu section (Writer t s b) there k.2 m (reclaimed n m s)
             b
-            (nodes_aged fits joins first roots links width count ws s t n m was (le-max_right n t))
+            (nodes_reclaimed fits joins first roots links width count ws s t n m was
+            (le-max_right n t))
             (λ j a q who d u e here may. (
-              aged_node n m u,
-              at_map (aged_node n m) s q u (ap (λ (l : List Node). get_elem? l q) k.1 ∙ here),
+              reclaimed_node n m u,
+              at_map (reclaimed_node n m) s q u (ap (λ (l : List Node). get_elem? l q) k.1 ∙ here),
               refl,
-              may_aged a n m u.state (le-max_left n t) (are j a who d e) may,
+              may_reclaimed a n m u.state (le-max_left n t) (are j a who d e) may,
             )),
         refl,
       )
@@ -503,7 +506,7 @@ module _ (fits : List ℕ → Type 0) (joins : ℕ → List ℕ → List ℕ →
       (λ _ now. IsClaimed first roots links width count now)
   claims cpu section p n ws xs id h are lone there =
       let k = h.seats id cpu section Owner there in
-      let w : Known = Keeper 0 (first_nodes links width first roots count) [] in (
+      let w : Known = Writer 0 (first_nodes links width first roots count) [] in (
         w,
         subst (λ (l : List ℕ).
             IsKept fits joins first roots links width count l (set xs id (cpu, section, w)))

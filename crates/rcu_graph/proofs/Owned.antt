@@ -1,4 +1,4 @@
--- A keeper has its graph, whose plan its seat knows: what is said of the one is so of the other.
+-- A writer has its graph, whose plan its seat knows: what is said of the one is so of the other.
 use Rattle.std.proofs.Common.{◌≡◌, subst, sym}
 use Rattle.rcu_live.specs.Board.{Object}
 use Rattle.rcu_live.specs.Watcher.{Watching}
@@ -6,10 +6,10 @@ use Rattle.rcu_graph.specs.Graph.{IsWatcherOf}
 use Rattle.rcu_graph.specs.declared.known.Planned.{Planned}
 use Rattle.rcu_graph.specs.declared.plan.Plan.{Plan}
 
-module _ (graph : Object Plan) (seat keeper : Watching Planned) (is : seat ≡ keeper)
+module _ (graph : Object Plan) (seat writer : Watching Planned) (is : seat ≡ writer)
     (watches : IsWatcherOf graph seat) where
-  -- from what the keeper's seat knows to its graph
-  pub of_graph : (said : Plan → Watching Planned → Type 0) → said keeper.view.client.plan keeper
+  -- from what the writer's seat knows to its graph
+  pub of_graph : (said : Plan → Watching Planned → Type 0) → said writer.view.client.plan writer
       → said graph.plan seat
   of_graph said so =
       subst (λ (p : Plan). said p seat) watches.planned
@@ -17,7 +17,7 @@ module _ (graph : Object Plan) (seat keeper : Watching Planned) (is : seat ≡ k
 
   -- and back
   pub of_seat : (said : Plan → Watching Planned → Type 0) → said graph.plan seat
-      → said keeper.view.client.plan keeper
+      → said writer.view.client.plan writer
   of_seat said so =
       subst (λ (w : Watching Planned). said w.view.client.plan w) is
       (subst (λ (p : Plan). said p seat) (sym watches.planned) so)

@@ -1,10 +1,10 @@
--- What a keeper's steps on chains ask for.
+-- What a writer's steps on chains ask for.
 use Rattle.std.proofs.Common.{◌≡◌, ◌≢◌, ℕ, zero, suc, ◌<◌, List, [], ◌∷◌, Option, Some, None}
 use Rattle.std.proofs.Common.{length, map, refl, sym, ap, ◌∙◌, subst, arith}
 use Rattle.std.specs.Prelude.{All, IfSome, slice_index, slice_index_or}
 use Rattle.rcu_live.specs.Watcher.{Watching}
 use Rattle.rcu_graph.specs.Graph.{word_to}
-use Rattle.rcu_graph.specs.Keeper.{IsReady}
+use Rattle.rcu_graph.specs.Writer.{IsReady}
 use Rattle.rcu_graph.specs.Nodes.{IsTarget, node_at, nodes_in, renewed, state_at}
 use Rattle.rcu_graph.specs.Puts.{AreKept, CanPut}
 use Rattle.rcu_graph.specs.Tended.{AreTended, filled_with}
@@ -54,7 +54,7 @@ target_of joins words nodes x there j e =
     let r = there j e in
     (node_at nodes j, here_at nodes j (live_inside nodes j r.0), r.0, r.1)
 
--- nodes are kept still, where a keeper of the same plan tends as many
+-- nodes are kept still, where a writer of the same plan tends as many
 pub are_kept : (fits : Plan → List ℕ → Type 0) (joins : Plan → ℕ → List ℕ → List ℕ → Type 0)
     (before now : Watching Planned)
     → now.view.client.plan ≡ before.view.client.plan
@@ -78,13 +78,13 @@ are_kept fits joins before now planned one few tended =
     }
 
 module _ (fits : List ℕ → Type 0) (joins : ℕ → List ℕ → List ℕ → Type 0)
-    (keeper : Watching Planned) (previous : ℕ) (words : List ℕ)
+    (writer : Watching Planned) (previous : ℕ) (words : List ℕ)
     (next : Option ℕ)
-    (can : CanPut fits joins keeper previous words next) (node : ℕ)
-    (low : node < keeper.view.client.plan.nodes)
-    (free : state_at (nodes_in keeper.view.client.known) node ≡ Free) where
+    (can : CanPut fits joins writer previous words next) (node : ℕ)
+    (low : node < writer.view.client.plan.nodes)
+    (free : state_at (nodes_in writer.view.client.known) node ≡ Free) where
   abbrev A : List Node
-  A = nodes_in keeper.view.client.known
+  A = nodes_in writer.view.client.known
 
   abbrev written : Node → Node
   written = filled_with (map word_to (next ∷ [])) words
@@ -131,11 +131,11 @@ module _ (fits : List ℕ → Type 0) (joins : ℕ → List ℕ → List ℕ →
         (sym first) target);
   }
 
-  pub previous_inside : previous < keeper.view.client.plan.nodes
+  pub previous_inside : previous < writer.view.client.plan.nodes
   previous_inside =
       let bound = live_inside A previous can.live in let few = can.few in omega (arith, bound, few)
 
-  pub next_inside : (j : ℕ) → word_to next ≡ suc j → j < keeper.view.client.plan.nodes
+  pub next_inside : (j : ℕ) → word_to next ≡ suc j → j < writer.view.client.plan.nodes
   next_inside j e =
       let r = target_there (joins 0) words A (word_to next) j can.target e in
       let bound = live_inside A j r.0 in let few = can.few in omega (arith, bound, few)

@@ -8,13 +8,13 @@ use Rattle.rcu_seq.specs.Numbers.{Number}
 use Rattle.rcu_graph.specs.Cycle.{IsGone, IsQueue, StandsAt, StandsIn, state_in}
 use Rattle.rcu_graph.specs.Nodes.{IsBy}
 use Rattle.rcu_graph.specs.declared.node_state.NodeState.{NodeState}
-use Rattle.rcu_graph.specs.declared.node_state.NodeState.TheVariants.{Free, Left, Live, Retired}
+use Rattle.rcu_graph.specs.declared.node_state.NodeState.TheVariants.{Free, Live, Retired, Unlinked}
 use Rattle.rcu_graph.proofs.Stacks.{at_node, at_other, inside_now, inside_then}
 
 is_gone : (retired k : ℕ) (s : NodeState) → StandsAt retired s k → IsGone s
 is_gone retired k Free h = h
 is_gone retired k Live h = h
-is_gone retired k Left h = tt
+is_gone retired k Unlinked h = tt
 is_gone retired k (Retired a) h = tt
 
 -- one stands a place nearer to the front, or one more is retired
@@ -22,14 +22,14 @@ nearer : (retired k : ℕ) (s : NodeState) → 0 < retired → StandsAt retired 
     → StandsAt (retired - 1) s k
 nearer retired k Free some h = h
 nearer retired k Live some h = h
-nearer retired k Left some h = let a : retired ≤ 1 + k = h in omega (arith, a, some)
+nearer retired k Unlinked some h = let a : retired ≤ 1 + k = h in omega (arith, a, some)
 nearer retired k (Retired n) some h = let a : 1 + k < retired = h in omega (arith, a, some)
 
 one_more : (retired k : ℕ) (s : NodeState) → k ≢ retired → StandsAt retired s k
     → StandsAt (retired + 1) s k
 one_more retired k Free ne h = h
 one_more retired k Live ne h = h
-one_more retired k Left ne h = let a : retired ≤ k = h in grind arith
+one_more retired k Unlinked ne h = let a : retired ≤ k = h in grind arith
 one_more retired k (Retired n) ne h = let a : k < retired = h in omega (arith, a)
 
 in_front : (retired k b : ℕ) (s : NodeState) → s ≡ Retired b → StandsAt retired s k → k < retired
@@ -78,8 +78,8 @@ module _ (states : List NodeState) (node : ℕ) (s : NodeState) (low : node < le
       still_apart i g e = never (subst IsGone (at_node states node s low)
           (subst (λ (j : ℕ). IsGone (state_in now j)) e g))
 
-  -- the node is left
-  module _ (none : IsGone (state_in states node) → ⊥) (is_left : s ≡ Left) where
+  -- the node is unlinked
+  module _ (none : IsGone (state_in states node) → ⊥) (is_unlinked : s ≡ Unlinked) where
     abbrev longer : List ℕ
     longer = waiting ++ node ∷ []
 
@@ -95,9 +95,9 @@ module _ (states : List NodeState) (node : ℕ) (s : NodeState) (low : node < le
     as_before : (k : ℕ) → k < length waiting → get_or longer k 0 ≡ get_or waiting k 0
     as_before k l = get_or_append_left waiting (node ∷ []) 0 k l
 
-    left_there : (k : ℕ) → k ≡ length waiting → state_in now (get_or longer k 0) ≡ Left
-    left_there k e =
-        ap (λ (i : ℕ). state_in now i) (the_last k e) ∙ (at_node states node s low ∙ is_left)
+    unlinked_there : (k : ℕ) → k ≡ length waiting → state_in now (get_or longer k 0) ≡ Unlinked
+    unlinked_there k e =
+        ap (λ (i : ℕ). state_in now i) (the_last k e) ∙ (at_node states node s low ∙ is_unlinked)
 
     state_before : (k : ℕ) → k < length waiting
         → state_in now (get_or longer k 0) ≡ state_in states (get_or waiting k 0)
@@ -108,14 +108,14 @@ module _ (states : List NodeState) (node : ℕ) (s : NodeState) (low : node < le
     retired_inner : (k : ℕ) (a : Number) → k < length longer
         → state_in now (get_or longer k 0) ≡ Retired a → k < length waiting
     retired_inner k a l is = inner k l (λ (e : k ≡ length waiting).
-        left_or_retired a (sym (left_there k e) ∙ is))
+        unlinked_or_retired a (sym (unlinked_there k e) ∙ is))
       where
-        left_or_retired : (a : Number) → Left ≡ Retired a → ⊥
-        left_or_retired a e = cc
+        unlinked_or_retired : (a : Number) → Unlinked ≡ Retired a → ⊥
+        unlinked_or_retired a e = cc
 
-    once_left : (j k : ℕ) → j < length longer → k < length longer
+    once_unlinked : (j k : ℕ) → j < length longer → k < length longer
         → get_or longer j 0 ≡ get_or longer k 0 → j ≡ k
-    once_left j k jl kl same = dite (ℕ_discrete j (length waiting))
+    once_unlinked j k jl kl same = dite (ℕ_discrete j (length waiting))
         (λ (je : j ≡ length waiting). dite (ℕ_discrete k (length waiting))
         (λ (ke : k ≡ length waiting). je ∙ sym ke)
         (λ (kn : k ≢ length waiting). absurd (apart none k (inner k kl kn)
@@ -137,10 +137,10 @@ module _ (states : List NodeState) (node : ℕ) (s : NodeState) (low : node < le
           (inside_now states node s low (get_or waiting k 0) (h.inside k (inner k l ne))));
       stands = λ k l. dite (ℕ_discrete k (length waiting))
           (λ (e : k ≡ length waiting). subst (λ (t : NodeState). StandsAt retired t k)
-          (sym (left_there k e)) (let f = h.fit in omega (arith, f, e)))
+          (sym (unlinked_there k e)) (let f = h.fit in omega (arith, f, e)))
           (λ (ne : k ≢ length waiting). subst (λ (t : NodeState). StandsAt retired t k)
           (sym (state_before k (inner k l ne))) (h.stands k (inner k l ne)));
-      once = once_left;
+      once = once_unlinked;
       found = λ i l g. dite (ℕ_discrete i node)
           (λ (e : i ≡ node). (
             length waiting,
@@ -214,7 +214,7 @@ module _ (states : List NodeState) (node : ℕ) (s : NodeState) (low : node < le
           (sym (state_later j (omega (arith, up, l))) ∙ j_is) (sym (state_later k l) ∙ k_is);
     }
 
-  -- the one that was left first is retired
+  -- the one that was unlinked first is retired
   module _ (number : Number) (is_retired : s ≡ Retired number) (there : retired < length waiting)
       (next : get_or waiting retired 0 ≡ node)
       (late : (i : ℕ) → i < length states → IsBy number (state_in states i)) where

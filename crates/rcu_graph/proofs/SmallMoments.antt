@@ -6,9 +6,9 @@ use mathlib.Core.Option.{some, some-injective, some-ne-none}
 use lib.ListN.{get_elem?}
 use Rattle.rcu_live.specs.Client.{ClientView}
 use Rattle.rcu_graph.specs.Absence.{Reaches}
-use Rattle.rcu_graph.specs.Beside.{AreOnChain, IsChainOf, IsKeeperMove, IsKeptAt, IsKeptOver}
-use Rattle.rcu_graph.specs.Beside.{IsOpenAt, IsOpenOver, IsSectionMove, followed, published, rested}
-use Rattle.rcu_graph.specs.Beside.{IsOnChain, led, left, looked, nodes_at, stayed, wrote}
+use Rattle.rcu_graph.specs.Beside.{AreOnChain, IsChainOf, IsKeptAt, IsKeptOver, IsOnChain, IsOpenAt}
+use Rattle.rcu_graph.specs.Beside.{IsOpenOver, IsSectionMove, IsWriterMove, followed, led, looked}
+use Rattle.rcu_graph.specs.Beside.{marked_unlinked, nodes_at, published, rested, stayed, wrote}
 use Rattle.rcu_graph.specs.Beside.{wrote_link}
 use Rattle.rcu_graph.specs.Nodes.{IsBy, IsHeld, IsKeeping, IsOn, IsUsed, MayRead, Outlives}
 use Rattle.rcu_graph.specs.Nodes.{hops_in, node_at, place_of}
@@ -17,8 +17,8 @@ use Rattle.rcu_graph.specs.Nodes.{stored_in}
 use Rattle.rcu_graph.specs.Planned.{IsKeptBy}
 use Rattle.rcu_graph.specs.Rule.{AreKept, IsLed, Knows, Leads, Reading}
 use Rattle.rcu_graph.specs.SmallRun.{first_hop, second_hop, small_first, small_fits, small_joins}
-use Rattle.rcu_graph.specs.SmallRun.{small_keeper, small_moment, small_moments, small_node}
-use Rattle.rcu_graph.specs.SmallRun.{small_nodes, small_plan, small_words}
+use Rattle.rcu_graph.specs.SmallRun.{small_moment, small_moments, small_node, small_nodes}
+use Rattle.rcu_graph.specs.SmallRun.{small_plan, small_words, small_writer}
 use Rattle.rcu_graph.specs.Steps.{Followed, storing}
 use Rattle.rcu_graph.specs.declared.known.Hop.{Hop}
 use Rattle.rcu_graph.specs.declared.known.Known.{Known}
@@ -160,9 +160,9 @@ seated x y P p q (suc (suc id)) z e = absurd (some-ne-none z (sym e))
 abbrev Knowing : ℕ → ℕ → ClientView Known → Type 0
 Knowing t id z = Knows (small_first small_plan) 1 1 1 3 (small_nodes t) 0 0 id z.1 z.2
 
-keeper_knows : (t : ℕ) → Knowing t 0 (None, None, small_keeper t)
-keeper_knows zero = (refl, refl, refl)
-keeper_knows (suc t) = (refl, refl, refl)
+writer_knows : (t : ℕ) → Knowing t 0 (None, None, small_writer t)
+writer_knows zero = (refl, refl, refl)
+writer_knows (suc t) = (refl, refl, refl)
 
 kept_by : (t : ℕ) (hops : List Hop) → Holds t hops
     → IsKeptBy small_fits small_joins small_first small_plan (small_words t)
@@ -172,14 +172,14 @@ kept_by t hops holds = record {
   kept = record {
     nodes = small_nodes t;
     latest = 0;
-    keeper = 0;
+    writer = 0;
     kept = kept_at t;
     seats = λ id cpu section known e.
-        seated _ _ (Knowing t) (keeper_knows t) holds id (cpu, section, known) e;
+        seated _ _ (Knowing t) (writer_knows t) holds id (cpu, section, known) e;
   };
 }
 
-keeps_at : (t : ℕ) → IsKeeping (small_keeper t)
+keeps_at : (t : ℕ) → IsKeeping (small_writer t)
 keeps_at zero = tt
 keeps_at (suc t) = tt
 
@@ -211,16 +211,16 @@ moments_at (suc (suc zero)) = moment_at 1 (first_hop ∷ []) (holds_first 1)
 moments_at (suc (suc (suc t))) = moment_at 1 (second_hop ∷ first_hop ∷ []) (holds_both 0)
 
 told_published : (i l j : ℕ) → l < 1 → 18 ≡ place_of 1 1 1 i l → 3 ≡ suc j
-    → small_keeper 1
-    ≡ storing (small_keeper 0) (renewed (renewed (small_nodes 0) j (in_state Live)) i
+    → small_writer 1
+    ≡ storing (small_writer 0) (renewed (renewed (small_nodes 0) j (in_state Live)) i
     (linked_to l 3))
 told_published i l j low at to =
     let cell = told 1 1 1 1 i 0 l (omega arith) (omega (arith, low)) at in
     let e : 1 ≡ i = cell.0 in
     let f : 0 ≡ l = cell.1 in
     let g : 2 ≡ j = omega (arith, to) in
-    subst (λ (n : ℕ × ℕ × ℕ). small_keeper 1
-    ≡ storing (small_keeper 0) (renewed (renewed (small_nodes 0) n.2 (in_state Live)) n.0
+    subst (λ (n : ℕ × ℕ × ℕ). small_writer 1
+    ≡ storing (small_writer 0) (renewed (renewed (small_nodes 0) n.2 (in_state Live)) n.0
     (linked_to n.1 3)))
     (λ x. (e x, f x, g x)) refl
 
@@ -267,15 +267,15 @@ told_second i l words low at (inr held) =
     comes (first_hop ∷ []) second_hop i l 2 words cell.0 cell.1 refl (omega arith) refl
     (subst (λ (w : List ℕ). slice_index w 0 < 7) (sym (held_first i words held)) (omega arith))
 
-keeper_moves : (t : ℕ) → t < 3
-    → IsKeeperMove small_plan (small_moments t) (small_moments (suc t))
-keeper_moves zero low = rested refl
-keeper_moves (suc zero) low = published 1 0 2 (omega arith) refl refl (refl, told_published)
-keeper_moves (suc (suc zero)) low = rested refl
-keeper_moves (suc (suc (suc t))) low = absurd (omega (arith, low))
+writer_moves : (t : ℕ) → t < 3
+    → IsWriterMove small_plan (small_moments t) (small_moments (suc t))
+writer_moves zero low = rested refl
+writer_moves (suc zero) low = published 1 0 2 (omega arith) refl refl (refl, told_published)
+writer_moves (suc (suc zero)) low = rested refl
+writer_moves (suc (suc (suc t))) low = absurd (omega (arith, low))
 
 pub small_kept : IsKeptOver small_fits small_joins small_first small_plan 0 3 small_moments
-small_kept = record { at = λ t low. moments_at t; moves = keeper_moves }
+small_kept = record { at = λ t low. moments_at t; moves = writer_moves }
 
 section_at : (t : ℕ) → IsOpenAt small_fits small_joins small_first small_plan 1 0 (small_moments t)
 section_at zero = record { cpu = 0; shown = refl; reads = tt }
@@ -307,7 +307,7 @@ small_chain = record {
 
 small_on : AreOnChain small_fits small_joins small_first small_plan (λ _. true) 0 0 3 small_moments
     small_kept
-unfolding small_kept keeper_moves
+unfolding small_kept writer_moves
 small_on zero low = tt
 small_on (suc zero) low = λ own. Reaches.onwards 0 1 refl (Reaches.arrived 1 refl)
 small_on (suc (suc zero)) low = tt
@@ -338,8 +338,8 @@ small_not_before (followed node link words low on told same) =
     (λ x. (sym from x, sym along x)) to in
     absurd (omega (arith, found))
 
--- the keeper does not take its store back
-pub small_not_back : IsKeeperMove small_plan (small_moment 1 []) (small_moment 0 []) → ⊥
+-- the writer does not take its store back
+pub small_not_back : IsWriterMove small_plan (small_moment 1 []) (small_moment 0 []) → ⊥
 small_not_back move =
     let more = move_grows small_plan (small_moment 1 []) (small_moment 0 []) move in
     absurd (omega (arith, more))
@@ -351,7 +351,7 @@ not_from i live (Reaches.arrived _ e) =
 not_from i live (Reaches.onwards _ n leads r) = absurd (omega (arith, leads))
 
 -- the node 1 is on no chain that begins there
-pub small_not_on : (move : IsKeeperMove small_plan (small_moments 1) (small_moments 2))
+pub small_not_on : (move : IsWriterMove small_plan (small_moments 1) (small_moments 2))
     → IsOnChain small_plan (small_moments 1) (small_moments 2) (λ _. true) 2 move → ⊥
 small_not_on (rested same) on =
     let e = ap (λ (k : Known). length (stored_in k)) same in absurd (omega (arith, e))
@@ -363,7 +363,7 @@ small_not_on (wrote_link node link value low free told) on =
     absurd (omega (arith, e))
 small_not_on (led node link value low live told) on = not_from node live (on refl)
 small_not_on (published from link to low live free told) on = not_from from live (on refl)
-small_not_on (left node value low told) on =
+small_not_on (marked_unlinked node value low told) on =
     let e = ap (λ (k : Known). length (stored_in k)) (told.1 node 0 low refl) in
     absurd (omega (arith, e))
 small_not_on (looked number opens told) on =
@@ -373,9 +373,9 @@ not_one : (n : ℕ) → Some n ≡ Some (suc n) → ⊥
 not_one n e = let same : n ≡ suc n = cc in absurd (omega (arith, same))
 
 -- the second seat keeps nothing, and its section began at no other number
-pub small_not_keeper : IsKeptAt small_fits small_joins small_first small_plan 1 (small_moment 0 [])
+pub small_not_writer : IsKeptAt small_fits small_joins small_first small_plan 1 (small_moment 0 [])
     → ⊥
-small_not_keeper kept =
+small_not_writer kept =
     let e = ap (λ (x : ClientView Planned). x.0) (some-injective _ _ kept.shown) in
     absurd (some_is_some 0 e)
 

@@ -2,7 +2,7 @@
 use Rattle.std.proofs.Common.{◌≡◌, ℕ, zero, suc, ◌<◌, ◌≤◌, List, [], ◌∷◌, Some, true, ap, arith}
 use Rattle.std.proofs.Common.{refl, subst, sym}
 use Rattle.std.specs.Prelude.{slice_index}
-use Rattle.rcu_graph.specs.Absence.{AreSameFor, IsChained, IsHistory, IsKeeperStep, IsLinkedKey}
+use Rattle.rcu_graph.specs.Absence.{AreSameFor, IsChained, IsHistory, IsLinkedKey, IsWriterStep}
 use Rattle.rcu_graph.specs.Absence.{Reaches, key_at, next_of}
 use Rattle.rcu_graph.specs.Nodes.{state_at}
 use Rattle.rcu_graph.specs.Search.{IsSearched}
@@ -60,8 +60,8 @@ chained (suc zero) low = record {
 chained (suc (suc t)) low = absurd (omega (arith, low))
 
 steps : (opened t : ℕ) → t < 1
-    → IsKeeperStep (λ _. true) opened 0 (small_nodes t) (small_nodes (suc t))
-steps opened zero low = IsKeeperStep.published 1 0 2 refl refl
+    → IsWriterStep (λ _. true) opened 0 (small_nodes t) (small_nodes (suc t))
+steps opened zero low = IsWriterStep.published 1 0 2 refl refl
     (λ own. Reaches.onwards 0 1 refl (Reaches.arrived 1 refl)) refl
 steps opened (suc t) low = absurd (omega (arith, low))
 

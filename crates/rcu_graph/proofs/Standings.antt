@@ -9,12 +9,12 @@ use Rattle.rcu_seq.specs.Numbers.{Number}
 use Rattle.rcu_live.specs.Numbers.{is_past}
 use Rattle.rcu_graph.specs.Cycle.{state_in}
 use Rattle.rcu_graph.specs.Mirror.{AreBy, nodes_of}
-use Rattle.rcu_graph.specs.Nodes.{IsBy, aged, aged_node, aged_state, first_node, first_nodes}
-use Rattle.rcu_graph.specs.Nodes.{free_node, no_node, root, state_at}
+use Rattle.rcu_graph.specs.Nodes.{IsBy, first_node, first_nodes, free_node, no_node, reclaimed}
+use Rattle.rcu_graph.specs.Nodes.{reclaimed_node, reclaimed_state, root, state_at}
 use Rattle.rcu_graph.specs.Tended.{AreAllUsed}
 use Rattle.rcu_graph.specs.declared.known.Node.{Node}
 use Rattle.rcu_graph.specs.declared.node_state.NodeState.{NodeState}
-use Rattle.rcu_graph.specs.declared.node_state.NodeState.TheVariants.{Free, Left, Live, Retired}
+use Rattle.rcu_graph.specs.declared.node_state.NodeState.TheVariants.{Free, Live, Retired, Unlinked}
 use Rattle.rcu_graph.proofs.Mirrors.{length-nodes_of, state_of}
 
 module _ (links width : ℕ) (states : List NodeState) (cells words : List ℕ) (nodes : List Node)
@@ -41,23 +41,24 @@ module _ (links width : ℕ) (states : List NodeState) (cells words : List ℕ) 
       h i (omega (arith, low, many, few)) (state_is i ∙ free)
   none_free count few (Some i) h = h
 
-by_aged_state : (latest number : Number) (s : NodeState) → latest ≤ number → IsBy latest s
-    → IsBy number (aged_state number number s)
-by_aged_state latest number Free late by = tt
-by_aged_state latest number Live late by = tt
-by_aged_state latest number Left late by = omega arith
-by_aged_state latest number (Retired at) late by = go (is_past at number)
+by_reclaimed_state : (latest number : Number) (s : NodeState) → latest ≤ number → IsBy latest s
+    → IsBy number (reclaimed_state number number s)
+by_reclaimed_state latest number Free late by = tt
+by_reclaimed_state latest number Live late by = tt
+by_reclaimed_state latest number Unlinked late by = omega arith
+by_reclaimed_state latest number (Retired at) late by = go (is_past at number)
   where
     go : (b : Bool) → IsBy number (if b then Free else Retired at)
     go true = tt
     go false = let low : at ≤ latest = by in omega (arith, low, late)
 
-pub by_aged : (latest number : Number) (nodes : List Node) → latest ≤ number → AreBy latest nodes
-    → AreBy number (aged number number nodes)
-by_aged latest number nodes late by i =
+pub by_reclaimed : (latest number : Number) (nodes : List Node) → latest ≤ number
+    → AreBy latest nodes
+    → AreBy number (reclaimed number number nodes)
+by_reclaimed latest number nodes late by i =
     subst (λ (v : Node). IsBy number v.state)
-    (sym (get_or-map (aged_node number number) nodes i no_node))
-    (by_aged_state latest number (state_at nodes i) late (by i))
+    (sym (get_or-map (reclaimed_node number number) nodes i no_node))
+    (by_reclaimed_state latest number (state_at nodes i) late (by i))
 
 by_all : (number : Number) (f : ℕ → Node) → ((i : ℕ) → IsBy number (f i).state) → (l : List ℕ)
     → AreBy number (map f l)

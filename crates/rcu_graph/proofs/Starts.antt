@@ -126,7 +126,7 @@ module _ (fits : List ℕ → Type 0) (joins : ℕ → List ℕ → List ℕ →
   starts behind many long size whole h = record {
     nodes = first_nodes links width first roots count;
     latest = 0;
-    keeper = 0;
+    writer = 0;
     kept = record {
       few = length-map-range_with_len (first_node links width first roots) 0 count;
       long = long;

@@ -8,18 +8,19 @@ use mathlib.Core.Logic.{dite}
 use native.Mathlib.Decide.{ℕ_discrete}
 use Rattle.rcu_graph.specs.Absence.{AreLinkedWords, IsChained, IsLinkedKey, IsOnIfOurs, Reaches}
 use Rattle.rcu_graph.specs.Absence.{arrived, key_at, next_of, onwards}
-use Rattle.rcu_graph.specs.Beside.{IsChainOf, IsKeeperMove, IsKeptOver, IsOnChain, Moment, led}
-use Rattle.rcu_graph.specs.Beside.{left, looked, nodes_at, published, rested, wrote, wrote_link}
-use Rattle.rcu_graph.specs.Nodes.{aged, aged_node, in_state, linked_to, node_at, nodes_in}
+use Rattle.rcu_graph.specs.Beside.{IsChainOf, IsKeptOver, IsOnChain, IsWriterMove, Moment, led}
+use Rattle.rcu_graph.specs.Beside.{looked, marked_unlinked, nodes_at, published, rested, wrote}
+use Rattle.rcu_graph.specs.Beside.{wrote_link}
+use Rattle.rcu_graph.specs.Nodes.{in_state, linked_to, node_at, nodes_in, reclaimed, reclaimed_node}
 use Rattle.rcu_graph.specs.Nodes.{renewed, state_at, stored_in, worded}
 use Rattle.rcu_graph.specs.declared.known.Known.{Known}
 use Rattle.rcu_graph.specs.declared.known.Node.{Node}
-use Rattle.rcu_graph.specs.declared.node_state.NodeState.TheVariants.{Free, Left, Live}
+use Rattle.rcu_graph.specs.declared.node_state.NodeState.TheVariants.{Free, Live, Unlinked}
 use Rattle.rcu_graph.specs.declared.plan.Plan.{Plan}
 use Rattle.rcu_graph.proofs.Beside.{chained_at}
-use Rattle.rcu_graph.proofs.Chains.{aged_at}
+use Rattle.rcu_graph.proofs.Chains.{reclaimed_at}
 use Rattle.rcu_graph.proofs.Counting.{kept_at, live_inside, other_node, same_state}
-use Rattle.rcu_graph.proofs.States.{live_aged, not_both, not_left}
+use Rattle.rcu_graph.proofs.States.{live_reclaimed, not_both, not_unlinked}
 
 -- what is linked by live nodes is so in all nodes that have the same links and words
 module _ (ours : List ℕ → Bool) (root : ℕ) (A B : List Node) (c : IsChained ours root A)
@@ -89,57 +90,59 @@ module _ (A : List Node) where
       apart : (y : ℕ) → state_at A y ≡ Live → y ≢ node
       apart y on is = not_both (state_at A y) on (ap (λ (n : ℕ). state_at A n) is ∙ free)
 
-  left_quiet : (node : ℕ) → AreQuiet A (renewed A node (in_state Left))
-  left_quiet node = record {
+  unlinked_quiet : (node : ℕ) → AreQuiet A (renewed A node (in_state Unlinked))
+  unlinked_quiet node = record {
     live = λ y on. dite (ℕ_discrete y node)
         (λ (is : y ≡ node).
-        let few : length (renewed A node (in_state Left)) ≡ length A =
-        length-set A node (in_state Left (node_at A node)) in
-        let inner = live_inside (renewed A node (in_state Left)) y on in
+        let few : length (renewed A node (in_state Unlinked)) ≡ length A =
+        length-set A node (in_state Unlinked (node_at A node)) in
+        let inner = live_inside (renewed A node (in_state Unlinked)) y on in
         absurd (none y is (omega (arith, is, inner, few)) on))
         (λ (ne : y ≢ node).
-        sym (ap (λ (v : Node). v.state) (other_node A node y (in_state Left) ne)) ∙ on);
+        sym (ap (λ (v : Node). v.state) (other_node A node y (in_state Unlinked) ne)) ∙ on);
     links = λ y on. of_links y (live_inside A y on);
     words = λ y on. of_words y (live_inside A y on);
   }
     where
       none : (y : ℕ) → y ≡ node → node < length A
-          → state_at (renewed A node (in_state Left)) y ≡ Live → ⊥
-      none y is low on = not_left (state_at (renewed A node (in_state Left)) y) on
-          (ap (λ (n : ℕ). state_at (renewed A node (in_state Left)) n) is
-          ∙ same_state A node Left low)
+          → state_at (renewed A node (in_state Unlinked)) y ≡ Live → ⊥
+      none y is low on = not_unlinked (state_at (renewed A node (in_state Unlinked)) y) on
+          (ap (λ (n : ℕ). state_at (renewed A node (in_state Unlinked)) n) is
+          ∙ same_state A node Unlinked low)
 
       of_links : (y : ℕ) → y < length A
-          → (node_at (renewed A node (in_state Left)) y).links ≡ (node_at A y).links
+          → (node_at (renewed A node (in_state Unlinked)) y).links ≡ (node_at A y).links
       of_links y low = dite (ℕ_discrete y node)
-          (λ (is : y ≡ node). kept_at (λ (v : Node). v.links) A node y (in_state Left)
+          (λ (is : y ≡ node). kept_at (λ (v : Node). v.links) A node y (in_state Unlinked)
           (omega (arith, is, low)) refl)
-          (λ (ne : y ≢ node). ap (λ (v : Node). v.links) (other_node A node y (in_state Left) ne))
+          (λ (ne : y ≢ node). ap (λ (v : Node). v.links)
+          (other_node A node y (in_state Unlinked) ne))
 
       of_words : (y : ℕ) → y < length A
-          → (node_at (renewed A node (in_state Left)) y).words ≡ (node_at A y).words
+          → (node_at (renewed A node (in_state Unlinked)) y).words ≡ (node_at A y).words
       of_words y low = dite (ℕ_discrete y node)
-          (λ (is : y ≡ node). kept_at (λ (v : Node). v.words) A node y (in_state Left)
+          (λ (is : y ≡ node). kept_at (λ (v : Node). v.words) A node y (in_state Unlinked)
           (omega (arith, is, low)) refl)
-          (λ (ne : y ≢ node). ap (λ (v : Node). v.words) (other_node A node y (in_state Left) ne))
+          (λ (ne : y ≢ node). ap (λ (v : Node). v.words)
+          (other_node A node y (in_state Unlinked) ne))
 
-  aged_quiet : (n m : ℕ) → AreQuiet A (aged n m A)
-  aged_quiet n m = record {
+  reclaimed_quiet : (n m : ℕ) → AreQuiet A (reclaimed n m A)
+  reclaimed_quiet n m = record {
     live = λ y on.
-        let inner = live_inside (aged n m A) y on in
-        let few : length (aged n m A) ≡ length A = length-map A (aged_node n m) in
-        live_aged n m (state_at A y)
-        (sym (ap (λ (v : Node). v.state) (aged_at n m A y (omega (arith, inner, few)))) ∙ on);
-    links = λ y on. ap (λ (v : Node). v.links) (aged_at n m A y (live_inside A y on));
-    words = λ y on. ap (λ (v : Node). v.words) (aged_at n m A y (live_inside A y on));
+        let inner = live_inside (reclaimed n m A) y on in
+        let few : length (reclaimed n m A) ≡ length A = length-map A (reclaimed_node n m) in
+        live_reclaimed n m (state_at A y)
+        (sym (ap (λ (v : Node). v.state) (reclaimed_at n m A y (omega (arith, inner, few)))) ∙ on);
+    links = λ y on. ap (λ (v : Node). v.links) (reclaimed_at n m A y (live_inside A y on));
+    words = λ y on. ap (λ (v : Node). v.words) (reclaimed_at n m A y (live_inside A y on));
   }
 
--- how many stores the keeper knows of
+-- how many stores the writer knows of
 abbrev pub stores_of : Moment → ℕ
-stores_of m = length (stored_in m.keeper)
+stores_of m = length (stored_in m.writer)
 
 module _ (plan : Plan) (before after : Moment) where
-  pub move_grows : IsKeeperMove plan before after → stores_of before ≤ stores_of after
+  pub move_grows : IsWriterMove plan before after → stores_of before ≤ stores_of after
   move_grows (rested same) =
       let e = ap (λ (k : Known). length (stored_in k)) same in omega (arith, e)
   move_grows (wrote node word value low free told) =
@@ -154,38 +157,38 @@ module _ (plan : Plan) (before after : Moment) where
   move_grows (published from link to low live free told) =
       let e = ap (λ (k : Known). length (stored_in k)) (told.1 from link to low refl refl) in
       omega (arith, e)
-  move_grows (left node value low told) =
+  move_grows (marked_unlinked node value low told) =
       let e = ap (λ (k : Known). length (stored_in k)) (told.1 node 0 low refl) in
       omega (arith, e)
   move_grows (looked number opens told) =
       let e = ap (λ (k : Known). length (stored_in k)) told.1 in omega (arith, e)
 
   -- a move that is no such store is quiet
-  move_quiet : IsKeeperMove plan before after → stores_of after ≤ stores_of before
-      → AreQuiet (nodes_in before.keeper) (nodes_in after.keeper)
+  move_quiet : IsWriterMove plan before after → stores_of after ≤ stores_of before
+      → AreQuiet (nodes_in before.writer) (nodes_in after.writer)
   move_quiet (rested same) few =
-      subst (λ (k : Known). AreQuiet (nodes_in before.keeper) (nodes_in k)) (sym same)
-      (same_quiet (nodes_in before.keeper))
+      subst (λ (k : Known). AreQuiet (nodes_in before.writer) (nodes_in k)) (sym same)
+      (same_quiet (nodes_in before.writer))
   move_quiet (wrote node word value low free told) few =
-      subst (λ (k : Known). AreQuiet (nodes_in before.keeper) (nodes_in k))
+      subst (λ (k : Known). AreQuiet (nodes_in before.writer) (nodes_in k))
       (sym (told.1 node word low refl))
-      (free_quiet (nodes_in before.keeper) node (worded word value) free refl)
+      (free_quiet (nodes_in before.writer) node (worded word value) free refl)
   move_quiet (wrote_link node link value low free told) few =
-      subst (λ (k : Known). AreQuiet (nodes_in before.keeper) (nodes_in k))
+      subst (λ (k : Known). AreQuiet (nodes_in before.writer) (nodes_in k))
       (sym (told.1 node link low refl))
-      (free_quiet (nodes_in before.keeper) node (linked_to link value) free refl)
+      (free_quiet (nodes_in before.writer) node (linked_to link value) free refl)
   move_quiet (led node link value low live told) few =
       let e = ap (λ (k : Known). length (stored_in k)) (told.1 node link low refl) in
       absurd (omega (arith, e, few))
   move_quiet (published from link to low live free told) few =
       let e = ap (λ (k : Known). length (stored_in k)) (told.1 from link to low refl refl) in
       absurd (omega (arith, e, few))
-  move_quiet (left node value low told) few =
-      subst (λ (k : Known). AreQuiet (nodes_in before.keeper) (nodes_in k))
-      (sym (told.1 node 0 low refl)) (left_quiet (nodes_in before.keeper) node)
+  move_quiet (marked_unlinked node value low told) few =
+      subst (λ (k : Known). AreQuiet (nodes_in before.writer) (nodes_in k))
+      (sym (told.1 node 0 low refl)) (unlinked_quiet (nodes_in before.writer) node)
   move_quiet (looked number opens told) few =
-      subst (λ (k : Known). AreQuiet (nodes_in before.keeper) (nodes_in k)) (sym told.1)
-      (aged_quiet (nodes_in before.keeper) _ _)
+      subst (λ (k : Known). AreQuiet (nodes_in before.writer) (nodes_in k)) (sym told.1)
+      (reclaimed_quiet (nodes_in before.writer) _ _)
 
 -- what a quiet move leaves of the chain
 module _ (ours : List ℕ → Bool) (root : ℕ) (A B : List Node) (a : IsChained ours root A)
@@ -220,9 +223,9 @@ module _ (ours : List ℕ → Bool) (root : ℕ) (A B : List Node) (a : IsChaine
       (subst (λ (words : List ℕ). IsTrue (ours words)) (q.words i (q.live i on)) mine))
 
 module _ (fits : Plan → List ℕ → Type 0) (joins : Plan → ℕ → List ℕ → List ℕ → Type 0)
-    (first : Plan → ℕ → List ℕ) (plan : Plan) (ours : List ℕ → Bool) (root keeper last : ℕ)
+    (first : Plan → ℕ → List ℕ) (plan : Plan) (ours : List ℕ → Bool) (root writer last : ℕ)
     (moments : ℕ → Moment) (chain : IsChainOf joins first plan ours root)
-    (kept : IsKeptOver fits joins first plan keeper last moments) where
+    (kept : IsKeptOver fits joins first plan writer last moments) where
   abbrev stores_at : ℕ → ℕ
   stores_at t = stores_of (moments t)
 
@@ -256,7 +259,7 @@ module _ (fits : Plan → List ℕ → Type 0) (joins : Plan → ℕ → List �
       (carried P move s d u refl (omega (arith, next, low)) (omega (arith, same, few, then)) p))
 
   chained : (t : ℕ) → t ≤ last → IsChained ours root (nodes_at moments t)
-  chained t low = chained_at fits joins first plan ours root keeper (moments t) chain
+  chained t low = chained_at fits joins first plan ours root writer (moments t) chain
       (kept.at t low)
 
   quiet : (t : ℕ) → t < last → stores_at (suc t) ≤ stores_at t
@@ -314,7 +317,7 @@ module _ (fits : Plan → List ℕ → Type 0) (joins : Plan → ℕ → List �
       (quiet n under none))
       s (t - s) t (omega (arith, up)) low few
 
-  -- between two moments the keeper made one store at most
+  -- between two moments the writer made one store at most
   module _ (s u : ℕ) (end : u ≤ last) (one : stores_at u ≤ suc (stores_at s)) where
     -- a key that is linked at both is linked between
     pub linked_between : (key t : ℕ) → s ≤ t → t ≤ u
@@ -358,7 +361,7 @@ module _ (fits : Plan → List ℕ → Type 0) (joins : Plan → ℕ → List �
     on_chain_between all t low from to =
         goes (kept.moves t low) (grows (suc t) (u - suc t) u (omega (arith, to)) end)
       where
-        goes : (move : IsKeeperMove plan (moments t) (moments (suc t)))
+        goes : (move : IsWriterMove plan (moments t) (moments (suc t)))
             → stores_at (suc t) ≤ stores_at u
             → IsOnChain plan (moments t) (moments (suc t)) ours root move
         goes (rested same) more = tt
@@ -371,5 +374,5 @@ module _ (fits : Plan → List ℕ → Type 0) (joins : Plan → ℕ → List �
             let e = ap (λ (k : Known). length (stored_in k))
             (told.1 before link after inside refl refl) in
             all_on_to s t from (omega (arith, low)) (omega (arith, e, more, one)) all before live
-        goes (left node value inside told) more = tt
+        goes (marked_unlinked node value inside told) more = tt
         goes (looked number opens told) more = tt

@@ -1,5 +1,5 @@
--- A keeper's nodes before a link is stored, after it, and after what no live node leads to was
--- left.
+-- A writer's nodes before a link is stored, after it, and after what no live node leads to was
+-- unlinked.
 use Rattle.std.proofs.Common.{◌≡◌, ◌≢◌, ◌⊎◌, inl, inr, ⊎_elim, ℕ, zero, suc, ◌+◌, ◌*◌, ◌<◌, ◌≤◌}
 use Rattle.std.proofs.Common.{Bool, true, false, List, [], ◌∷◌, ◌++◌, length, get_or, set, take}
 use Rattle.std.proofs.Common.{drop, refl, sym, ap, ◌∙◌, arith, subst, length-set}
@@ -12,14 +12,14 @@ use mathlib.Core.Option.{some}
 use lib.ListN.{get_elem?}
 use native.Mathlib.Decide.{ℕ_discrete}
 use Rattle.rcu_graph.specs.Counts.{counted_up, links_from, links_to, one_if, times_in}
-use Rattle.rcu_graph.specs.Keeper.{IsReady}
+use Rattle.rcu_graph.specs.Writer.{IsReady}
 use Rattle.rcu_graph.specs.Mirror.{AreSized}
 use Rattle.rcu_graph.specs.Nodes.{IsTarget, in_state, is_live, linked_to, no_node, node_at, renewed}
 use Rattle.rcu_graph.specs.Nodes.{state_at}
-use Rattle.rcu_graph.specs.Tended.{AreLed, AreTended, AreTrimmed, IsReached}
-use Rattle.rcu_graph.specs.Trimming.{IsInside, IsTrimming, live_in, owed}
+use Rattle.rcu_graph.specs.Tended.{AreCollected, AreLed, AreTended, IsReached}
+use Rattle.rcu_graph.specs.Collecting.{IsCollecting, IsInside, live_in, owed}
 use Rattle.rcu_graph.specs.declared.known.Node.{Node}
-use Rattle.rcu_graph.specs.declared.node_state.NodeState.TheVariants.{Left, Live}
+use Rattle.rcu_graph.specs.declared.node_state.NodeState.TheVariants.{Live, Unlinked}
 use Rattle.rcu_graph.proofs.Counting.{found, from_live, from_others, kept_at, leads_counts}
 use Rattle.rcu_graph.proofs.Counting.{links_to-set, live_inside, one_other, one_same, other_node}
 use Rattle.rcu_graph.proofs.Counting.{same_node, same_state, state_keeps_links}
@@ -141,12 +141,12 @@ module _ (fits : List ℕ → Type 0) (joins : ℕ → List ℕ → List ℕ →
         (slice_index (node_at nodes i).links l) j (t.led i l live low) leads;
   }
 
-  -- after what no live node leads to was left
-  module _ (stored nodes : List Node) (counts leaving : List ℕ) (to : ℕ) (whole : AreWhole stored)
-      (t : IsTrimming count roots links stored nodes counts leaving to to []) where
-    nothing_owed : (i : ℕ) → times_in (owed stored leaving to to []) i ≡ 0
+  -- after what no live node leads to was unlinked
+  module _ (stored nodes : List Node) (counts unlinking : List ℕ) (to : ℕ) (whole : AreWhole stored)
+      (t : IsCollecting count roots links stored nodes counts unlinking to to []) where
+    nothing_owed : (i : ℕ) → times_in (owed stored unlinking to to []) i ≡ 0
     nothing_owed i = ap (λ (l : List ℕ). times_in (flat_map (λ j. (node_at stored j).links) l) i)
-        (drop_all to leaving)
+        (drop_all to unlinking)
       where
         drop_all : (n : ℕ) (l : List ℕ) → drop n (take n l) ≡ []
         drop_all zero l = refl
@@ -173,11 +173,11 @@ module _ (fits : List ℕ → Type 0) (joins : ℕ → List ℕ → List ℕ →
     was_live : (i : ℕ) → state_at nodes i ≡ Live → state_at stored i ≡ Live
     was_live i live = ⊎_elim
         (λ (e : state_at nodes i ≡ state_at stored i). sym e ∙ live)
-        (λ (q : (roots ≤ i) × (state_at stored i ≡ Live) × (state_at nodes i ≡ Left)). q.1)
+        (λ (q : (roots ≤ i) × (state_at stored i ≡ Live) × (state_at nodes i ≡ Unlinked)). q.1)
         (t.states i)
 
-    pub trimmed : AreTrimmed roots links stored nodes
-    trimmed = record {
+    pub collected : AreCollected roots links stored nodes
+    collected = record {
       few = t.few ∙ sym t.as_many;
       links_stay = t.links_stay;
       words_stay = t.words_stay;
@@ -190,7 +190,7 @@ module _ (fits : List ℕ → Type 0) (joins : ℕ → List ℕ → List ℕ →
     tended = record {
       rooted = λ i low.
           ⊎_elim (λ (e : state_at nodes i ≡ state_at stored i). e ∙ whole.rooted i low)
-          (λ (q : (roots ≤ i) × (state_at stored i ≡ Live) × (state_at nodes i ≡ Left)).
+          (λ (q : (roots ≤ i) × (state_at stored i ≡ Live) × (state_at nodes i ≡ Unlinked)).
           absurd (let past = q.0 in omega (arith, low, past)))
           (t.states i);
       whole = λ i live. subst fits (sym (t.words_stay i)) (whole.whole i (was_live i live));
@@ -209,9 +209,9 @@ module _ (fits : List ℕ → Type 0) (joins : ℕ → List ℕ → List ℕ →
     }
 
   -- a link of the live node i is stored: of what it led to one link less is counted
-  module _ (nodes : List Node) (counts leaving : List ℕ) (i l x : ℕ) (few : length nodes ≡ count)
+  module _ (nodes : List Node) (counts unlinking : List ℕ) (i l x : ℕ) (few : length nodes ≡ count)
       (sizes : AreSized count links width nodes) (counts_many : length counts ≡ count)
-      (room : length leaving ≡ count) (whole : AreWhole nodes)
+      (room : length unlinking ≡ count) (whole : AreWhole nodes)
       (counted : (k : ℕ) → k < count → slice_index counts k ≡ links_to nodes k)
       (up : (k : ℕ) → state_at nodes k ≡ Live → roots ≤ k → (x ≡ suc k)
       ⊎ (0 < slice_index counts k)) (live : state_at nodes i ≡ Live) (low : l < links)
@@ -299,9 +299,10 @@ module _ (fits : List ℕ → Type 0) (joins : ℕ → List ℕ → List ℕ →
         times_in-set v.links l x (suc k) (omega (arith, low, many)) in
         omega (arith, a, b, c, d)
 
-    pub starts_trimming : IsTrimming count roots links stored stored (counted_up counts x) leaving 0
+    pub starts_collecting : IsCollecting count roots links stored stored (counted_up counts x)
+        unlinking 0
         0 (before ∷ [])
-    starts_trimming = record {
+    starts_collecting = record {
       few = length-set nodes i (linked_to l x (node_at nodes i)) ∙ few;
       as_many = length-set nodes i (linked_to l x (node_at nodes i)) ∙ few;
       counts_many = as_many_up counts x ∙ counts_many;
@@ -428,14 +429,14 @@ module _ (fits : List ℕ → Type 0) (joins : ℕ → List ℕ → List ℕ →
         let a = are k (omega (arith, bound, few)) in
         let b = promoted_counts k in inr (omega (arith, some, a, b)))
 
--- the next node that was left, whose links are let go of
-pub take_next : (count roots links : ℕ) (stored nodes : List Node) (counts leaving : List ℕ)
+-- the next node that was unlinked, whose links are released
+pub take_next : (count roots links : ℕ) (stored nodes : List Node) (counts unlinking : List ℕ)
     (from to : ℕ)
     → from < to
-    → IsTrimming count roots links stored nodes counts leaving from to []
-    → IsTrimming count roots links stored nodes counts leaving (from + 1) to
-    (node_at stored (slice_index leaving from)).links
-take_next count roots links stored nodes counts leaving from to low t = record {
+    → IsCollecting count roots links stored nodes counts unlinking from to []
+    → IsCollecting count roots links stored nodes counts unlinking (from + 1) to
+    (node_at stored (slice_index unlinking from)).links
+take_next count roots links stored nodes counts unlinking from to low t = record {
   few = t.few;
   as_many = t.as_many;
   counts_many = t.counts_many;
@@ -461,20 +462,20 @@ take_next count roots links stored nodes counts leaving from to low t = record {
     get_or-taken (suc n) (x ∷ xs) zero small = refl
     get_or-taken (suc n) (x ∷ xs) (suc k) small = get_or-taken n xs k (omega (arith, small))
 
-    long : from < length (take to leaving)
+    long : from < length (take to unlinking)
     long =
         let a = t.enough in
         let b = t.room in
-        let e = length-take-le to leaving (omega (arith, a, b)) in omega (arith, e, low)
+        let e = length-take-le to unlinking (omega (arith, a, b)) in omega (arith, e, low)
 
-    same : owed stored leaving from to []
-        ≡ owed stored leaving (from + 1) to (node_at stored (slice_index leaving from)).links
+    same : owed stored unlinking from to []
+        ≡ owed stored unlinking (from + 1) to (node_at stored (slice_index unlinking from)).links
     same =
         ap (λ (l : List ℕ). flat_map (λ j. (node_at stored j).links) l)
-        (drop_more (take to leaving) from 0 long)
-        ∙ (flat_map-cons (λ j. (node_at stored j).links) (get_or (take to leaving) from 0)
-        (drop (from + 1) (take to leaving))
+        (drop_more (take to unlinking) from 0 long)
+        ∙ (flat_map-cons (λ j. (node_at stored j).links) (get_or (take to unlinking) from 0)
+        (drop (from + 1) (take to unlinking))
         ∙ ap (λ (j : ℕ).
         (node_at stored j).links
-        ++ flat_map (λ k. (node_at stored k).links) (drop (from + 1) (take to leaving)))
-        (get_or-taken to leaving from low))
+        ++ flat_map (λ k. (node_at stored k).links) (drop (from + 1) (take to unlinking)))
+        (get_or-taken to unlinking from low))

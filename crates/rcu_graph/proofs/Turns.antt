@@ -10,10 +10,10 @@ use mathlib.Core.Logic.{dite}
 use native.Mathlib.Decide.{ℕ_discrete}
 use Rattle.rcu_seq.specs.Numbers.{Number}
 use Rattle.rcu_live.specs.Numbers.{is_past}
-use Rattle.rcu_graph.specs.Cycle.{IsTurn, is_left, is_over, state_in, turned}
-use Rattle.rcu_graph.specs.Nodes.{IsBy, aged_state}
+use Rattle.rcu_graph.specs.Cycle.{IsTurn, is_over, is_unlinked, state_in, turned}
+use Rattle.rcu_graph.specs.Nodes.{IsBy, reclaimed_state}
 use Rattle.rcu_graph.specs.declared.node_state.NodeState.{NodeState}
-use Rattle.rcu_graph.specs.declared.node_state.NodeState.TheVariants.{Free, Left, Live, Retired}
+use Rattle.rcu_graph.specs.declared.node_state.NodeState.TheVariants.{Free, Live, Retired, Unlinked}
 
 module _ (is : NodeState → Bool) (to : NodeState) where
   turns : (s : NodeState) → is s ≡ true → turned is to s ≡ to
@@ -51,7 +51,7 @@ module _ (is : NodeState → Bool) (to : NodeState) where
 
 -- none is retired later than now
 pub late_after : (number : Number) (old new : List NodeState) (told : Bool)
-    → IsTurn is_left (Retired number) old new told
+    → IsTurn is_unlinked (Retired number) old new told
     → ((i : ℕ) → i < length old → IsBy number (state_in old i))
     → (i : ℕ) → i < length new
     → IsBy number (state_in new i)
@@ -79,7 +79,7 @@ over_by : (number : Number) (s : NodeState) → IsBy number s
     → IsBy number (turned (is_over number) Free s)
 over_by number Free by = tt
 over_by number Live by = tt
-over_by number Left by = tt
+over_by number Unlinked by = tt
 over_by number (Retired at) by = go (is_past at number)
   where
     go : (b : Bool) → IsBy number (if b then Free else Retired at)
@@ -96,26 +96,27 @@ late_freed number l late i low =
     (over_by number (state_in l i)
     (late i (subst (λ (n : ℕ). i < n) (length-map l (turned (is_over number) Free)) low)))
 
-one_ages : (number : Number) (s : NodeState)
-    → turned is_left (Retired number) (turned (is_over number) Free s) ≡ aged_state number number s
-one_ages number Free = refl
-one_ages number Live = refl
-one_ages number Left = refl
-one_ages number (Retired at) = go (is_past at number)
+one_reclaims : (number : Number) (s : NodeState)
+    → turned is_unlinked (Retired number) (turned (is_over number) Free s)
+    ≡ reclaimed_state number number s
+one_reclaims number Free = refl
+one_reclaims number Live = refl
+one_reclaims number Unlinked = refl
+one_reclaims number (Retired at) = go (is_past at number)
   where
     go : (b : Bool)
-        → turned is_left (Retired number) (if b then Free else Retired at)
+        → turned is_unlinked (Retired number) (if b then Free else Retired at)
         ≡ (if b then Free else Retired at)
     go true = refl
     go false = refl
 
--- what was retired long ago is free first, and then what was left is retired: that is a look
-pub all_age : (number : Number) (l : List NodeState)
-    → map (turned is_left (Retired number)) (map (turned (is_over number) Free) l)
-    ≡ map (aged_state number number) l
-all_age number [] = refl
-all_age number (s ∷ l) =
+-- what was retired long ago is free first, and then what was unlinked is retired: that is a look
+pub all_reclaim : (number : Number) (l : List NodeState)
+    → map (turned is_unlinked (Retired number)) (map (turned (is_over number) Free) l)
+    ≡ map (reclaimed_state number number) l
+all_reclaim number [] = refl
+all_reclaim number (s ∷ l) =
     ap (λ (x : NodeState).
-    x ∷ map (turned is_left (Retired number)) (map (turned (is_over number) Free) l))
-    (one_ages number s)
-    ∙ ap (λ (k : List NodeState). aged_state number number s ∷ k) (all_age number l)
+    x ∷ map (turned is_unlinked (Retired number)) (map (turned (is_over number) Free) l))
+    (one_reclaims number s)
+    ∙ ap (λ (k : List NodeState). reclaimed_state number number s ∷ k) (all_reclaim number l)

@@ -1,4 +1,4 @@
--- A search that finds nothing, over the nodes as the keeper knows them at the moments of the
+-- A search that finds nothing, over the nodes as the writer knows them at the moments of the
 -- section.
 use Rattle.std.specs.Prelude.{◌≡◌, ℕ, suc, ◌<◌, ◌≤◌, Bool, List, [], ◌∷◌, IsTrue}
 use Rattle.std.specs.Prelude.{slice_index}
@@ -64,28 +64,28 @@ IsSameFor opened before after =
 abbrev pub AreSameFor : Number → List Node → List Node → Type 0
 AreSameFor opened before after = (i : ℕ) → IsSameFor opened (node_at before i) (node_at after i)
 
--- a step of the keeper beside a section that began at this number. For the section each node stays
+-- a step of the writer beside a section that began at this number. For the section each node stays
 -- as it is; or a link was stored of one that is on its chain; or such a node was linked to a free
 -- one, which is live then. So a node that was taken off the chain leads where it led while the
 -- section is open
-pub data IsKeeperStep (ours : List ℕ → Bool) (opened : Number) (root : ℕ)
+pub data IsWriterStep (ours : List ℕ → Bool) (opened : Number) (root : ℕ)
     (before after : List Node) : Type 0 where
-  aside : AreSameFor opened before after → IsKeeperStep ours opened root before after
+  aside : AreSameFor opened before after → IsWriterStep ours opened root before after
   linked : (i l x : ℕ) → IsOnIfOurs ours root before i
-      → after ≡ renewed before i (linked_to l x) → IsKeeperStep ours opened root before after
+      → after ≡ renewed before i (linked_to l x) → IsWriterStep ours opened root before after
   published : (i l j : ℕ)
       → state_at before i ≡ Live
       → state_at before j ≡ Free
       → IsOnIfOurs ours root before i
       → after ≡ renewed (renewed before j (in_state Live)) i (linked_to l (suc j))
-      → IsKeeperStep ours opened root before after
+      → IsWriterStep ours opened root before after
 
 -- the nodes at each moment from the section's beginning, which is 0, to the search's end: each
--- moment is a step of the keeper after the one before
+-- moment is a step of the writer after the one before
 pub record IsHistory (ours : List ℕ → Bool) (opened : Number) (root last : ℕ)
     (nodes : ℕ → List Node) : Type 0 where
   pub chained : (t : ℕ) → t ≤ last → IsChained ours root (nodes t)
-  pub steps : (t : ℕ) → t < last → IsKeeperStep ours opened root (nodes t) (nodes (suc t))
+  pub steps : (t : ℕ) → t < last → IsWriterStep ours opened root (nodes t) (nodes (suc t))
 
 -- a hop was true of these nodes: it found where the link led then, and that node's words
 pub record IsTrueOf (nodes : List Node) (hop : Hop) : Type 0 where

@@ -1,5 +1,5 @@
 -- A run of a graph's shared words beside an open section, by atomic steps: at each moment the rule
--- holds, and from one to the next the keeper takes a step, the section does, or somebody else.
+-- holds, and from one to the next the writer takes a step, the section does, or somebody else.
 use Rattle.std.specs.Prelude.{◌≡◌, ℕ, suc, ◌+◌, ◌<◌, ◌≤◌, Bool, IsTrue, List, None, Some}
 use Rattle.std.specs.Prelude.{slice_index}
 use mathlib.Core.Option.{some}
@@ -8,8 +8,9 @@ use Rattle.rcu_seq.specs.Numbers.{Number}
 use Rattle.rcu_live.specs.Client.{AreLone, AreOpen, Views}
 use Rattle.rcu_graph.specs.Absence.{IsOnIfOurs}
 use Rattle.rcu_graph.specs.Nodes.{IsKeeping, IsOn, IsReader, nodes_in, place_of, state_at}
-use Rattle.rcu_graph.specs.Planned.{IsKeptBy, of_plan, tells_age, tells_follow, tells_leave}
-use Rattle.rcu_graph.specs.Planned.{tells_link, tells_publish, tells_write, tells_write_link}
+use Rattle.rcu_graph.specs.Planned.{IsKeptBy, of_plan, tells_follow, tells_link}
+use Rattle.rcu_graph.specs.Planned.{tells_mark_unlinked, tells_publish, tells_reclaim, tells_write}
+use Rattle.rcu_graph.specs.Planned.{tells_write_link}
 use Rattle.rcu_graph.specs.Search.{Ascends}
 use Rattle.rcu_graph.specs.declared.known.Known.{Known}
 use Rattle.rcu_graph.specs.declared.known.Node.{Node}
@@ -18,16 +19,16 @@ use Rattle.rcu_graph.specs.declared.node_state.NodeState.TheVariants.{Free, Live
 use Rattle.rcu_graph.specs.declared.plan.Plan.{Plan}
 
 -- what the rule speaks of at a moment: the words, and what is shown of the seats. And what two of
--- these know: the keeper, and the section
+-- these know: the writer, and the section
 pub record Moment : Type 0 where
   pub words : List ℕ
   pub seats : Views Planned
-  pub keeper : Known
+  pub writer : Known
   pub section : Known
 
--- the nodes at each moment, as the keeper knows them
+-- the nodes at each moment, as the writer knows them
 abbrev pub nodes_at : (ℕ → Moment) → ℕ → List Node
-nodes_at moments t = nodes_in (moments t).keeper
+nodes_at moments t = nodes_in (moments t).writer
 
 -- what the user's facts say of the chain of a root: some words are those of its nodes. The root has
 -- such words, a link 0 leads from such a node to such a one, and along it the keys go up
@@ -44,72 +45,73 @@ abbrev pub cell_of : Plan → ℕ → ℕ → ℕ
 cell_of plan = place_of plan.roots plan.links plan.words
 
 module _ (plan : Plan) (before after : Moment) where
-  -- the keeper made a step at a place, where it stored this value or found it: it knows then what
+  -- the writer made a step at a place, where it stored this value or found it: it knows then what
   -- such a step tells
   abbrev pub HasStored : (ℕ → Planned → ℕ → Planned → Type 0) → ℕ → ℕ → Type 0
   HasStored tells place value =
-      tells place (of_plan plan before.keeper) value (of_plan plan after.keeper)
+      tells place (of_plan plan before.writer) value (of_plan plan after.writer)
 
-  -- what the keeper did between two moments: nothing, as where another seat made a step; or one
+  -- what the writer did between two moments: nothing, as where another seat made a step; or one
   -- step. It stored a word or a link of a free node; it led a live one elsewhere, or to one that
-  -- was free; it left one; or it looked at a number, at which each open section may be open
-  pub data IsKeeperMove : Type 0 where
-    rested : after.keeper ≡ before.keeper → IsKeeperMove
+  -- was free; it marked one unlinked; or it looked at a number, at which each open section may be
+  -- open
+  pub data IsWriterMove : Type 0 where
+    rested : after.writer ≡ before.writer → IsWriterMove
     wrote : (node word value : ℕ)
         → word < plan.words
-        → state_at (nodes_in before.keeper) node ≡ Free
+        → state_at (nodes_in before.writer) node ≡ Free
         → HasStored tells_write (cell_of plan node (plan.links + word)) value
-        → IsKeeperMove
+        → IsWriterMove
     wrote_link : (node link value : ℕ)
         → link < plan.links
-        → state_at (nodes_in before.keeper) node ≡ Free
+        → state_at (nodes_in before.writer) node ≡ Free
         → HasStored tells_write_link (cell_of plan node link) value
-        → IsKeeperMove
+        → IsWriterMove
     led : (node link value : ℕ)
         → link < plan.links
-        → state_at (nodes_in before.keeper) node ≡ Live
+        → state_at (nodes_in before.writer) node ≡ Live
         → HasStored tells_link (cell_of plan node link) value
-        → IsKeeperMove
+        → IsWriterMove
     published : (from link to : ℕ)
         → link < plan.links
-        → state_at (nodes_in before.keeper) from ≡ Live
-        → state_at (nodes_in before.keeper) to ≡ Free
+        → state_at (nodes_in before.writer) from ≡ Live
+        → state_at (nodes_in before.writer) to ≡ Free
         → HasStored tells_publish (cell_of plan from link) (suc to)
-        → IsKeeperMove
-    left : (node value : ℕ)
+        → IsWriterMove
+    marked_unlinked : (node value : ℕ)
         → 0 < plan.links + plan.words
-        → HasStored tells_leave (cell_of plan node 0) value
-        → IsKeeperMove
+        → HasStored tells_mark_unlinked (cell_of plan node 0) value
+        → IsWriterMove
     looked : (number : Number)
         → AreOpen number before.seats
-        → tells_age (of_plan plan before.keeper) number (of_plan plan after.keeper)
-        → IsKeeperMove
+        → tells_reclaim (of_plan plan before.writer) number (of_plan plan after.writer)
+        → IsWriterMove
 
   -- a live node that was led elsewhere was on its chain then
-  abbrev pub IsOnChain : (List ℕ → Bool) → ℕ → IsKeeperMove → Type 0
+  abbrev pub IsOnChain : (List ℕ → Bool) → ℕ → IsWriterMove → Type 0
   IsOnChain ours root (rested same) = Unit {0}
   IsOnChain ours root (wrote node word value low free told) = Unit {0}
   IsOnChain ours root (wrote_link node link value low free told) = Unit {0}
   IsOnChain ours root (led node link value low live told) =
-      IsOnIfOurs ours root (nodes_in before.keeper) node
+      IsOnIfOurs ours root (nodes_in before.writer) node
   IsOnChain ours root (published from link to low live free told) =
-      IsOnIfOurs ours root (nodes_in before.keeper) from
-  IsOnChain ours root (left node value low told) = Unit {0}
+      IsOnIfOurs ours root (nodes_in before.writer) from
+  IsOnChain ours root (marked_unlinked node value low told) = Unit {0}
   IsOnChain ours root (looked number opens told) = Unit {0}
 
 module _ (fits : Plan → List ℕ → Type 0) (joins : Plan → ℕ → List ℕ → List ℕ → Type 0)
     (first : Plan → ℕ → List ℕ) (plan : Plan) where
   -- at a moment the rule holds, and this seat keeps the nodes
-  pub record IsKeptAt (keeper : ℕ) (moment : Moment) : Type 0 where
+  pub record IsKeptAt (writer : ℕ) (moment : Moment) : Type 0 where
     pub rule : IsKeptBy fits joins first plan moment.words moment.seats
-    pub shown : get_elem? moment.seats keeper ≡ some (None, None, of_plan plan moment.keeper)
-    pub keeps : IsKeeping moment.keeper
+    pub shown : get_elem? moment.seats writer ≡ some (None, None, of_plan plan moment.writer)
+    pub keeps : IsKeeping moment.writer
 
-  -- so it is at each moment from 0 to the last, and between two of them the keeper makes one step
+  -- so it is at each moment from 0 to the last, and between two of them the writer makes one step
   -- at most
-  pub record IsKeptOver (keeper last : ℕ) (moments : ℕ → Moment) : Type 0 where
-    pub at : (t : ℕ) → t ≤ last → IsKeptAt keeper (moments t)
-    pub moves : (t : ℕ) → t < last → IsKeeperMove plan (moments t) (moments (suc t))
+  pub record IsKeptOver (writer last : ℕ) (moments : ℕ → Moment) : Type 0 where
+    pub at : (t : ℕ) → t ≤ last → IsKeptAt writer (moments t)
+    pub moves : (t : ℕ) → t < last → IsWriterMove plan (moments t) (moments (suc t))
 
   -- at a moment a section is open that began at this number, on this seat
   pub record IsOpenAt (seat : ℕ) (opened : Number) (moment : Moment) : Type 0 where
@@ -127,7 +129,7 @@ module _ (fits : Plan → List ℕ → Type 0) (joins : Plan → ℕ → List �
         → IsOn (first plan) plan.roots before.section node words
         → tells_follow fits joins first (cell_of plan node link) (of_plan plan before.section)
         (slice_index before.words (cell_of plan node link)) (of_plan plan after.section)
-        → after.keeper ≡ before.keeper
+        → after.writer ≡ before.writer
         → IsSectionMove before after
 
   -- it is open at each moment from 0 to the last, and between two of them it makes one hop at most
@@ -136,24 +138,24 @@ module _ (fits : Plan → List ℕ → Type 0) (joins : Plan → ℕ → List �
       pub at : (t : ℕ) → t ≤ last → IsOpenAt seat opened (moments t)
       pub moves : (t : ℕ) → t < last → IsSectionMove (moments t) (moments (suc t))
 
-  -- each live node that the keeper led elsewhere was on the chain, if it was one of the chain's
-  abbrev pub AreOnChain : (List ℕ → Bool) → (root keeper last : ℕ) (moments : ℕ → Moment)
-      → IsKeptOver keeper last moments → Type 0
-  AreOnChain ours root keeper last moments kept =
+  -- each live node that the writer led elsewhere was on the chain, if it was one of the chain's
+  abbrev pub AreOnChain : (List ℕ → Bool) → (root writer last : ℕ) (moments : ℕ → Moment)
+      → IsKeptOver writer last moments → Type 0
+  AreOnChain ours root writer last moments kept =
       (t : ℕ) (low : t < last)
       → IsOnChain plan (moments t) (moments (suc t)) ours root (kept.moves t low)
 
   -- at a moment a step may be made: the rule holds, the section is open, each open section may be
   -- open at the number, and a processor has one seat
-  pub record CanGoOn (keeper seat : ℕ) (opened number : Number) (moment : Moment) : Type 0 where
-    pub kept : IsKeptAt keeper moment
+  pub record CanGoOn (writer seat : ℕ) (opened number : Number) (moment : Moment) : Type 0 where
+    pub kept : IsKeptAt writer moment
     pub is_open : IsOpenAt seat opened moment
     pub current : AreOpen number moment.seats
     pub lone : AreLone moment.seats
 
   -- from one moment a run goes on to another
-  pub record GoesOn (keeper seat : ℕ) (opened : Number) (before after : Moment) : Type 0 where
-    pub kept : IsKeptAt keeper after
+  pub record GoesOn (writer seat : ℕ) (opened : Number) (before after : Moment) : Type 0 where
+    pub kept : IsKeptAt writer after
     pub is_open : IsOpenAt seat opened after
-    pub keepers : IsKeeperMove plan before after
+    pub writers : IsWriterMove plan before after
     pub sections : IsSectionMove before after

@@ -1,12 +1,12 @@
 -- The nodes in the order of their lives: a stack of those that are free, and a queue of those that
--- were retired, what was retired first in front, and behind them of those that were left.
+-- were retired, what was retired first in front, and behind them of those that were unlinked.
 use Rattle.std.specs.Prelude.{◌≡◌, ◌+◌, ◌<◌, ◌≤◌, if◌then◌else◌, ℕ, Bool, true, false, List, length}
 use Rattle.std.specs.Prelude.{slice_index, slice_index_or, slice_set, sum_by}
 use Rattle.rcu_seq.specs.Numbers.{Number}
 use Rattle.rcu_live.specs.Numbers.{is_past}
 use Rattle.rcu_graph.specs.Counts.{one_if}
 use Rattle.rcu_graph.specs.declared.node_state.NodeState.{NodeState}
-use Rattle.rcu_graph.specs.declared.node_state.NodeState.TheVariants.{Free, Live, Left, Retired}
+use Rattle.rcu_graph.specs.declared.node_state.NodeState.TheVariants.{Free, Live, Retired, Unlinked}
 
 -- the state of the node i
 abbrev pub state_in : List NodeState → ℕ → NodeState
@@ -16,17 +16,17 @@ state_in states i = slice_index_or states i Free
 abbrev pub how_many : (NodeState → Bool) → List NodeState → ℕ
 how_many is states = sum_by (λ s. one_if (is s)) states
 
--- it was left, and is not free yet
+-- it was unlinked, and is not free yet
 abbrev pub IsGone : NodeState → Type 0
 IsGone Free = ⊥
 IsGone Live = ⊥
-IsGone Left = Unit {0}
+IsGone Unlinked = Unit {0}
 IsGone (Retired number) = Unit {0}
 
 abbrev pub is_idle : NodeState → Bool
 is_idle Free = true
 is_idle Live = false
-is_idle Left = true
+is_idle Unlinked = true
 is_idle (Retired number) = true
 
 -- the node i is free and knows its height k, and the other way round
@@ -48,7 +48,7 @@ pub record IsStack (states : List NodeState) (free heights : List ℕ) : Type 0 
 abbrev pub StandsAt : ℕ → NodeState → ℕ → Type 0
 StandsAt retired Free k = ⊥
 StandsAt retired Live k = ⊥
-StandsAt retired Left k = retired ≤ k
+StandsAt retired Unlinked k = retired ≤ k
 StandsAt retired (Retired number) k = k < retired
 
 -- each node that is gone waits in a queue, once: no node that was retired later waits in front of
@@ -81,14 +81,14 @@ pub record IsCycle (states : List NodeState) (free heights waiting : List ℕ) (
 abbrev pub is_over : Number → NodeState → Bool
 is_over number Free = false
 is_over number Live = false
-is_over number Left = false
+is_over number Unlinked = false
 is_over number (Retired at) = is_past at number
 
-abbrev pub is_left : NodeState → Bool
-is_left Free = false
-is_left Live = false
-is_left Left = true
-is_left (Retired number) = false
+abbrev pub is_unlinked : NodeState → Bool
+is_unlinked Free = false
+is_unlinked Live = false
+is_unlinked Unlinked = true
+is_unlinked (Retired number) = false
 
 -- what is so is turned into another state
 abbrev pub turned : (NodeState → Bool) → NodeState → NodeState → NodeState

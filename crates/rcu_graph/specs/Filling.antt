@@ -3,7 +3,7 @@ use Rattle.std.specs.Prelude.{◌≡◌, ◌<◌, ℕ, List, length}
 use Rattle.rcu_live.specs.Board.{Object}
 use Rattle.rcu_live.specs.Watcher.{Watching}
 use Rattle.rcu_graph.specs.Graph.{IsWatcherOf}
-use Rattle.rcu_graph.specs.Keeper.{after_step}
+use Rattle.rcu_graph.specs.Writer.{after_step}
 use Rattle.rcu_graph.specs.Mirror.{with_words}
 use Rattle.rcu_graph.specs.Nodes.{IsKeeping, node_at, nodes_in, renewed, state_at}
 use Rattle.rcu_graph.specs.declared.known.Planned.{Planned}
@@ -17,28 +17,28 @@ with_links links v = record { state = v.state; links = links; words = v.words }
 
 -- after the words of the node i were written, and after its links were
 abbrev pub after_words : Watching Planned → ℕ → List ℕ → Watching Planned
-after_words keeper i words =
-    after_step keeper (renewed (nodes_in keeper.view.client.known) i (with_words words))
+after_words writer i words =
+    after_step writer (renewed (nodes_in writer.view.client.known) i (with_words words))
 
 abbrev pub after_links : Watching Planned → ℕ → List ℕ → Watching Planned
-after_links keeper i links =
-    after_step keeper (renewed (nodes_in keeper.view.client.known) i (with_links links))
+after_links writer i links =
+    after_step writer (renewed (nodes_in writer.view.client.known) i (with_links links))
 
 -- a watcher of the graph may store the k-th of so many words, or links, of the node i: that is free
-pub record CanStore (row : ℕ) (graph : Object Plan) (keeper : Watching Planned)
+pub record CanStore (row : ℕ) (graph : Object Plan) (writer : Watching Planned)
     (i k : ℕ) : Type 0 where
-  pub watches : IsWatcherOf graph keeper
+  pub watches : IsWatcherOf graph writer
   pub inside : i < graph.plan.nodes
-  pub free : state_at (nodes_in keeper.view.client.known) i ≡ Free
+  pub free : state_at (nodes_in writer.view.client.known) i ≡ Free
   pub cell : k < row
 
 -- a watcher of the graph may fill the node i of those that it keeps: the node is free, and has all
 -- its links and words
-pub record CanFill (graph : Object Plan) (keeper : Watching Planned) (i : ℕ) : Type 0 where
-  pub watches : IsWatcherOf graph keeper
-  pub keeps : IsKeeping keeper.view.client.known
-  pub few : length (nodes_in keeper.view.client.known) ≡ graph.plan.nodes
+pub record CanFill (graph : Object Plan) (writer : Watching Planned) (i : ℕ) : Type 0 where
+  pub watches : IsWatcherOf graph writer
+  pub keeps : IsKeeping writer.view.client.known
+  pub few : length (nodes_in writer.view.client.known) ≡ graph.plan.nodes
   pub inside : i < graph.plan.nodes
-  pub free : state_at (nodes_in keeper.view.client.known) i ≡ Free
-  pub link_count : length (node_at (nodes_in keeper.view.client.known) i).links ≡ graph.plan.links
-  pub word_count : length (node_at (nodes_in keeper.view.client.known) i).words ≡ graph.plan.words
+  pub free : state_at (nodes_in writer.view.client.known) i ≡ Free
+  pub link_count : length (node_at (nodes_in writer.view.client.known) i).links ≡ graph.plan.links
+  pub word_count : length (node_at (nodes_in writer.view.client.known) i).words ≡ graph.plan.words

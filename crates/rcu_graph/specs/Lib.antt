@@ -5,7 +5,7 @@ pub mod Cycle
 pub mod Filling
 pub mod Graph
 pub mod Joining
-pub mod Keeper
+pub mod Writer
 pub mod Mirror
 pub mod Nodes
 pub mod Opening
@@ -20,5 +20,5 @@ pub mod Steps
 pub mod Walks
 pub mod Waits
 pub mod Tended
-pub mod Trimming
+pub mod Collecting
 pub mod Updates

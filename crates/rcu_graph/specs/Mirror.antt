@@ -1,4 +1,4 @@
--- The nodes as a keeper has them at run time.
+-- The nodes as a writer has them at run time.
 use Rattle.std.specs.Prelude.{◌≡◌, ◌<◌, ℕ, List, [], ◌∷◌, ◌++◌, length, take, drop}
 use Rattle.rcu_seq.specs.Numbers.{Number}
 use Rattle.rcu_graph.specs.Nodes.{IsBy, node_at, state_at}

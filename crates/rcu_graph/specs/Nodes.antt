@@ -10,10 +10,10 @@ use Rattle.rcu_seq.specs.Numbers.{Number}
 use Rattle.rcu_live.specs.Numbers.{is_past}
 use Rattle.rcu_graph.specs.declared.known.Hop.{Hop}
 use Rattle.rcu_graph.specs.declared.known.Known.{Known}
-use Rattle.rcu_graph.specs.declared.known.Known.TheVariants.{Idle, Owner, Reader, Keeper}
+use Rattle.rcu_graph.specs.declared.known.Known.TheVariants.{Idle, Owner, Reader, Writer}
 use Rattle.rcu_graph.specs.declared.known.Node.{Node}
 use Rattle.rcu_graph.specs.declared.node_state.NodeState.{NodeState}
-use Rattle.rcu_graph.specs.declared.node_state.NodeState.TheVariants.{Free, Live, Left, Retired}
+use Rattle.rcu_graph.specs.declared.node_state.NodeState.TheVariants.{Free, Live, Retired, Unlinked}
 
 -- where the rows of the nodes begin
 abbrev pub first_place : ℕ
@@ -33,25 +33,25 @@ place_of roots links width i k =
 abbrev pub MayRead : Number → NodeState → Type 0
 MayRead at Free = ⊥
 MayRead at Live = Unit {0}
-MayRead at Left = Unit {0}
+MayRead at Unlinked = Unit {0}
 MayRead at (Retired number) = at ≤ number
 
 abbrev pub IsUsed : NodeState → Type 0
 IsUsed Free = ⊥
 IsUsed Live = Unit {0}
-IsUsed Left = Unit {0}
+IsUsed Unlinked = Unit {0}
 IsUsed (Retired number) = Unit {0}
 
 abbrev pub is_free : NodeState → Bool
 is_free Free = true
 is_free Live = false
-is_free Left = false
+is_free Unlinked = false
 is_free (Retired number) = false
 
 abbrev pub is_live : NodeState → Bool
 is_live Free = false
 is_live Live = true
-is_live Left = false
+is_live Unlinked = false
 is_live (Retired number) = false
 
 -- whoever may be on a node in the first state may go on to one in the second, now and after each
@@ -60,22 +60,22 @@ abbrev pub Outlives : NodeState → NodeState → Type 0
 Outlives Free to = Unit {0}
 Outlives Live Free = ⊥
 Outlives Live Live = Unit {0}
-Outlives Live Left = ⊥
+Outlives Live Unlinked = ⊥
 Outlives Live (Retired to) = ⊥
-Outlives Left Free = ⊥
-Outlives Left Live = Unit {0}
-Outlives Left Left = Unit {0}
-Outlives Left (Retired to) = ⊥
+Outlives Unlinked Free = ⊥
+Outlives Unlinked Live = Unit {0}
+Outlives Unlinked Unlinked = Unit {0}
+Outlives Unlinked (Retired to) = ⊥
 Outlives (Retired from) Free = ⊥
 Outlives (Retired from) Live = Unit {0}
-Outlives (Retired from) Left = Unit {0}
+Outlives (Retired from) Unlinked = Unit {0}
 Outlives (Retired from) (Retired to) = from ≤ to
 
 -- it was retired by this number
 abbrev pub IsBy : Number → NodeState → Type 0
 IsBy latest Free = Unit {0}
 IsBy latest Live = Unit {0}
-IsBy latest Left = Unit {0}
+IsBy latest Unlinked = Unit {0}
 IsBy latest (Retired number) = number ≤ latest
 
 -- the links and the words of a node, as they stand side by side
@@ -106,19 +106,19 @@ worded k x v = record { state = v.state; links = v.links; words = slice_set v.wo
 abbrev pub renewed : List Node → ℕ → (Node → Node) → List Node
 renewed nodes i change = slice_set nodes i (change (node_at nodes i))
 
--- at the number n, of which m is no less: what was left is so no later than m, and what was left a
--- full grace period ago is free
-abbrev pub aged_state : Number → Number → NodeState → NodeState
-aged_state n m Free = Free
-aged_state n m Live = Live
-aged_state n m Left = Retired m
-aged_state n m (Retired number) = if is_past number n then Free else Retired number
+-- at the number n, of which m is no less: what was unlinked is so no later than m, and what was
+-- unlinked a full grace period ago is free
+abbrev pub reclaimed_state : Number → Number → NodeState → NodeState
+reclaimed_state n m Free = Free
+reclaimed_state n m Live = Live
+reclaimed_state n m Unlinked = Retired m
+reclaimed_state n m (Retired number) = if is_past number n then Free else Retired number
 
-abbrev pub aged_node : Number → Number → Node → Node
-aged_node n m v = in_state (aged_state n m v.state) v
+abbrev pub reclaimed_node : Number → Number → Node → Node
+reclaimed_node n m v = in_state (reclaimed_state n m v.state) v
 
-abbrev pub aged : Number → Number → List Node → List Node
-aged n m nodes = map (aged_node n m) nodes
+abbrev pub reclaimed : Number → Number → List Node → List Node
+reclaimed n m nodes = map (reclaimed_node n m) nodes
 
 -- the first nodes are the roots, with these words, and the others are free
 abbrev pub root : ℕ → List ℕ → Node
@@ -156,7 +156,7 @@ abbrev pub hops_in : Known → List Hop
 hops_in Idle = []
 hops_in Owner = []
 hops_in (Reader hops) = hops
-hops_in (Keeper latest nodes stored) = []
+hops_in (Writer latest nodes stored) = []
 
 -- a section made one hop more: from the node i along the link l it found the word x, and came to
 -- these words
@@ -169,39 +169,39 @@ abbrev pub IsReader : Known → Type 0
 IsReader Idle = Unit {0}
 IsReader Owner = ⊥
 IsReader (Reader hops) = Unit {0}
-IsReader (Keeper latest nodes stored) = ⊥
+IsReader (Writer latest nodes stored) = ⊥
 
 -- (of which there is one proof at most, as of each fact that a struct keeps)
 pub reader_once : (known : Known) → IsProp (IsReader known)
 reader_once Idle = Unit-prop
 reader_once Owner = λ a b. absurd a
 reader_once (Reader hops) = Unit-prop
-reader_once (Keeper latest nodes stored) = λ a b. absurd a
+reader_once (Writer latest nodes stored) = λ a b. absurd a
 
 abbrev pub IsKeeping : Known → Type 0
 IsKeeping Idle = ⊥
 IsKeeping Owner = ⊥
 IsKeeping (Reader hops) = ⊥
-IsKeeping (Keeper latest nodes stored) = Unit {0}
+IsKeeping (Writer latest nodes stored) = Unit {0}
 
 abbrev pub nodes_in : Known → List Node
 nodes_in Idle = []
 nodes_in Owner = []
 nodes_in (Reader hops) = []
-nodes_in (Keeper latest nodes stored) = nodes
+nodes_in (Writer latest nodes stored) = nodes
 
 abbrev pub latest_in : Known → Number
 latest_in Idle = 0
 latest_in Owner = 0
 latest_in (Reader hops) = 0
-latest_in (Keeper latest nodes stored) = latest
+latest_in (Writer latest nodes stored) = latest
 
 -- the nodes after each store that led a live one elsewhere, the latest store first
 abbrev pub stored_in : Known → List (List Node)
 stored_in Idle = []
 stored_in Owner = []
 stored_in (Reader hops) = []
-stored_in (Keeper latest nodes stored) = stored
+stored_in (Writer latest nodes stored) = stored
 
 -- the section came to the node i, which has these words: one of its hops led there
 abbrev pub IsHeld : Known → ℕ → List ℕ → Type 0
@@ -221,4 +221,4 @@ abbrev pub closed : Known → Known
 closed Idle = Idle
 closed Owner = Owner
 closed (Reader hops) = Idle
-closed (Keeper latest nodes stored) = Keeper latest nodes stored
+closed (Writer latest nodes stored) = Writer latest nodes stored

@@ -9,7 +9,7 @@ use Rattle.rcu_live.specs.Watcher.{Watching, after_word_step, watcher_at_first}
 use Rattle.rcu_live.specs.Words.{base_of}
 use Rattle.rcu_graph.specs.Nodes.{first_nodes, place_of}
 use Rattle.rcu_graph.specs.Planned.{of_plan}
-use Rattle.rcu_graph.specs.declared.known.Known.TheVariants.{Keeper, Owner}
+use Rattle.rcu_graph.specs.declared.known.Known.TheVariants.{Owner, Writer}
 use Rattle.rcu_graph.specs.declared.known.Planned.{Planned}
 use Rattle.rcu_graph.specs.declared.not_opened.NotOpened.{NotOpened}
 use Rattle.rcu_graph.specs.declared.not_opened.NotOpened.TheVariants.{BadSizes}
@@ -57,10 +57,10 @@ pub record AreFirst (first : ℕ → List ℕ) (many roots links width : ℕ)
 -- what it knows who keeps the nodes of a graph of this plan, as they are at first
 abbrev pub claimed_first : (ℕ → List ℕ) → Plan → Planned
 claimed_first first plan =
-    of_plan plan (Keeper 0 (first_nodes plan.links plan.words first plan.roots plan.nodes) [])
+    of_plan plan (Writer 0 (first_nodes plan.links plan.words first plan.roots plan.nodes) [])
 
 -- who keeps them in an engine of so many processors
-abbrev pub keeper_at_first : (ℕ → List ℕ) → TableId → ℕ → Plan → Watching Planned
-keeper_at_first first table cpus plan =
+abbrev pub writer_at_first : (ℕ → List ℕ) → TableId → ℕ → Plan → Watching Planned
+writer_at_first first table cpus plan =
     after_word_step (watcher_at_first table (base_of cpus) (of_plan plan Owner))
     (claimed_first first plan)

@@ -10,8 +10,8 @@ use Rattle.rcu_live.specs.Client.{ClientView, IsStable, Views}
 use Rattle.rcu_live.proofs.ClientRows.{reseat}
 use Rattle.rcu_live.proofs.Deals.{at_end}
 use Rattle.rcu_graph.specs.Rule.{IsKept}
-use Rattle.rcu_graph.specs.Steps.{IsAged, IsClaimed, IsFollowed, IsLeft, IsLinkWritten, IsLinked}
-use Rattle.rcu_graph.specs.Steps.{IsPublished, IsRead, IsWritten}
+use Rattle.rcu_graph.specs.Steps.{IsClaimed, IsFollowed, IsLinkWritten, IsLinked, IsMarkedUnlinked}
+use Rattle.rcu_graph.specs.Steps.{IsPublished, IsRead, IsReclaimed, IsWritten}
 use Rattle.rcu_graph.specs.declared.known.Known.{Known}
 use Rattle.rcu_graph.specs.declared.known.Planned.{Planned}
 use Rattle.rcu_graph.specs.declared.plan.Plan.{Plan}
@@ -86,11 +86,11 @@ tells_link = tells_word (λ plan. IsLinked plan.roots plan.links plan.words)
 abbrev pub tells_publish : ℕ → Planned → ℕ → Planned → Type 0
 tells_publish = tells_word (λ plan. IsPublished plan.roots plan.links plan.words)
 
-abbrev pub tells_leave : ℕ → Planned → ℕ → Planned → Type 0
-tells_leave = tells_word (λ plan. IsLeft plan.roots plan.links plan.words)
+abbrev pub tells_mark_unlinked : ℕ → Planned → ℕ → Planned → Type 0
+tells_mark_unlinked = tells_word (λ plan. IsMarkedUnlinked plan.roots plan.links plan.words)
 
-abbrev pub tells_age : Planned → ℕ → Planned → Type 0
-tells_age = tells_number IsAged
+abbrev pub tells_reclaim : Planned → ℕ → Planned → Type 0
+tells_reclaim = tells_number IsReclaimed
 
 module _ (holds : List ℕ → Views Known → Type 0) (plan : Plan) where
   -- one seat changes, by which the plan stays

@@ -2,9 +2,9 @@
 use Rattle.std.specs.Prelude.{◌≡◌, ◌<◌, ℕ, List, [], ◌∷◌, Option, length, map}
 use Rattle.rcu_live.specs.Watcher.{Watching}
 use Rattle.rcu_graph.specs.Graph.{word_to}
-use Rattle.rcu_graph.specs.Keeper.{after_store}
+use Rattle.rcu_graph.specs.Writer.{after_store}
 use Rattle.rcu_graph.specs.Nodes.{IsTarget, node_at, nodes_in, renewed, state_at}
-use Rattle.rcu_graph.specs.Tended.{AreAllUsed, AreLed, AreTended, AreTrimmed, filled_with}
+use Rattle.rcu_graph.specs.Tended.{AreAllUsed, AreCollected, AreLed, AreTended, filled_with}
 use Rattle.rcu_graph.specs.Tended.{published}
 use Rattle.rcu_graph.specs.declared.known.Planned.{Planned}
 use Rattle.rcu_graph.specs.declared.known.Node.{Node}
@@ -21,18 +21,18 @@ pub record AreKept (fits : List ℕ → Type 0) (joins : ℕ → List ℕ → Li
   pub few : length nodes ≡ count
   pub tended : AreTended fits joins roots 1 nodes
 
--- the keeper may put a node of these words behind this one, which may lead to it, as it may to the
+-- the writer may put a node of these words behind this one, which may lead to it, as it may to the
 -- next one
 pub record CanPut (fits : List ℕ → Type 0) (joins : ℕ → List ℕ → List ℕ → Type 0)
-    (keeper : Watching Planned) (previous : ℕ) (words : List ℕ)
+    (writer : Watching Planned) (previous : ℕ) (words : List ℕ)
     (next : Option ℕ) : Type 0 where
-  pub one : keeper.view.client.plan.links ≡ 1
-  pub few : length (nodes_in keeper.view.client.known) ≡ keeper.view.client.plan.nodes
-  pub sized : length words ≡ keeper.view.client.plan.words
-  pub live : state_at (nodes_in keeper.view.client.known) previous ≡ Live
+  pub one : writer.view.client.plan.links ≡ 1
+  pub few : length (nodes_in writer.view.client.known) ≡ writer.view.client.plan.nodes
+  pub sized : length words ≡ writer.view.client.plan.words
+  pub live : state_at (nodes_in writer.view.client.known) previous ≡ Live
   pub whole : fits words
-  pub joined : joins 0 (node_at (nodes_in keeper.view.client.known) previous).words words
-  pub target : IsTarget (joins 0) words (nodes_in keeper.view.client.known) (word_to next)
+  pub joined : joins 0 (node_at (nodes_in writer.view.client.known) previous).words words
+  pub target : IsTarget (joins 0) words (nodes_in writer.view.client.known) (word_to next)
 
 -- the nodes after these words were written to a node, with a link to the next one, and the previous
 -- one was led to it
@@ -41,7 +41,7 @@ put nodes previous node words next =
     published (renewed nodes node (filled_with (map word_to (next ∷ [])) words)) previous 0 node
 
 -- a node that was free was put behind the previous one by one store, and what no live node leads to
--- any more was left
+-- any more was unlinked
 pub record HasPut (fits : List ℕ → Type 0) (joins : ℕ → List ℕ → List ℕ → Type 0)
     (before now : Watching Planned) (previous node : ℕ) (words : List ℕ)
     (next : Option ℕ) : Type 0 where
@@ -53,7 +53,7 @@ pub record HasPut (fits : List ℕ → Type 0) (joins : ℕ → List ℕ → Lis
   pub kept : AreKept fits joins before.view.client.plan.roots before.view.client.plan.nodes
       (nodes_in now.view.client.known)
   pub led : AreLed joins 1 (put (nodes_in before.view.client.known) previous node words next)
-  pub trimmed : AreTrimmed before.view.client.plan.roots 1
+  pub collected : AreCollected before.view.client.plan.roots 1
       (put (nodes_in before.view.client.known) previous node words next)
       (nodes_in now.view.client.known)
 

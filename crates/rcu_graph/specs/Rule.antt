@@ -8,7 +8,7 @@ use Rattle.rcu_live.specs.Client.{Views}
 use Rattle.rcu_graph.specs.Nodes.{IsBy, IsHeld, IsUsed, MayRead, Outlives, first_nodes, first_place}
 use Rattle.rcu_graph.specs.Nodes.{place_of, row_of}
 use Rattle.rcu_graph.specs.declared.known.Known.{Known}
-use Rattle.rcu_graph.specs.declared.known.Known.TheVariants.{Idle, Owner, Reader, Keeper}
+use Rattle.rcu_graph.specs.declared.known.Known.TheVariants.{Idle, Owner, Reader, Writer}
 use Rattle.rcu_graph.specs.declared.known.Node.{Node}
 use Rattle.rcu_graph.specs.declared.node_state.NodeState.TheVariants.{Live}
 
@@ -26,13 +26,13 @@ pub record Reading (nodes : List Node) (section : Option Number) (i : ℕ)
 -- what a seat knows is so: of these nodes, which one seat keeps
 abbrev pub Knows : (ℕ → List ℕ) → ℕ → ℕ → ℕ → ℕ → List Node → Number → ℕ → ℕ → Option Number → Known
     → Type 0
-Knows first roots links width count nodes latest keeper id section Idle = Unit {0}
-Knows first roots links width count nodes latest keeper id section Owner =
-    (nodes ≡ first_nodes links width first roots count) × (latest ≡ 0) × (keeper ≡ id)
-Knows first roots links width count nodes latest keeper id section (Reader hops) =
+Knows first roots links width count nodes latest writer id section Idle = Unit {0}
+Knows first roots links width count nodes latest writer id section Owner =
+    (nodes ≡ first_nodes links width first roots count) × (latest ≡ 0) × (writer ≡ id)
+Knows first roots links width count nodes latest writer id section (Reader hops) =
     (i : ℕ) (words : List ℕ) → IsHeld (Reader hops) i words → Reading nodes section i words
-Knows first roots links width count nodes latest keeper id section (Keeper l known stored) =
-    (l ≡ latest) × (known ≡ nodes) × (keeper ≡ id)
+Knows first roots links width count nodes latest writer id section (Writer l known stored) =
+    (l ≡ latest) × (known ≡ nodes) × (writer ≡ id)
 
 -- a link leads to a node on which whoever may be on the first one may be, and joins the two
 pub record Leads (joins : ℕ → List ℕ → List ℕ → Type 0) (nodes : List Node) (from : Node)
@@ -68,8 +68,8 @@ pub record IsKept (fits : List ℕ → Type 0) (joins : ℕ → List ℕ → Lis
     (xs : Views Known) : Type 0 where
   pub nodes : List Node
   pub latest : Number
-  pub keeper : ℕ
+  pub writer : ℕ
   pub kept : AreKept fits joins first roots links width count words nodes latest
   pub seats : (id : ℕ) (cpu : Option ℕ) (section : Option Number) (known : Known)
       → get_elem? xs id ≡ some (cpu, section, known)
-      → Knows first roots links width count nodes latest keeper id section known
+      → Knows first roots links width count nodes latest writer id section known

@@ -1,11 +1,11 @@
--- A search of two hops, and a keeper that publishes a node between them.
+-- A search of two hops, and a writer that publishes a node between them.
 use Rattle.std.specs.Prelude.{ℕ, zero, suc, ◌<◌, List, [], ◌∷◌, ◌++◌, None, Some, replicate}
 use Rattle.std.specs.Prelude.{slice_index}
 use Rattle.rcu_graph.specs.Beside.{Moment}
 use Rattle.rcu_graph.specs.Planned.{of_plan, plan_of}
 use Rattle.rcu_graph.specs.declared.known.Hop.{Hop}
 use Rattle.rcu_graph.specs.declared.known.Known.{Known}
-use Rattle.rcu_graph.specs.declared.known.Known.TheVariants.{Keeper, Reader}
+use Rattle.rcu_graph.specs.declared.known.Known.TheVariants.{Reader, Writer}
 use Rattle.rcu_graph.specs.declared.known.Node.{Node}
 use Rattle.rcu_graph.specs.declared.node_state.NodeState.{NodeState}
 use Rattle.rcu_graph.specs.declared.node_state.NodeState.TheVariants.{Free, Live}
@@ -45,24 +45,24 @@ abbrev pub small_words : ℕ → List ℕ
 small_words zero = replicate 16 0 ++ (2 ∷ 0 ∷ 0 ∷ 5 ∷ 0 ∷ 7 ∷ [])
 small_words (suc t) = replicate 16 0 ++ (2 ∷ 0 ∷ 3 ∷ 5 ∷ 0 ∷ 7 ∷ [])
 
--- what the keeper knows then
-abbrev pub small_keeper : ℕ → Known
-small_keeper zero = Keeper 0 (small_nodes 0) []
-small_keeper (suc t) = Keeper 0 (small_nodes 1) (small_nodes 1 ∷ [])
+-- what the writer knows then
+abbrev pub small_writer : ℕ → Known
+small_writer zero = Writer 0 (small_nodes 0) []
+small_writer (suc t) = Writer 0 (small_nodes 1) (small_nodes 1 ∷ [])
 
--- a moment at which the keeper's seat is the first one, and processor 0 has the second, with a
+-- a moment at which the writer's seat is the first one, and processor 0 has the second, with a
 -- section that began at the number 0 and made these hops
 abbrev pub small_moment : ℕ → List Hop → Moment
 small_moment t hops = record {
   words = small_words t;
-  seats = (None, None, of_plan small_plan (small_keeper t))
+  seats = (None, None, of_plan small_plan (small_writer t))
       ∷ (Some 0, Some 0, of_plan small_plan (Reader hops))
       ∷ [];
-  keeper = small_keeper t;
+  writer = small_writer t;
   section = Reader hops;
 }
 
--- the section makes its first hop, then the keeper publishes the node 2, then the section goes on
+-- the section makes its first hop, then the writer publishes the node 2, then the section goes on
 abbrev pub small_moments : ℕ → Moment
 small_moments zero = small_moment 0 []
 small_moments (suc zero) = small_moment 0 (first_hop ∷ [])

@@ -1,12 +1,12 @@
 -- What each step on the nodes tells.
 use Rattle.std.specs.Prelude.{◌≡◌, ◌⊎◌, ℕ, suc, ◌+◌, ◌<◌, List, [], ◌∷◌, length, max, slice_index}
 use Rattle.rcu_seq.specs.Numbers.{Number}
-use Rattle.rcu_graph.specs.Nodes.{IsOn, after_hop, aged, first_nodes, in_state, latest_in}
-use Rattle.rcu_graph.specs.Nodes.{linked_to, nodes_in, place_of, renewed, stored_in, worded}
+use Rattle.rcu_graph.specs.Nodes.{IsOn, after_hop, first_nodes, in_state, latest_in, linked_to}
+use Rattle.rcu_graph.specs.Nodes.{nodes_in, place_of, reclaimed, renewed, stored_in, worded}
 use Rattle.rcu_graph.specs.declared.known.Known.{Known}
-use Rattle.rcu_graph.specs.declared.known.Known.TheVariants.{Keeper}
+use Rattle.rcu_graph.specs.declared.known.Known.TheVariants.{Writer}
 use Rattle.rcu_graph.specs.declared.known.Node.{Node}
-use Rattle.rcu_graph.specs.declared.node_state.NodeState.TheVariants.{Left, Live}
+use Rattle.rcu_graph.specs.declared.node_state.NodeState.TheVariants.{Live, Unlinked}
 
 -- the section came to the node j, which has these words, by a link that may lead there: the node is
 -- whole
@@ -48,15 +48,15 @@ IsRead first roots links width place was x now =
 -- the nodes are kept from now on, as they were at first
 abbrev pub IsClaimed : (ℕ → List ℕ) → ℕ → ℕ → ℕ → ℕ → Known → Type 0
 IsClaimed first roots links width count now =
-    now ≡ Keeper 0 (first_nodes links width first roots count) []
+    now ≡ Writer 0 (first_nodes links width first roots count) []
 
--- the keeper knows these nodes then, and of no other store
+-- the writer knows these nodes then, and of no other store
 abbrev pub keeping : Known → List Node → Known
-keeping was nodes = Keeper (latest_in was) nodes (stored_in was)
+keeping was nodes = Writer (latest_in was) nodes (stored_in was)
 
 -- they are so by a store that led a live one elsewhere
 abbrev pub storing : Known → List Node → Known
-storing was nodes = Keeper (latest_in was) nodes (nodes ∷ stored_in was)
+storing was nodes = Writer (latest_in was) nodes (nodes ∷ stored_in was)
 
 -- a word of a free node was stored, and a link of one
 abbrev pub IsWritten : ℕ → ℕ → ℕ → ℕ → Known → ℕ → Known → Type 0
@@ -84,15 +84,16 @@ IsPublished roots links width place was x now =
     → x ≡ suc j
     → now ≡ storing was (renewed (renewed (nodes_in was) j (in_state Live)) i (linked_to l x))
 
--- a node was left
-abbrev pub IsLeft : ℕ → ℕ → ℕ → ℕ → Known → ℕ → Known → Type 0
-IsLeft roots links width place was x now =
+-- a node was unlinked
+abbrev pub IsMarkedUnlinked : ℕ → ℕ → ℕ → ℕ → Known → ℕ → Known → Type 0
+IsMarkedUnlinked roots links width place was x now =
     (i k : ℕ) → k < links + width → place ≡ place_of roots links width i k
-    → now ≡ keeping was (renewed (nodes_in was) i (in_state Left))
+    → now ≡ keeping was (renewed (nodes_in was) i (in_state Unlinked))
 
 -- the nodes are a look at the number older
-abbrev pub IsAged : Known → Number → Known → Type 0
-IsAged was number now =
+abbrev pub IsReclaimed : Known → Number → Known → Type 0
+IsReclaimed was number now =
     now
-    ≡ Keeper (max number (latest_in was)) (aged number (max number (latest_in was)) (nodes_in was))
+    ≡ Writer (max number (latest_in was)) (reclaimed number (max number (latest_in was))
+    (nodes_in was))
     (stored_in was)

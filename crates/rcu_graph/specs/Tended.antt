@@ -1,14 +1,14 @@
--- What a keeper keeps of the live nodes, and what it leaves by itself.
+-- What a writer keeps of the live nodes, and what it unlinks by itself.
 use Rattle.std.specs.Prelude.{◌≡◌, ◌⊎◌, ◌<◌, ◌≤◌, ℕ, suc, Bool, true, List, Option, length, map}
 use Rattle.std.specs.Prelude.{slice_index}
 use Rattle.rcu_live.specs.Watcher.{Watching}
 use Rattle.rcu_graph.specs.Graph.{word_to}
-use Rattle.rcu_graph.specs.Keeper.{after_step}
+use Rattle.rcu_graph.specs.Writer.{after_step}
 use Rattle.rcu_graph.specs.Nodes.{IsTarget, in_state, linked_to, node_at, nodes_in, renewed}
 use Rattle.rcu_graph.specs.Nodes.{state_at}
 use Rattle.rcu_graph.specs.declared.known.Planned.{Planned}
 use Rattle.rcu_graph.specs.declared.known.Node.{Node}
-use Rattle.rcu_graph.specs.declared.node_state.NodeState.TheVariants.{Free, Left, Live}
+use Rattle.rcu_graph.specs.declared.node_state.NodeState.TheVariants.{Free, Live, Unlinked}
 
 -- a link of a live node leads to the node j
 pub record IsReached (links : ℕ) (nodes : List Node) (j : ℕ) : Type 0 where
@@ -46,14 +46,14 @@ pub record AreHeldUp (roots links : ℕ) (nodes : List Node) (these : ℕ → Bo
   pub live : (i : ℕ) → these i ≡ true → state_at nodes i ≡ Live
   pub held : (i : ℕ) → these i ≡ true → (i < roots) ⊎ IsReachedFrom links nodes these i
 
--- of the nodes as they were stored those are left that are no roots and to which no live node leads
--- any more, and nothing else changes: nodes that hold one another up stay live
-pub record AreTrimmed (roots links : ℕ) (stored nodes : List Node) : Type 0 where
+-- of the nodes as they were stored those are unlinked that are no roots and to which no live node
+-- leads any more, and nothing else changes: nodes that hold one another up stay live
+pub record AreCollected (roots links : ℕ) (stored nodes : List Node) : Type 0 where
   pub few : length nodes ≡ length stored
   pub links_stay : (i : ℕ) → (node_at nodes i).links ≡ (node_at stored i).links
   pub words_stay : (i : ℕ) → (node_at nodes i).words ≡ (node_at stored i).words
   pub states : (i : ℕ) → (state_at nodes i ≡ state_at stored i)
-      ⊎ ((roots ≤ i) × (state_at stored i ≡ Live) × (state_at nodes i ≡ Left))
+      ⊎ ((roots ≤ i) × (state_at stored i ≡ Live) × (state_at nodes i ≡ Unlinked))
   pub reached : (i : ℕ) → state_at nodes i ≡ Live → roots ≤ i → IsReached links nodes i
   pub stay : (these : ℕ → Bool) → AreHeldUp roots links stored these → (i : ℕ) → these i ≡ true
       → state_at nodes i ≡ Live
@@ -72,8 +72,8 @@ filled_with links words v = record { state = v.state; links = links; words = wor
 
 -- after the links and words of the node i were written
 abbrev pub after_fill : Watching Planned → ℕ → List ℕ → List (Option ℕ) → Watching Planned
-after_fill keeper i words links = after_step keeper
-    (renewed (nodes_in keeper.view.client.known) i (filled_with (map word_to links) words))
+after_fill writer i words links = after_step writer
+    (renewed (nodes_in writer.view.client.known) i (filled_with (map word_to links) words))
 
 -- no node is free
 abbrev pub AreAllUsed : List Node → Type 0

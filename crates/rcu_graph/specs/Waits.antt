@@ -5,51 +5,51 @@ use Rattle.rcu_live.specs.CpuSeat.{IsSeatOf, Seated}
 use Rattle.rcu_live.specs.Waits.{AreRounds}
 use Rattle.rcu_live.specs.Watcher.{Watching}
 use Rattle.rcu_graph.specs.Graph.{IsWatcherOf}
-use Rattle.rcu_graph.specs.Keeper.{after_look}
+use Rattle.rcu_graph.specs.Writer.{after_look}
 use Rattle.rcu_graph.specs.Nodes.{nodes_in}
 use Rattle.rcu_graph.specs.Tended.{AreAllUsed}
 use Rattle.rcu_graph.specs.declared.known.Planned.{Planned}
 use Rattle.rcu_graph.specs.declared.plan.Plan.{Plan}
 
--- where no node was free, the keeper looked at the number, which is no less than all that it saw
+-- where no node was free, the writer looked at the number, which is no less than all that it saw
 -- before
 pub record IsLook (before after : Watching Planned) : Type 0 where
   pub full : AreAllUsed (nodes_in before.view.client.known)
   pub later : before.view.seen ≤ after.view.seen
   pub state : after ≡ after_look before after.view.seen
 
--- so many looks, one after another, led from one state of the keeper to the other
+-- so many looks, one after another, led from one state of the writer to the other
 abbrev pub AreLooks : ℕ → Watching Planned → Watching Planned → Type 0
 AreLooks zero before after = after ≡ before
 AreLooks (suc looks) before after =
     (last : Watching Planned) × AreLooks looks before last × IsLook last after
 
--- from one state of the keeper to the other it looked at the number, once or more often, and did
+-- from one state of the writer to the other it looked at the number, once or more often, and did
 -- nothing else
-pub record HasAged (before after : Watching Planned) : Type 0 where
+pub record HasReclaimed (before after : Watching Planned) : Type 0 where
   pub more : ℕ
   pub looks : AreLooks (suc more) before after
 
--- a keeper of the graph, by its seat, and a processor's seat of it
-pub record AreOf (graph : Object Plan) (keeper : Watching Planned) (seat : Seated Planned) : Type 0
+-- a writer of the graph, by its seat, and a processor's seat of it
+pub record AreOf (graph : Object Plan) (writer : Watching Planned) (seat : Seated Planned) : Type 0
   where
-    pub keeper_of : IsWatcherOf graph keeper
+    pub writer_of : IsWatcherOf graph writer
     pub seat_of : IsSeatOf graph seat
 
--- a keeper of the graph none of whose nodes is free, and a processor's seat of the graph, outside
+-- a writer of the graph none of whose nodes is free, and a processor's seat of the graph, outside
 -- of sections
-pub record CanWait (graph : Object Plan) (seat : Seated Planned) (keeper : Watching Planned) : Type
+pub record CanWait (graph : Object Plan) (seat : Seated Planned) (writer : Watching Planned) : Type
     0 where
-  pub of_graph : AreOf graph keeper seat
+  pub of_graph : AreOf graph writer seat
   pub outside : seat.depth ≡ 0
-  pub full : AreAllUsed (nodes_in keeper.view.client.known)
+  pub full : AreAllUsed (nodes_in writer.view.client.known)
 
--- from one state of the keeper to the other it looked at the number until a node was free; from one
+-- from one state of the writer to the other it looked at the number until a node was free; from one
 -- state of the caller's seat to the other it passed quiescent states, one less than there were
 -- looks, or two less where the last number was found to be reached before the last look
 pub record HasMadeRoom {C : Type 0} (seat now : Seated C) (before after : Watching Planned) : Type 0
   where
-    pub looked : HasAged before after
+    pub looked : HasReclaimed before after
     pub free : ¬ AreAllUsed (nodes_in after.view.client.known)
     pub rounds : AreRounds 1 seat now before after ⊎ AreRounds 2 seat now before after
 
@@ -57,12 +57,12 @@ pub record HasMadeRoom {C : Type 0} (seat now : Seated C) (before after : Watchi
 -- number was found to be reached
 pub record HasGivenUp {C : Type 0} (seat now : Seated C) (before after : Watching Planned) : Type 0
   where
-    pub looked : HasAged before after
+    pub looked : HasReclaimed before after
     pub full : AreAllUsed (nodes_in after.view.client.known)
     pub rounds : AreRounds 2 seat now before after
 
--- nothing happened to the caller's seat and to the keeper
+-- nothing happened to the caller's seat and to the writer
 pub record HasStayed {C : Type 0} (seat now : Seated C) (before after : Watching Planned) : Type 0
   where
     pub seat_stays : now ≡ seat
-    pub keeper_stays : after ≡ before
+    pub writer_stays : after ≡ before

@@ -1,15 +1,15 @@
-//! A keeper's step on chains: on nodes with one link each.
+//! A writer's step on chains: on nodes with one link each.
 ghost use Rattle.std.specs.Prelude.{MatchResult};
 ghost use Rattle.rcu_graph.specs.Puts.{CanPut, HasPut, IsFull};
 
-use crate::keeper::{Full, Keeper};
 use crate::rule::{GraphRule, Shape};
+use crate::writer::{Full, Writer};
 use rcu_live::Within;
 
-impl<F: Shape, P: Within<GraphRule<F>>> Keeper<F, P> {
+impl<F: Shape, P: Within<GraphRule<F>>> Writer<F, P> {
     /// Writes these words to a free node, which leads to the next one, leads the previous one to it
-    /// by one store, and returns it. What no live node leads to any more is left. `Full` means that
-    /// no node is free. It is for nodes with one link each.
+    /// by one store, and returns it. A node to which no live node leads any more is unlinked.
+    /// `Full` means that no node is free. It is for nodes with one link each.
     pub fn put(
         &mut self,
         previous: usize,

@@ -1,14 +1,14 @@
-//! The nodes that a keeper knows, each with a count of the links that lead to it: what a change
-//! leaves, without a walk of the graph.
+//! The nodes that a writer knows, each with a count of the links that lead to it: what a change
+//! unlinks, without a walk of the graph.
 ghost use Rattle.std.specs.Prelude.{◌≡◌, ◌≤◌, ◌<◌, ◌+◌, ◌∷◌, ◌^◌, ℕ, [], All, List, length};
 ghost use Rattle.std.specs.Prelude.{slice_index, suc};
 ghost use Rattle.rcu_graph.specs.Counts.{counted_up, times_in};
 ghost use Rattle.rcu_graph.specs.Graph.{IsWatcherOf, word_to};
-ghost use Rattle.rcu_graph.specs.Keeper.{after_step};
+ghost use Rattle.rcu_graph.specs.Writer.{after_step};
 ghost use Rattle.rcu_graph.specs.Nodes.{node_at, nodes_in};
 ghost use Rattle.rcu_graph.specs.Tended.{published, relinked};
-ghost use Rattle.rcu_graph.specs.Trimming.{IsInside, IsTrimming};
-ghost use Rattle.rcu_graph.specs.Updates.{HasTrimmed, MayPublish, MayRelink};
+ghost use Rattle.rcu_graph.specs.Collecting.{IsCollecting, IsInside};
+ghost use Rattle.rcu_graph.specs.Updates.{HasCollected, MayPublish, MayRelink};
 ghost use Rattle.rcu_graph.specs.declared.known.Node.{Node};
 
 use crate::graph::Graph;
@@ -21,8 +21,8 @@ use rcu_live::Within;
 pub(crate) struct CountedNodes<F: Shape, P: Within<GraphRule<F>>> {
     pub(crate) nodes: KnownNodes<F, P>,
     pub(crate) counts: Vec<usize>,
-    /// The nodes that a change leaves, in order: room for all.
-    pub(crate) leaving: Vec<usize>,
+    /// The nodes that a change unlinks, in order: room for all.
+    pub(crate) unlinking: Vec<usize>,
 }
 
 impl<F: Shape, P: Within<GraphRule<F>>> CountedNodes<F, P> {
@@ -32,7 +32,7 @@ impl<F: Shape, P: Within<GraphRule<F>>> CountedNodes<F, P> {
         requires few { (i : ℕ) → word ≡ suc i →
             slice_index self.old.counts.items i + 1 < 2 ^ 64 }
         ensures nodes { self.new.nodes ≡ self.old.nodes }
-        ensures leaving { self.new.leaving ≡ self.old.leaving }
+        ensures unlinking { self.new.unlinking ≡ self.old.unlinking }
         ensures counts { self.new.counts.items ≡ counted_up self.old.counts.items word }
     {
         if let Some(node) = node_of(word) {
@@ -40,93 +40,97 @@ impl<F: Shape, P: Within<GraphRule<F>>> CountedNodes<F, P> {
         }
     }
 
-    /// Lets go of a link that led there: where no live node leads to a node any more, it is left.
-    /// Returns how many are left.
-    fn let_go(&mut self, graph: &Graph<F, P>, word: u64, left: usize) -> usize
+    /// Releases a link that led there: if no live node leads to a node any more, it is unlinked.
+    /// Returns how many are unlinked.
+    fn release_link(&mut self, graph: &Graph<F, P>, word: u64, unlinked: usize) -> usize
         requires graph { IsWatcherOf graph.now self.old.nodes }
-        requires trimming { (stored : List Node) × (from : ℕ) × (words : List ℕ)
-            × IsTrimming graph.now.plan.nodes graph.now.plan.roots graph.now.plan.links stored
+        requires collecting { (stored : List Node) × (from : ℕ) × (words : List ℕ)
+            × IsCollecting graph.now.plan.nodes graph.now.plan.roots graph.now.plan.links stored
             (nodes_in self.old.nodes.view.client.known)
-            self.old.counts.items self.old.leaving.items from left (word ∷ words) }
+            self.old.counts.items self.old.unlinking.items from unlinked (word ∷ words) }
         ensures graph { IsWatcherOf graph.now self.new.nodes }
         ensures state { self.new.nodes
             ≡ after_step self.old.nodes (nodes_in self.new.nodes.view.client.known) }
-        ensures trimming { (stored : List Node) (from : ℕ) (words : List ℕ) →
-            IsTrimming graph.now.plan.nodes graph.now.plan.roots graph.now.plan.links stored
+        ensures collecting { (stored : List Node) (from : ℕ) (words : List ℕ) →
+            IsCollecting graph.now.plan.nodes graph.now.plan.roots graph.now.plan.links stored
             (nodes_in self.old.nodes.view.client.known)
-            self.old.counts.items self.old.leaving.items from left (word ∷ words) →
-            IsTrimming graph.now.plan.nodes graph.now.plan.roots graph.now.plan.links stored
+            self.old.counts.items self.old.unlinking.items from unlinked (word ∷ words) →
+            IsCollecting graph.now.plan.nodes graph.now.plan.roots graph.now.plan.links stored
             (nodes_in self.new.nodes.view.client.known)
-            self.new.counts.items self.new.leaving.items from result words }
+            self.new.counts.items self.new.unlinking.items from result words }
     {
         let plan = self.nodes.plan(graph);
         let Some(node) = node_of(word) else {
-            return left;
+            return unlinked;
         };
         let count = self.counts[node] - 1;
         self.counts[node] = count;
         if count > 0 {
-            return left;
+            return unlinked;
         }
         if node < plan.roots {
-            return left;
+            return unlinked;
         }
         if !self.nodes.mirror().state(node).is_live() {
-            return left;
+            return unlinked;
         }
-        self.nodes.leave(graph, node);
-        self.leaving[left] = node;
-        left + 1
+        self.nodes.mark_unlinked(graph, node);
+        self.unlinking[unlinked] = node;
+        unlinked + 1
     }
 
-    /// Lets go of the links of a node that was left.
-    fn let_go_of(&mut self, graph: &Graph<F, P>, node: usize, left: usize) -> usize
+    /// Releases the links of a node that was unlinked.
+    fn release_links_of(&mut self, graph: &Graph<F, P>, node: usize, unlinked: usize) -> usize
         requires graph { IsWatcherOf graph.now self.old.nodes }
         requires node { node < graph.now.plan.nodes }
-        requires trimming { (stored : List Node) × (from : ℕ)
-            × IsTrimming graph.now.plan.nodes graph.now.plan.roots graph.now.plan.links stored
+        requires collecting { (stored : List Node) × (from : ℕ)
+            × IsCollecting graph.now.plan.nodes graph.now.plan.roots graph.now.plan.links stored
             (nodes_in self.old.nodes.view.client.known)
-            self.old.counts.items self.old.leaving.items from left (node_at stored node).links }
+            self.old.counts.items self.old.unlinking.items from unlinked
+            (node_at stored node).links }
         ensures graph { IsWatcherOf graph.now self.new.nodes }
         ensures state { self.new.nodes
             ≡ after_step self.old.nodes (nodes_in self.new.nodes.view.client.known) }
-        ensures trimming { (stored : List Node) (from : ℕ) →
-            IsTrimming graph.now.plan.nodes graph.now.plan.roots graph.now.plan.links stored
+        ensures collecting { (stored : List Node) (from : ℕ) →
+            IsCollecting graph.now.plan.nodes graph.now.plan.roots graph.now.plan.links stored
             (nodes_in self.old.nodes.view.client.known)
-            self.old.counts.items self.old.leaving.items from left (node_at stored node).links →
-            IsTrimming graph.now.plan.nodes graph.now.plan.roots graph.now.plan.links stored
+            self.old.counts.items self.old.unlinking.items from unlinked
+            (node_at stored node).links →
+            IsCollecting graph.now.plan.nodes graph.now.plan.roots graph.now.plan.links stored
             (nodes_in self.new.nodes.view.client.known)
-            self.new.counts.items self.new.leaving.items from result [] }
+            self.new.counts.items self.new.unlinking.items from result [] }
     {
         let plan = self.nodes.plan(graph);
-        let mut gone = left;
+        let mut gone = unlinked;
         for link in 0..plan.links {
             let word = self.nodes.mirror().link(node, link);
-            gone = self.let_go(graph, word, gone);
+            gone = self.release_link(graph, word, gone);
         }
         gone
     }
 
-    /// Lets go of a link that led there, and leaves what no live node leads to any more.
-    fn trim(&mut self, graph: &Graph<F, P>, word: u64)
+    /// Releases a link that led there, and marks what no live node leads to as unlinked any more.
+    fn collect_unreachable(&mut self, graph: &Graph<F, P>, word: u64)
         requires graph { IsWatcherOf graph.now self.old.nodes }
-        requires trimming { IsTrimming graph.now.plan.nodes graph.now.plan.roots
+        requires collecting { IsCollecting graph.now.plan.nodes graph.now.plan.roots
             graph.now.plan.links (nodes_in self.old.nodes.view.client.known)
-            (nodes_in self.old.nodes.view.client.known) self.old.counts.items self.old.leaving.items
+            (nodes_in self.old.nodes.view.client.known) self.old.counts.items
+            self.old.unlinking.items
             0 0 (word ∷ []) }
         ensures graph { IsWatcherOf graph.now self.new.nodes }
         ensures state { self.new.nodes
             ≡ after_step self.old.nodes (nodes_in self.new.nodes.view.client.known) }
-        ensures trimming { (to : ℕ) × IsTrimming graph.now.plan.nodes graph.now.plan.roots
+        ensures collecting { (to : ℕ) × IsCollecting graph.now.plan.nodes graph.now.plan.roots
             graph.now.plan.links (nodes_in self.old.nodes.view.client.known)
-            (nodes_in self.new.nodes.view.client.known) self.new.counts.items self.new.leaving.items
+            (nodes_in self.new.nodes.view.client.known) self.new.counts.items
+            self.new.unlinking.items
             to to [] }
     {
-        let mut left = self.let_go(graph, word, 0);
+        let mut unlinked = self.release_link(graph, word, 0);
         let mut done = 0;
-        'leaving: while done < left {
-            let node = self.leaving[done];
-            left = self.let_go_of(graph, node, left);
+        'unlinking: while done < unlinked {
+            let node = self.unlinking[done];
+            unlinked = self.release_links_of(graph, node, unlinked);
             done += 1;
         }
     }
@@ -135,10 +139,10 @@ impl<F: Shape, P: Within<GraphRule<F>>> CountedNodes<F, P> {
     pub(crate) fn link(&mut self, graph: &Graph<F, P>, from: usize, link: usize, to: Option<usize>)
         requires { MayRelink (F.fits graph.now.plan) (F.joins graph.now.plan) graph.now
             self.old.nodes
-            self.old.counts.items self.old.leaving.items from link (word_to to) }
-        ensures { HasTrimmed (F.fits graph.now.plan) (F.joins graph.now.plan) graph.now
+            self.old.counts.items self.old.unlinking.items from link (word_to to) }
+        ensures { HasCollected (F.fits graph.now.plan) (F.joins graph.now.plan) graph.now
             self.old.nodes self.new.nodes
-            self.new.counts.items self.new.leaving.items
+            self.new.counts.items self.new.unlinking.items
             (relinked (nodes_in self.old.nodes.view.client.known) from link to) }
     {
         self.nodes.plan(graph);
@@ -146,7 +150,7 @@ impl<F: Shape, P: Within<GraphRule<F>>> CountedNodes<F, P> {
         let before = self.nodes.mirror().link(from, link);
         self.nodes.link(graph, from, link, word);
         self.count(word);
-        self.trim(graph, before);
+        self.collect_unreachable(graph, before);
     }
 
     /// Counts the links of a node that becomes live.
@@ -160,7 +164,7 @@ impl<F: Shape, P: Within<GraphRule<F>>> CountedNodes<F, P> {
             + times_in (node_at (nodes_in self.old.nodes.view.client.known) node).links (suc k)
             < 2 ^ 64 }
         ensures nodes { self.new.nodes ≡ self.old.nodes }
-        ensures leaving { self.new.leaving ≡ self.old.leaving }
+        ensures unlinking { self.new.unlinking ≡ self.old.unlinking }
         ensures many { length self.new.counts.items ≡ graph.now.plan.nodes }
         ensures counts { (k : ℕ) → k < graph.now.plan.nodes → slice_index self.new.counts.items k
             ≡ slice_index self.old.counts.items k
@@ -177,10 +181,10 @@ impl<F: Shape, P: Within<GraphRule<F>>> CountedNodes<F, P> {
     pub(crate) fn publish(&mut self, graph: &Graph<F, P>, from: usize, link: usize, to: usize)
         requires { MayPublish (F.fits graph.now.plan) (F.joins graph.now.plan) graph.now
             self.old.nodes
-            self.old.counts.items self.old.leaving.items from link to }
-        ensures { HasTrimmed (F.fits graph.now.plan) (F.joins graph.now.plan) graph.now
+            self.old.counts.items self.old.unlinking.items from link to }
+        ensures { HasCollected (F.fits graph.now.plan) (F.joins graph.now.plan) graph.now
             self.old.nodes self.new.nodes
-            self.new.counts.items self.new.leaving.items
+            self.new.counts.items self.new.unlinking.items
             (published (nodes_in self.old.nodes.view.client.known) from link to) }
     {
         self.nodes.plan(graph);
@@ -188,6 +192,6 @@ impl<F: Shape, P: Within<GraphRule<F>>> CountedNodes<F, P> {
         self.count_links_of(graph, to);
         self.nodes.publish(graph, from, link, to);
         self.count(word_of(Some(to)));
-        self.trim(graph, before);
+        self.collect_unreachable(graph, before);
     }
 }

@@ -1,11 +1,11 @@
-//! The states of the nodes, which go round: from free to live, left, retired, and to free again.
-//! A step of one costs the same, however many nodes there are.
+//! The states of the nodes, which go round: from free to live, unlinked, retired, and to free
+//! again. A step of one costs the same, however many nodes there are.
 ghost use Rattle.std.specs.Prelude.{◌≡◌, ◌-◌, ◌<◌, ◌≤◌, ◌^◌, ℕ, IfNone, IfOk, IfSome, length, map};
 ghost use Rattle.std.specs.Prelude.{replicate, slice_index, slice_set};
-ghost use Rattle.rcu_graph.specs.Cycle.{IsTurn, is_left, is_over, state_in, turned};
-ghost use Rattle.rcu_graph.specs.Nodes.{IsBy, aged_state};
-ghost use Rattle.rcu_graph.specs.declared.node_state.NodeState.TheVariants.{Free, Left};
-ghost use Rattle.rcu_graph.specs.declared.node_state.NodeState.TheVariants.{Live, Retired};
+ghost use Rattle.rcu_graph.specs.Cycle.{IsTurn, is_over, is_unlinked, state_in, turned};
+ghost use Rattle.rcu_graph.specs.Nodes.{IsBy, reclaimed_state};
+ghost use Rattle.rcu_graph.specs.declared.node_state.NodeState.TheVariants.{Free, Live, Retired};
+ghost use Rattle.rcu_graph.specs.declared.node_state.NodeState.TheVariants.{Unlinked};
 
 use crate::node_state::NodeState;
 use std::alloc::{AllocError, Global};
@@ -20,8 +20,8 @@ pub(crate) struct Cycle {
     free: Vec<usize>,
     /// How high each free node is among them.
     heights: Vec<usize>,
-    /// The retired nodes in the order of their retiring, and behind them the left ones in the order
-    /// of their leaving.
+    /// The retired nodes in the order of their retiring, and behind them the unlinked ones in the
+    /// order of their unlinking.
     waiting: VecDeque<usize>,
     /// How many of those that wait are retired.
     retired: usize,
@@ -112,23 +112,23 @@ impl Cycle {
         self.states[node] = NodeState::Live;
     }
 
-    /// Leaves a live node.
-    pub(crate) fn leave(&mut self, node: usize)
+    /// Marks a live node as unlinked.
+    pub(crate) fn mark_unlinked(&mut self, node: usize)
         requires node { node < length self.old }
         requires live { state_in self.old node ≡ Live }
-        ensures { self.new ≡ slice_set self.old node Left }
+        ensures { self.new ≡ slice_set self.old node Unlinked }
     {
         let Ok(()) = self.waiting.push_back(node) else {
             unreachable!()
         };
-        self.states[node] = NodeState::Left;
+        self.states[node] = NodeState::Unlinked;
     }
 
     /// The states after a look that saw this number. It costs what becomes free or retired by it.
-    pub(crate) fn age(&mut self, number: u64)
+    pub(crate) fn reclaim(&mut self, number: u64)
         requires small { number ≤ 2 ^ 62 }
         requires late { (i : ℕ) → i < length self.old → IsBy number (state_in self.old i) }
-        ensures { self.new ≡ map (aged_state number number) self.old }
+        ensures { self.new ≡ map (reclaimed_state number number) self.old }
     {
         self.free_all(number);
         self.retire_all(number);
@@ -142,10 +142,10 @@ impl Cycle {
         while self.free_next(number) {}
     }
 
-    /// Retires what was left.
+    /// Retires what was unlinked.
     fn retire_all(&mut self, number: u64)
         requires { (i : ℕ) → i < length self.old → IsBy number (state_in self.old i) }
-        ensures { self.new ≡ map (turned is_left (Retired number)) self.old }
+        ensures { self.new ≡ map (turned is_unlinked (Retired number)) self.old }
     {
         while self.retire_next(number) {}
     }
@@ -160,7 +160,7 @@ impl Cycle {
             return false;
         }
         let node = self.waiting[0];
-        if !self.states[node].aged(number).is_free() {
+        if !self.states[node].reclaimed(number).is_free() {
             return false;
         }
         self.waiting.pop_front();
@@ -173,10 +173,10 @@ impl Cycle {
         true
     }
 
-    /// Retires the node that was left first, if one is. Returns whether it did.
+    /// Retires the node that was unlinked first, if one is. Returns whether it did.
     fn retire_next(&mut self, number: u64) -> bool
         requires { (i : ℕ) → i < length self.old → IsBy number (state_in self.old i) }
-        ensures { IsTurn is_left (Retired number) self.old self.new result }
+        ensures { IsTurn is_unlinked (Retired number) self.old self.new result }
     {
         if self.retired == self.waiting.len() {
             return false;

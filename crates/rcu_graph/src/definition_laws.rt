@@ -1,14 +1,14 @@
-//! What the words of searches and of their keeper's steps say, on a small run.
+//! The definitions of searches and of the writer's steps beside them, on a small run.
 ghost use Rattle.std.specs.Prelude.{◌≡◌, ◌<◌, ◌≤◌, ◌+◌, [], ◌∷◌, ℕ, List, Some, length};
 ghost use Rattle.std.specs.Prelude.{max, suc, true};
 ghost use Rattle.rcu_graph.specs.Absence.{AreMadeBy, AreSameFor, IsHistory, IsLinkedKey};
-ghost use Rattle.rcu_graph.specs.Beside.{AreOnChain, CanGoOn, GoesOn, IsChainOf, IsKeeperMove};
-ghost use Rattle.rcu_graph.specs.Beside.{IsKeptAt, IsKeptOver, IsOnChain, IsOpenAt, IsOpenOver};
-ghost use Rattle.rcu_graph.specs.Beside.{IsSectionMove, Moment, nodes_at};
-ghost use Rattle.rcu_graph.specs.Keeper.{IsReady};
-ghost use Rattle.rcu_graph.specs.Nodes.{IsOn, IsTarget, IsUnlinked, aged, hops_in, in_state};
-ghost use Rattle.rcu_graph.specs.Nodes.{latest_in, linked_to, node_at, nodes_in, renewed};
-ghost use Rattle.rcu_graph.specs.Nodes.{state_at, stored_in, worded};
+ghost use Rattle.rcu_graph.specs.Beside.{AreOnChain, CanGoOn, GoesOn, IsChainOf, IsKeptAt};
+ghost use Rattle.rcu_graph.specs.Beside.{IsKeptOver, IsOnChain, IsOpenAt, IsOpenOver};
+ghost use Rattle.rcu_graph.specs.Beside.{IsSectionMove, IsWriterMove, Moment, nodes_at};
+ghost use Rattle.rcu_graph.specs.Writer.{IsReady};
+ghost use Rattle.rcu_graph.specs.Nodes.{IsOn, IsTarget, IsUnlinked, hops_in, in_state, latest_in};
+ghost use Rattle.rcu_graph.specs.Nodes.{linked_to, node_at, nodes_in, reclaimed, renewed, state_at};
+ghost use Rattle.rcu_graph.specs.Nodes.{stored_in, worded};
 ghost use Rattle.rcu_graph.specs.Search.{IsSearched, key_after};
 ghost use Rattle.rcu_graph.specs.SmallRun.{first_hop, second_hop, small_first, small_fits};
 ghost use Rattle.rcu_graph.specs.SmallRun.{small_joins, small_moment, small_moments, small_nodes};
@@ -16,15 +16,15 @@ ghost use Rattle.rcu_graph.specs.SmallRun.{small_plan};
 ghost use Rattle.rcu_graph.specs.Steps.{IsLedTo, keeping, storing};
 ghost use Rattle.rcu_graph.specs.declared.known.Hop.{Hop};
 ghost use Rattle.rcu_graph.specs.declared.known.Known.{Known};
-ghost use Rattle.rcu_graph.specs.declared.known.Known.TheVariants.{Keeper, Reader};
-ghost use Rattle.rcu_graph.specs.declared.node_state.NodeState.TheVariants.{Free, Left, Live};
+ghost use Rattle.rcu_graph.specs.declared.known.Known.TheVariants.{Reader, Writer};
+ghost use Rattle.rcu_graph.specs.declared.node_state.NodeState.TheVariants.{Free, Live, Unlinked};
 ghost use Rattle.rcu_graph.specs.declared.plan.Plan.{Plan};
 
 use crate::rule::Shape;
 
-/// A keeper publishes a node between two hops of a search. The key that was linked before is linked
-/// behind it, and the search goes on to the new node, where it could not go before.
-pub fn a_search_may_go_on_beside_its_keeper()
+/// A writer publishes a node between two hops of a search. The key that was linked before is linked
+/// behind it, and the search goes on to the new node. It could not go there before.
+pub fn a_search_may_go_on_beside_its_writer()
     ensures history { (opened : ℕ) → IsHistory (λ _. true) opened 0 1 small_nodes }
     ensures linked { (t : ℕ) → t ≤ 1 → IsLinkedKey 0 5 (small_nodes t) }
     ensures later { IsLinkedKey 0 7 (small_nodes 1) }
@@ -37,7 +37,7 @@ pub fn a_search_may_go_on_beside_its_keeper()
         (Reader (second_hop ∷ first_hop ∷ [])) }
 {}
 
-/// A section makes a hop, the keeper publishes a node, and the section goes on to it, each by one
+/// A section makes a hop, the writer publishes a node, and the section goes on to it, each by one
 /// move. No move takes it to that node before, and none takes the store back. The node that leads
 /// to the new one is on the chain of the root, and on none behind the new one.
 pub fn a_section_goes_on_over_a_run()
@@ -49,81 +49,81 @@ pub fn a_section_goes_on_over_a_run()
     ensures nodes { (t : ℕ) → t ≤ 1 → nodes_at small_moments (suc t) ≡ small_nodes t }
     ensures not_before { IsSectionMove small_fits small_joins small_first small_plan
         (small_moment 0 (first_hop ∷ [])) (small_moment 0 (second_hop ∷ first_hop ∷ [])) → ⊥ }
-    ensures not_back { IsKeeperMove small_plan (small_moment 1 []) (small_moment 0 []) → ⊥ }
-    ensures not_on_chain { (move : IsKeeperMove small_plan (small_moments 1) (small_moments 2)) →
+    ensures not_back { IsWriterMove small_plan (small_moment 1 []) (small_moment 0 []) → ⊥ }
+    ensures not_on_chain { (move : IsWriterMove small_plan (small_moments 1) (small_moments 2)) →
         IsOnChain small_plan (small_moments 1) (small_moments 2) (λ _. true) 2 move → ⊥ }
-    ensures not_keeper { IsKeptAt small_fits small_joins small_first small_plan 1
+    ensures not_writer { IsKeptAt small_fits small_joins small_first small_plan 1
         (small_moment 0 []) → ⊥ }
     ensures not_later { IsOpenAt small_fits small_joins small_first small_plan 1 1
         (small_moment 0 []) → ⊥ }
     ensures not_chain { IsChainOf small_joins small_first small_plan (λ _. true) 1 → ⊥ }
 {}
 
-/// A run goes on by each step that a section or the keeper may make: it leads from such a moment to
+/// A run goes on by each step that a section or the writer may make: it leads from such a moment to
 /// such a one, by a move.
 pub fn runs_go_on_by_steps<F: Shape>()
-    ensures followed { (plan : Plan) (keeper seat opened number node link : ℕ) (words : List ℕ)
+    ensures followed { (plan : Plan) (writer seat opened number node link : ℕ) (words : List ℕ)
         (before : Moment) →
-        CanGoOn F.fits F.joins F.first plan keeper seat opened number before →
+        CanGoOn F.fits F.joins F.first plan writer seat opened number before →
         link < plan.links → IsOn (F.first plan) plan.roots before.section node words →
-        (after : Moment) × GoesOn F.fits F.joins F.first plan keeper seat opened before after
+        (after : Moment) × GoesOn F.fits F.joins F.first plan writer seat opened before after
         × (hop : Hop) × (hops_in after.section ≡ hop ∷ hops_in before.section)
         × (hop.from ≡ node) × (hop.link ≡ link) }
-    ensures wrote { (plan : Plan) (keeper seat opened number node word value : ℕ)
+    ensures wrote { (plan : Plan) (writer seat opened number node word value : ℕ)
         (before : Moment) →
-        CanGoOn F.fits F.joins F.first plan keeper seat opened number before →
-        node < length (nodes_in before.keeper) → state_at (nodes_in before.keeper) node ≡ Free →
+        CanGoOn F.fits F.joins F.first plan writer seat opened number before →
+        node < length (nodes_in before.writer) → state_at (nodes_in before.writer) node ≡ Free →
         word < plan.words →
-        (after : Moment) × GoesOn F.fits F.joins F.first plan keeper seat opened before after
-        × (after.keeper ≡ keeping before.keeper
-        (renewed (nodes_in before.keeper) node (worded word value))) }
-    ensures wrote_link { (plan : Plan) (keeper seat opened number node link value : ℕ)
+        (after : Moment) × GoesOn F.fits F.joins F.first plan writer seat opened before after
+        × (after.writer ≡ keeping before.writer
+        (renewed (nodes_in before.writer) node (worded word value))) }
+    ensures wrote_link { (plan : Plan) (writer seat opened number node link value : ℕ)
         (before : Moment) →
-        CanGoOn F.fits F.joins F.first plan keeper seat opened number before →
-        node < length (nodes_in before.keeper) → state_at (nodes_in before.keeper) node ≡ Free →
+        CanGoOn F.fits F.joins F.first plan writer seat opened number before →
+        node < length (nodes_in before.writer) → state_at (nodes_in before.writer) node ≡ Free →
         link < plan.links →
-        (after : Moment) × GoesOn F.fits F.joins F.first plan keeper seat opened before after
-        × (after.keeper ≡ keeping before.keeper
-        (renewed (nodes_in before.keeper) node (linked_to link value))) }
-    ensures led { (plan : Plan) (keeper seat opened number node link value : ℕ)
+        (after : Moment) × GoesOn F.fits F.joins F.first plan writer seat opened before after
+        × (after.writer ≡ keeping before.writer
+        (renewed (nodes_in before.writer) node (linked_to link value))) }
+    ensures led { (plan : Plan) (writer seat opened number node link value : ℕ)
         (before : Moment) →
-        CanGoOn F.fits F.joins F.first plan keeper seat opened number before →
-        node < length (nodes_in before.keeper) → link < plan.links →
-        state_at (nodes_in before.keeper) node ≡ Live →
-        IsTarget (F.joins plan link) (node_at (nodes_in before.keeper) node).words
-        (nodes_in before.keeper) value →
-        (after : Moment) × GoesOn F.fits F.joins F.first plan keeper seat opened before after
-        × (after.keeper ≡ storing before.keeper
-        (renewed (nodes_in before.keeper) node (linked_to link value))) }
-    ensures published { (plan : Plan) (keeper seat opened number from link to : ℕ)
+        CanGoOn F.fits F.joins F.first plan writer seat opened number before →
+        node < length (nodes_in before.writer) → link < plan.links →
+        state_at (nodes_in before.writer) node ≡ Live →
+        IsTarget (F.joins plan link) (node_at (nodes_in before.writer) node).words
+        (nodes_in before.writer) value →
+        (after : Moment) × GoesOn F.fits F.joins F.first plan writer seat opened before after
+        × (after.writer ≡ storing before.writer
+        (renewed (nodes_in before.writer) node (linked_to link value))) }
+    ensures published { (plan : Plan) (writer seat opened number from link to : ℕ)
         (before : Moment) →
-        CanGoOn F.fits F.joins F.first plan keeper seat opened number before →
-        from < length (nodes_in before.keeper) → to < length (nodes_in before.keeper) →
-        link < plan.links → state_at (nodes_in before.keeper) from ≡ Live →
-        IsReady (F.fits plan) (F.joins plan) plan.links (nodes_in before.keeper) to →
-        F.joins plan link (node_at (nodes_in before.keeper) from).words
-        (node_at (nodes_in before.keeper) to).words →
-        (after : Moment) × GoesOn F.fits F.joins F.first plan keeper seat opened before after
-        × (after.keeper ≡ storing before.keeper
-        (renewed (renewed (nodes_in before.keeper) to (in_state Live)) from
+        CanGoOn F.fits F.joins F.first plan writer seat opened number before →
+        from < length (nodes_in before.writer) → to < length (nodes_in before.writer) →
+        link < plan.links → state_at (nodes_in before.writer) from ≡ Live →
+        IsReady (F.fits plan) (F.joins plan) plan.links (nodes_in before.writer) to →
+        F.joins plan link (node_at (nodes_in before.writer) from).words
+        (node_at (nodes_in before.writer) to).words →
+        (after : Moment) × GoesOn F.fits F.joins F.first plan writer seat opened before after
+        × (after.writer ≡ storing before.writer
+        (renewed (renewed (nodes_in before.writer) to (in_state Live)) from
         (linked_to link (suc to)))) }
-    ensures left { (plan : Plan) (keeper seat opened number node : ℕ) (before : Moment) →
-        CanGoOn F.fits F.joins F.first plan keeper seat opened number before →
-        node < length (nodes_in before.keeper) → 0 < plan.links + plan.words →
-        plan.roots ≤ node → state_at (nodes_in before.keeper) node ≡ Live →
-        IsUnlinked plan.links (nodes_in before.keeper) node →
-        (after : Moment) × GoesOn F.fits F.joins F.first plan keeper seat opened before after
-        × (after.keeper ≡ keeping before.keeper
-        (renewed (nodes_in before.keeper) node (in_state Left))) }
-    ensures looked { (plan : Plan) (keeper seat opened number : ℕ) (before : Moment) →
-        CanGoOn F.fits F.joins F.first plan keeper seat opened number before →
-        (after : Moment) × GoesOn F.fits F.joins F.first plan keeper seat opened before after
-        × (after.keeper ≡ Keeper (max number (latest_in before.keeper))
-        (aged number (max number (latest_in before.keeper)) (nodes_in before.keeper))
-        (stored_in before.keeper)) }
+    ensures mark_unlinked { (plan : Plan) (writer seat opened number node : ℕ) (before : Moment) →
+        CanGoOn F.fits F.joins F.first plan writer seat opened number before →
+        node < length (nodes_in before.writer) → 0 < plan.links + plan.words →
+        plan.roots ≤ node → state_at (nodes_in before.writer) node ≡ Live →
+        IsUnlinked plan.links (nodes_in before.writer) node →
+        (after : Moment) × GoesOn F.fits F.joins F.first plan writer seat opened before after
+        × (after.writer ≡ keeping before.writer
+        (renewed (nodes_in before.writer) node (in_state Unlinked))) }
+    ensures looked { (plan : Plan) (writer seat opened number : ℕ) (before : Moment) →
+        CanGoOn F.fits F.joins F.first plan writer seat opened number before →
+        (after : Moment) × GoesOn F.fits F.joins F.first plan writer seat opened before after
+        × (after.writer ≡ Writer (max number (latest_in before.writer))
+        (reclaimed number (max number (latest_in before.writer)) (nodes_in before.writer))
+        (stored_in before.writer)) }
 {}
 
-/// What a search finds is where its last hop led, and has the key.
+/// The node that a search finds is the one to which its last hop led, and it has the key.
 pub fn what_is_found_has_the_key()
     ensures { (root key node : ℕ) (was now : Known)
         (search : IsSearched root key was (Some node) now) →

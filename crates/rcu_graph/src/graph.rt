@@ -23,7 +23,7 @@ use std::sync::Arc;
 pub struct Graph<F: Shape, P: Within<GraphRule<F>> = Alone> {
     pub(crate) board: Arc<Board<P::Whole>, Global>,
     pub(crate) plan: Plan,
-    /// Where its words begin in the engine's table.
+    /// The place in the engine's table at which its words begin.
     pub(crate) base: usize,
 }
 
@@ -71,7 +71,7 @@ impl<F: Shape, P: Within<GraphRule<F>>> Graph<F, P> {
         &self.board
     }
 
-    /// Returns how large it is.
+    /// Returns its plan.
     pub fn plan(&self) -> Plan
         ensures plan { result ≡ self.now.plan }
         ensures roots { self.now.plan.roots ≤ self.now.plan.nodes }
@@ -85,14 +85,14 @@ impl<F: Shape, P: Within<GraphRule<F>>> Graph<F, P> {
         self.plan
     }
 
-    /// Returns where its words begin in the table of its engine.
+    /// Returns the place in the engine's table at which its words begin.
     pub fn base(&self) -> usize
         ensures { result ≡ self.now.base }
     {
         self.base
     }
 
-    /// Returns where its nodes' links and words are.
+    /// Returns the layout of its nodes' links and words.
     pub fn layout(&self) -> Layout
         ensures { result ≡ layout_of self.now }
     {
@@ -148,9 +148,8 @@ impl<F: Shape, P: Within<GraphRule<F>>> Graph<F, P> {
     /// load: the section holds that one too until it closes, whole and with its words as they are
     /// (Linux's `rcu_dereference` of a `next`). The seat's view has the load as one hop more.
     ///
-    /// The layout is as [`layout`](Self::layout) has it. Who goes over many nodes keeps it, and
-    /// knows its numbers of links and words as constants, and so spares loads and a
-    /// multiplication.
+    /// The layout is as [`layout`](Self::layout) has it. A loop over many nodes keeps it, with the
+    /// numbers of links and words as constants: that saves loads and a multiplication.
     pub fn follow(
         &self,
         seat: &mut GraphSeat<F, P>,

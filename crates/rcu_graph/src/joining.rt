@@ -4,7 +4,7 @@ ghost use Rattle.std.specs.Arc.{arc_value};
 ghost use Rattle.rcu_live.specs.InPart.{engine_part, watcher_part};
 ghost use Rattle.rcu_live.specs.Watcher.{after_word_step, watcher_at_first};
 ghost use Rattle.rcu_graph.specs.Joining.{CanJoin};
-ghost use Rattle.rcu_graph.specs.Keeper.{IsKeeperOf};
+ghost use Rattle.rcu_graph.specs.Writer.{IsWriterOf};
 ghost use Rattle.rcu_graph.specs.Opening.{claimed_first};
 ghost use Rattle.rcu_graph.specs.Planned.{of_plan};
 ghost use Rattle.rcu_graph.specs.declared.known.Known.TheVariants.{Idle};
@@ -28,8 +28,8 @@ impl<F: Shape, P: Within<GraphRule<F>>> Graph<F, P> {
             (arc_value board.now) own.old }
         ensures graph { IfOk result (λ joined.
             joined.0 ≡ engine_part P.own_plan P.begins (arc_value board.now)) }
-        ensures keeper { IfOk result (λ joined.
-            IsKeeperOf joined.0 (watcher_part P.lens joined.1)) }
+        ensures writer { IfOk result (λ joined.
+            IsWriterOf joined.0 (watcher_part P.lens joined.1)) }
         ensures claimed { IfOk result (λ joined. P.lens.get joined.1.view.client
             ≡ claimed_first (F.first (P.own_plan plan)) (P.own_plan plan)) }
         ensures new { IfOk result (λ joined. joined.1
@@ -48,8 +48,8 @@ impl<F: Shape, P: Within<GraphRule<F>>> Graph<F, P> {
             plan: P::plan(plan),
             base: words.base() + behind,
         };
-        let mut keeper = in_part::hand_over::<GraphRule<F>, P>(own, words);
-        graph.claim(&mut keeper);
-        Ok((graph, keeper))
+        let mut writer = in_part::hand_over::<GraphRule<F>, P>(own, words);
+        graph.claim(&mut writer);
+        Ok((graph, writer))
     }
 }

@@ -12,8 +12,8 @@ pub struct Node {
 }
 
 /// A load of a link by an open section: of which node and which link, the word that was found (0:
-/// it leads nowhere, else one more than the node that it leads to), and that node's words, none
-/// where it leads nowhere.
+/// it leads nowhere, else one more than the node that it leads to), and that node's words, none if
+/// it leads nowhere.
 pub struct Hop {
     pub from: u64,
     pub link: u64,
@@ -31,7 +31,7 @@ pub enum Known {
     Reader(LinkedList<Hop>),
     /// A number that no retirement is above, all nodes, and what they were after each store that
     /// led a live one elsewhere, the latest store first.
-    Keeper(u64, LinkedList<Node>, LinkedList<LinkedList<Node>>),
+    Writer(u64, LinkedList<Node>, LinkedList<LinkedList<Node>>),
 }
 
 /// What a seat knows, and of a graph of which plan.

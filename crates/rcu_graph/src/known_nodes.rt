@@ -4,8 +4,8 @@ ghost use Rattle.std.specs.Prelude.{length, map};
 ghost use Rattle.rcu_live.specs.InPart.{watcher_part};
 ghost use Rattle.rcu_graph.specs.Filling.{CanFill, CanStore, after_links, after_words};
 ghost use Rattle.rcu_graph.specs.Graph.{IsWatcherOf, word_to};
-ghost use Rattle.rcu_graph.specs.Keeper.{IsKeeperOf, after_leave, after_link, after_look};
-ghost use Rattle.rcu_graph.specs.Keeper.{after_publish, after_write, after_write_link};
+ghost use Rattle.rcu_graph.specs.Writer.{IsWriterOf, after_link, after_look, after_mark_unlinked};
+ghost use Rattle.rcu_graph.specs.Writer.{after_publish, after_write, after_write_link};
 ghost use Rattle.rcu_graph.specs.Mirror.{AreSized};
 ghost use Rattle.rcu_graph.specs.Nodes.{IsKeeping, IsTarget, IsUnlinked, node_at, nodes_in};
 ghost use Rattle.rcu_graph.specs.Nodes.{state_at};
@@ -61,7 +61,7 @@ impl<F: Shape, P: Within<GraphRule<F>>> KnownNodes<F, P> {
         graph: &Graph<F, P>,
         seat: GraphWatcher<F, P>,
     ) -> Result<Self, AllocError>
-        requires keeper { IsKeeperOf graph.now (watcher_part P.lens seat) }
+        requires writer { IsWriterOf graph.now (watcher_part P.lens seat) }
         requires nodes { IsClaimed (F.first graph.now.plan) graph.now.plan.roots
             graph.now.plan.links graph.now.plan.words graph.now.plan.nodes
             (P.lens.get seat.view.client).known }
@@ -76,7 +76,7 @@ impl<F: Shape, P: Within<GraphRule<F>>> KnownNodes<F, P> {
     /// What the type keeps: nothing is done.
     pub(crate) fn keeps(&self, graph: &Graph<F, P>)
         requires { IsWatcherOf graph.now self.now }
-        ensures { IsKeeperOf graph.now self.now }
+        ensures { IsWriterOf graph.now self.now }
     {
         // A borrow of a field shows the prover what the type keeps.
         let _ = &self.mirror;
@@ -197,8 +197,8 @@ impl<F: Shape, P: Within<GraphRule<F>>> KnownNodes<F, P> {
         self.mirror.set_link(from, link, word_of(Some(to)));
     }
 
-    /// Leaves a live node to which no live one leads.
-    pub(crate) fn leave(&mut self, graph: &Graph<F, P>, node: usize)
+    /// Marks a live node as unlinked to which no live one leads.
+    pub(crate) fn mark_unlinked(&mut self, graph: &Graph<F, P>, node: usize)
         requires graph { IsWatcherOf graph.now self.old }
         requires node { node < graph.now.plan.nodes }
         requires no_root { graph.now.plan.roots ≤ node }
@@ -206,13 +206,14 @@ impl<F: Shape, P: Within<GraphRule<F>>> KnownNodes<F, P> {
         requires unlinked { IsUnlinked graph.now.plan.links
             (nodes_in self.old.view.client.known) node }
         ensures graph { IsWatcherOf graph.now self.new }
-        ensures state { self.new ≡ after_leave self.old node }
+        ensures state { self.new ≡ after_mark_unlinked self.old node }
     {
-        graph.leave(&mut self.seat, node);
-        self.mirror.leave(node);
+        graph.mark_unlinked(&mut self.seat, node);
+        self.mirror.mark_unlinked(node);
     }
 
-    /// Looks at the number, by which the nodes age. It costs what becomes free or retired by it.
+    /// Looks at the number, by which nodes are reclaimed. It costs what becomes free or retired by
+    /// it.
     pub(crate) fn look(&mut self, graph: &Graph<F, P>) -> u64
         requires { IsWatcherOf graph.now self.old }
         ensures graph { IsWatcherOf graph.now self.new }
@@ -221,7 +222,7 @@ impl<F: Shape, P: Within<GraphRule<F>>> KnownNodes<F, P> {
         ensures bounded { result ≤ 2 ^ 62 }
     {
         let number = graph.look(&mut self.seat);
-        self.mirror.age(number);
+        self.mirror.reclaim(number);
         number
     }
 }

@@ -1,5 +1,5 @@
-//! Where the cells of nodes are, and what the rule says of nodes that open sections hold and of
-//! what their hops find, over the definitions alone.
+//! The laws of graphs, about the definitions alone: the places of cells, the nodes that open
+//! sections hold, and the nodes that their hops find.
 ghost use Rattle.std.specs.Prelude.{◌≡◌, ◌≢◌, ◌<◌, ◌≤◌, ◌+◌, ◌*◌, ◌↔◌, ◌++◌, ◌∷◌, Bool};
 ghost use Rattle.std.specs.Prelude.{IsSome, IsTrue};
 ghost use Rattle.std.specs.Prelude.{List, Option, Some, ℕ, slice_index, slice_set, suc, true};
@@ -9,11 +9,11 @@ ghost use Rattle.rcu_live.specs.Client.{Views};
 ghost use Rattle.rcu_live.specs.Numbers.{is_open_at};
 ghost use Rattle.rcu_live.specs.Watcher.{Watching};
 ghost use Rattle.rcu_graph.specs.Absence.{AreLinkedWords, AreMadeBy, IsChained, IsHistory};
-ghost use Rattle.rcu_graph.specs.Absence.{IsKeeperStep, IsLinkedKey, IsOnIfOurs, IsTrueOf};
+ghost use Rattle.rcu_graph.specs.Absence.{IsLinkedKey, IsOnIfOurs, IsTrueOf, IsWriterStep};
 ghost use Rattle.rcu_graph.specs.Beside.{AreOnChain, IsChainOf, IsKeptOver, IsOpenOver, Moment};
 ghost use Rattle.rcu_graph.specs.Beside.{nodes_at};
-ghost use Rattle.rcu_graph.specs.Keeper.{after_leave, after_link, after_look, after_publish};
-ghost use Rattle.rcu_graph.specs.Keeper.{after_write, after_write_link};
+ghost use Rattle.rcu_graph.specs.Writer.{after_link, after_look, after_mark_unlinked};
+ghost use Rattle.rcu_graph.specs.Writer.{after_publish, after_write, after_write_link};
 ghost use Rattle.rcu_graph.specs.Nodes.{IsHeld, IsOn, IsReader, first_place, hops_in};
 ghost use Rattle.rcu_graph.specs.Nodes.{nodes_in, place_of, state_at, stored_in};
 ghost use Rattle.rcu_graph.specs.Planned.{IsKeptBy, of_plan, tells_follow};
@@ -21,15 +21,15 @@ ghost use Rattle.rcu_graph.specs.Search.{Ascends, IsSearched};
 ghost use Rattle.rcu_graph.specs.declared.known.Hop.{Hop};
 ghost use Rattle.rcu_graph.specs.declared.known.Known.{Known};
 ghost use Rattle.rcu_graph.specs.declared.known.Planned.{Planned};
-ghost use Rattle.rcu_graph.specs.declared.known.Known.TheVariants.{Keeper};
+ghost use Rattle.rcu_graph.specs.declared.known.Known.TheVariants.{Writer};
 ghost use Rattle.rcu_graph.specs.declared.known.Node.{Node};
 ghost use Rattle.rcu_graph.specs.declared.node_state.NodeState.TheVariants.{Free, Live};
 ghost use Rattle.rcu_graph.specs.declared.plan.Plan.{Plan};
 
 use crate::rule::Shape;
 
-/// Each link and each word of a node has a place of its own, among as many as all have together.
-/// The words of a node lie side by side, and so do the links of one root and of the next.
+/// Each link and each word of a node has a place of its own, inside the words of the graph. The
+/// words of a node lie side by side, and so do the links of one root and of the next.
 pub fn each_cell_has_a_place_of_its_own()
     ensures own { (plan : Plan) (node other k l : ℕ) → k < plan.links + plan.words →
         l < plan.links + plan.words → place_of plan.roots plan.links plan.words node k
@@ -47,8 +47,9 @@ pub fn each_cell_has_a_place_of_its_own()
         ≡ place_of plan.roots plan.links plan.words root k + plan.links }
 {}
 
-/// At two moments the rule holds, and a seat holds the same node. Then the node's words are the
-/// same at both: it was not used again between them.
+/// A node that a section holds keeps its words: at any two moments at which the seat holds the
+/// node, the words are the same. So the node was not used again in between. The rule holds at both
+/// moments, as at each.
 pub fn held_nodes_keep_their_words<F: Shape>()
     ensures { (plan : Plan) (before after : List ℕ) (xs ys : Views Planned)
         (seat node word : ℕ) (cpu section here later : Option ℕ)
@@ -62,55 +63,55 @@ pub fn held_nodes_keep_their_words<F: Shape>()
         ≡ slice_index before (place_of plan.roots plan.links plan.words node (plan.links + word)) }
 {}
 
-/// No node that the keeper knows as free, so that it may write there, is held by a seat.
+/// No seat holds a node that the writer knows as free, and so may write.
 pub fn free_nodes_are_not_held<F: Shape>()
     ensures { (plan : Plan) (table : List ℕ) (xs : Views Planned)
-        (keeper seat node latest : ℕ) (who own cpu section : Option ℕ) (nodes : List Node)
+        (writer seat node latest : ℕ) (who own cpu section : Option ℕ) (nodes : List Node)
         (stored : List (List Node))
         (known : Planned) (words : List ℕ) (v : Node) →
         IsKeptBy F.fits F.joins F.first plan table xs →
-        get_elem? xs keeper ≡ some (who, own, of_plan plan (Keeper latest nodes stored)) →
+        get_elem? xs writer ≡ some (who, own, of_plan plan (Writer latest nodes stored)) →
         get_elem? xs seat ≡ some (cpu, section, known) → IsReader known.known →
         IsHeld known.known node words → get_elem? nodes node ≡ some v → v.state ≢ Free }
 {}
 
-/// A section holds a node as the keeper knows it: with the same words.
+/// A section holds a node with the words that the writer knows of it.
 pub fn held_nodes_are_as_known<F: Shape>()
     ensures { (plan : Plan) (table : List ℕ) (xs : Views Planned)
-        (keeper seat node latest : ℕ) (who own cpu section : Option ℕ) (nodes : List Node)
+        (writer seat node latest : ℕ) (who own cpu section : Option ℕ) (nodes : List Node)
         (stored : List (List Node))
         (known : Planned) (words : List ℕ) (v : Node) →
         IsKeptBy F.fits F.joins F.first plan table xs →
-        get_elem? xs keeper ≡ some (who, own, of_plan plan (Keeper latest nodes stored)) →
+        get_elem? xs writer ≡ some (who, own, of_plan plan (Writer latest nodes stored)) →
         get_elem? xs seat ≡ some (cpu, section, known) → IsReader known.known →
         IsHeld known.known node words → get_elem? nodes node ≡ some v → v.words ≡ words }
 {}
 
-/// A link of a live node leads to a live node, and joins the two as the user's fact says, whoever
-/// loads it and whenever.
+/// A link of a live node leads to a live node, and the user's fact joins the two, whoever loads the
+/// link and whenever.
 pub fn live_nodes_lead_to_live_nodes<F: Shape>()
     ensures { (plan : Plan) (table : List ℕ) (xs : Views Planned)
-        (keeper node link next latest : ℕ) (who own : Option ℕ) (nodes : List Node)
+        (writer node link next latest : ℕ) (who own : Option ℕ) (nodes : List Node)
         (stored : List (List Node)) (v : Node) →
         IsKeptBy F.fits F.joins F.first plan table xs →
-        get_elem? xs keeper ≡ some (who, own, of_plan plan (Keeper latest nodes stored)) →
+        get_elem? xs writer ≡ some (who, own, of_plan plan (Writer latest nodes stored)) →
         get_elem? nodes node ≡ some v → v.state ≡ Live → link < plan.links →
         slice_index table (place_of plan.roots plan.links plan.words node link) ≡ suc next →
         (to : Node) × (get_elem? nodes next ≡ some to) × (to.state ≡ Live)
         × F.joins plan link v.words to.words }
 {}
 
-/// A hop tells where its link led at the load: the word that it found is that of the link, as the
-/// keeper knows the nodes then, and a node to which it came has the words that the hop has. So a
-/// lookup by one hop takes effect at its load, if it finds nothing too.
+/// A hop found the truth at its load: the word that it loaded is that of the link, as the writer
+/// knows the nodes then, and the node to which it came has the words that the hop has. So a lookup
+/// by one hop takes effect at its load, also if it finds nothing.
 pub fn hops_are_true_of_the_nodes<F: Shape>()
     ensures { (plan : Plan) (table : List ℕ) (xs : Views Planned)
-        (keeper seat node link latest : ℕ) (who own cpu section : Option ℕ) (nodes : List Node)
+        (writer seat node link latest : ℕ) (who own cpu section : Option ℕ) (nodes : List Node)
         (stored : List (List Node))
         (was now : Planned) (words : List ℕ) →
         IsKeptBy F.fits F.joins F.first plan table xs →
         IsKeptBy F.fits F.joins F.first plan table (slice_set xs seat (cpu, section, now)) →
-        get_elem? xs keeper ≡ some (who, own, of_plan plan (Keeper latest nodes stored)) →
+        get_elem? xs writer ≡ some (who, own, of_plan plan (Writer latest nodes stored)) →
         get_elem? xs seat ≡ some (cpu, section, was) → IsReader was.known →
         IsOn (F.first plan) plan.roots was.known node words → link < plan.links →
         tells_follow F.fits F.joins F.first
@@ -120,54 +121,55 @@ pub fn hops_are_true_of_the_nodes<F: Shape>()
         × (hop.link ≡ link) × IsTrueOf nodes hop }
 {}
 
-/// At each moment the chain of a root is one: a live node leads along its first link to a live one
-/// with a greater key, of the same chain, where the user's facts say so of two joined nodes.
+/// The chain of a root goes up at each moment: a live node leads along its first link to a live
+/// node of the same chain with a greater key, if the user's facts say so of two joined nodes.
 pub fn chains_go_up<F: Shape>()
     ensures { (plan : Plan) (ours : List ℕ → Bool) (root : ℕ) (table : List ℕ)
-        (xs : Views Planned) (keeper latest : ℕ) (who own : Option ℕ)
+        (xs : Views Planned) (writer latest : ℕ) (who own : Option ℕ)
         (nodes : List Node) (stored : List (List Node)) →
         IsKeptBy F.fits F.joins F.first plan table xs →
-        get_elem? xs keeper ≡ some (who, own, of_plan plan (Keeper latest nodes stored)) →
+        get_elem? xs writer ≡ some (who, own, of_plan plan (Writer latest nodes stored)) →
         Ascends (F.joins plan) 0 →
         ((from to : List ℕ) → F.joins plan 0 from to → IsTrue (ours from) → IsTrue (ours to)) →
         root < plan.roots → 0 < plan.links → IsTrue (ours (F.first plan root)) →
         IsChained ours root nodes }
 {}
 
-/// The keeper's calls make the steps of such histories beside an open section: one of `Graph::link`
-/// or `Graph::publish` where the node whose link is stored is on its chain still.
-pub fn calls_are_keeper_steps()
+/// Each call of the writer is a step of such a history beside an open section. For `Graph::link`
+/// and `Graph::publish` the node whose link is stored has to be on its chain still.
+pub fn calls_are_writer_steps()
     ensures write { (ours : List ℕ → Bool) (opened root node word value : ℕ)
-        (keeper : Watching Planned) → state_at (nodes_in keeper.view.client.known) node ≡ Free →
-        IsKeeperStep ours opened root (nodes_in keeper.view.client.known)
-        (nodes_in (after_write keeper node word value).view.client.known) }
+        (writer : Watching Planned) → state_at (nodes_in writer.view.client.known) node ≡ Free →
+        IsWriterStep ours opened root (nodes_in writer.view.client.known)
+        (nodes_in (after_write writer node word value).view.client.known) }
     ensures write_link { (ours : List ℕ → Bool) (opened root node link value : ℕ)
-        (keeper : Watching Planned) → state_at (nodes_in keeper.view.client.known) node ≡ Free →
-        IsKeeperStep ours opened root (nodes_in keeper.view.client.known)
-        (nodes_in (after_write_link keeper node link value).view.client.known) }
+        (writer : Watching Planned) → state_at (nodes_in writer.view.client.known) node ≡ Free →
+        IsWriterStep ours opened root (nodes_in writer.view.client.known)
+        (nodes_in (after_write_link writer node link value).view.client.known) }
     ensures link { (ours : List ℕ → Bool) (opened root node link value : ℕ)
-        (keeper : Watching Planned) →
-        IsOnIfOurs ours root (nodes_in keeper.view.client.known) node →
-        IsKeeperStep ours opened root (nodes_in keeper.view.client.known)
-        (nodes_in (after_link keeper node link value).view.client.known) }
+        (writer : Watching Planned) →
+        IsOnIfOurs ours root (nodes_in writer.view.client.known) node →
+        IsWriterStep ours opened root (nodes_in writer.view.client.known)
+        (nodes_in (after_link writer node link value).view.client.known) }
     ensures publish { (ours : List ℕ → Bool) (opened root from link to : ℕ)
-        (keeper : Watching Planned) → state_at (nodes_in keeper.view.client.known) from ≡ Live →
-        state_at (nodes_in keeper.view.client.known) to ≡ Free →
-        IsOnIfOurs ours root (nodes_in keeper.view.client.known) from →
-        IsKeeperStep ours opened root (nodes_in keeper.view.client.known)
-        (nodes_in (after_publish keeper from link to).view.client.known) }
-    ensures leave { (ours : List ℕ → Bool) (opened root node : ℕ) (keeper : Watching Planned) →
-        IsKeeperStep ours opened root (nodes_in keeper.view.client.known)
-        (nodes_in (after_leave keeper node).view.client.known) }
-    ensures look { (ours : List ℕ → Bool) (opened root number : ℕ) (keeper : Watching Planned) →
-        is_open_at number opened ≡ true → IsKeeperStep ours opened root
-        (nodes_in keeper.view.client.known)
-        (nodes_in (after_look keeper number).view.client.known) }
+        (writer : Watching Planned) → state_at (nodes_in writer.view.client.known) from ≡ Live →
+        state_at (nodes_in writer.view.client.known) to ≡ Free →
+        IsOnIfOurs ours root (nodes_in writer.view.client.known) from →
+        IsWriterStep ours opened root (nodes_in writer.view.client.known)
+        (nodes_in (after_publish writer from link to).view.client.known) }
+    ensures mark_unlinked { (ours : List ℕ → Bool) (opened root node : ℕ)
+        (writer : Watching Planned) →
+        IsWriterStep ours opened root (nodes_in writer.view.client.known)
+        (nodes_in (after_mark_unlinked writer node).view.client.known) }
+    ensures look { (ours : List ℕ → Bool) (opened root number : ℕ) (writer : Watching Planned) →
+        is_open_at number opened ≡ true → IsWriterStep ours opened root
+        (nodes_in writer.view.client.known)
+        (nodes_in (after_look writer number).view.client.known) }
 {}
 
-/// A key that is linked at each moment from the section's beginning to the search's end is found.
-/// Meanwhile each step of the keeper is as `IsKeeperStep` says: it stores no link of a node that it
-/// took off the chain.
+/// A search finds a key that is linked at each moment from the section's beginning to the search's
+/// end. Meanwhile each step of the writer is as `IsWriterStep` says: it stores no link of a node
+/// that it took off the chain.
 pub fn linked_keys_are_found()
     ensures { (ours : List ℕ → Bool) (opened root key last : ℕ) (nodes : ℕ → List Node)
         (was now : Known) (found : Option ℕ) (search : IsSearched root key was found now) →
@@ -176,8 +178,8 @@ pub fn linked_keys_are_found()
         AreMadeBy nodes last (search.last ∷ search.path) → IsSome found }
 {}
 
-/// What a search finds was linked at a moment of its section. Meanwhile each step of the keeper is
-/// as `IsKeeperStep` says.
+/// A key that a search finds was linked at a moment of its section. Meanwhile each step of the
+/// writer is as `IsWriterStep` says.
 pub fn found_keys_were_linked()
     ensures { (ours : List ℕ → Bool) (opened root key last : ℕ) (nodes : ℕ → List Node)
         (was now : Known) (node : ℕ) (search : IsSearched root key was (Some node) now) →
@@ -186,70 +188,70 @@ pub fn found_keys_were_linked()
         (t : ℕ) × (t ≤ last) × IsLinkedKey root key (nodes t) }
 {}
 
-/// The hops that a section makes over a run are made by the run's moments: each is true of the
-/// nodes at its load, and they are in order.
+/// The hops of a section over a run are made by the run's moments: each is true of the nodes at its
+/// load, and they are in order.
 pub fn hops_are_made_by_their_run<F: Shape>()
-    ensures { (plan : Plan) (keeper seat opened last : ℕ) (moments : ℕ → Moment) →
-        IsKeptOver F.fits F.joins F.first plan keeper last moments →
+    ensures { (plan : Plan) (writer seat opened last : ℕ) (moments : ℕ → Moment) →
+        IsKeptOver F.fits F.joins F.first plan writer last moments →
         IsOpenOver F.fits F.joins F.first plan seat opened last moments →
         (hops : List Hop)
         × (hops_in (moments last).section ≡ hops ++ hops_in (moments 0).section)
         × AreMadeBy (nodes_at moments) last hops }
 {}
 
-/// The nodes at the moments of a run beside an open section are a history, where each live node
-/// that the keeper led elsewhere was on its chain.
+/// The nodes at the moments of a run beside an open section are a history, if each live node that
+/// the writer led elsewhere was on its chain.
 pub fn runs_are_histories<F: Shape>()
-    ensures { (plan : Plan) (ours : List ℕ → Bool) (root keeper seat opened last : ℕ)
+    ensures { (plan : Plan) (ours : List ℕ → Bool) (root writer seat opened last : ℕ)
         (moments : ℕ → Moment) → IsChainOf F.joins F.first plan ours root →
-        (kept : IsKeptOver F.fits F.joins F.first plan keeper last moments) →
+        (kept : IsKeptOver F.fits F.joins F.first plan writer last moments) →
         IsOpenOver F.fits F.joins F.first plan seat opened last moments →
-        AreOnChain F.fits F.joins F.first plan ours root keeper last moments kept →
+        AreOnChain F.fits F.joins F.first plan ours root writer last moments kept →
         IsHistory ours opened root last (nodes_at moments) }
 {}
 
-/// Where the keeper leads no live node elsewhere between two moments of a run, the same keys are
+/// If the writer leads no live node elsewhere between two moments of a run, the same keys are
 /// linked at both.
 pub fn keys_stay_linked_between_stores<F: Shape>()
-    ensures { (plan : Plan) (ours : List ℕ → Bool) (root key keeper last before after : ℕ)
+    ensures { (plan : Plan) (ours : List ℕ → Bool) (root key writer last before after : ℕ)
         (moments : ℕ → Moment) → IsChainOf F.joins F.first plan ours root →
-        IsKeptOver F.fits F.joins F.first plan keeper last moments →
+        IsKeptOver F.fits F.joins F.first plan writer last moments →
         before ≤ after → after ≤ last →
-        stored_in (moments after).keeper ≡ stored_in (moments before).keeper →
+        stored_in (moments after).writer ≡ stored_in (moments before).writer →
         IsLinkedKey root key (nodes_at moments before) ↔
         IsLinkedKey root key (nodes_at moments after) }
 {}
 
-/// A key that is linked at each moment of a run, from the search's beginning to its end, is found:
-/// the search's hops are the loads of the run.
+/// A search finds a key that is linked at each moment of a run, from the search's beginning to its
+/// end. The search's hops are the loads of the run.
 pub fn keys_linked_over_a_run_are_found<F: Shape>()
-    ensures { (plan : Plan) (ours : List ℕ → Bool) (root key keeper seat opened last : ℕ)
+    ensures { (plan : Plan) (ours : List ℕ → Bool) (root key writer seat opened last : ℕ)
         (moments : ℕ → Moment) (found : Option ℕ) → IsChainOf F.joins F.first plan ours root →
-        (kept : IsKeptOver F.fits F.joins F.first plan keeper last moments) →
+        (kept : IsKeptOver F.fits F.joins F.first plan writer last moments) →
         IsOpenOver F.fits F.joins F.first plan seat opened last moments →
-        AreOnChain F.fits F.joins F.first plan ours root keeper last moments kept →
+        AreOnChain F.fits F.joins F.first plan ours root writer last moments kept →
         IsSearched root key (moments 0).section found (moments last).section →
         ((t : ℕ) → t ≤ last → IsLinkedKey root key (nodes_at moments t)) → IsSome found }
 {}
 
-/// What a search over a run finds was linked at a moment of it.
+/// A key that a search over a run finds was linked at a moment of the run.
 pub fn keys_found_over_a_run_were_linked<F: Shape>()
-    ensures { (plan : Plan) (ours : List ℕ → Bool) (root key keeper seat opened last node : ℕ)
+    ensures { (plan : Plan) (ours : List ℕ → Bool) (root key writer seat opened last node : ℕ)
         (moments : ℕ → Moment) → IsChainOf F.joins F.first plan ours root →
-        (kept : IsKeptOver F.fits F.joins F.first plan keeper last moments) →
+        (kept : IsKeptOver F.fits F.joins F.first plan writer last moments) →
         IsOpenOver F.fits F.joins F.first plan seat opened last moments →
-        AreOnChain F.fits F.joins F.first plan ours root keeper last moments kept →
+        AreOnChain F.fits F.joins F.first plan ours root writer last moments kept →
         IsSearched root key (moments 0).section (Some node) (moments last).section →
         (t : ℕ) × (t ≤ last) × IsLinkedKey root key (nodes_at moments t) }
 {}
 
-/// So were its words: those with which the section holds it then.
+/// The words with which the section then holds the key were linked at a moment of the run.
 pub fn words_found_over_a_run_were_linked<F: Shape>()
-    ensures { (plan : Plan) (ours : List ℕ → Bool) (root key keeper seat opened last node : ℕ)
+    ensures { (plan : Plan) (ours : List ℕ → Bool) (root key writer seat opened last node : ℕ)
         (moments : ℕ → Moment) (words : List ℕ) → IsChainOf F.joins F.first plan ours root →
-        (kept : IsKeptOver F.fits F.joins F.first plan keeper last moments) →
+        (kept : IsKeptOver F.fits F.joins F.first plan writer last moments) →
         IsOpenOver F.fits F.joins F.first plan seat opened last moments →
-        AreOnChain F.fits F.joins F.first plan ours root keeper last moments kept →
+        AreOnChain F.fits F.joins F.first plan ours root writer last moments kept →
         IsSearched root key (moments 0).section (Some node) (moments last).section →
         IsHeld (moments last).section node words →
         (t : ℕ) × (t ≤ last) × AreLinkedWords root words (nodes_at moments t) }

@@ -2,10 +2,10 @@
 ghost use Rattle.std.specs.Prelude.{◌≡◌, ◌≤◌, ◌<◌, ◌+◌, ◌-◌, ◌*◌, ◌^◌, ℕ, IfNone, IfOk, IfSome};
 ghost use Rattle.std.specs.Prelude.{length, replicate, slice_index};
 ghost use Rattle.rcu_graph.specs.Mirror.{AreBy, AreSized, with_words};
-ghost use Rattle.rcu_graph.specs.Nodes.{aged, first_nodes, free_node, in_state, linked_to, node_at};
-ghost use Rattle.rcu_graph.specs.Nodes.{renewed, state_at, worded};
+ghost use Rattle.rcu_graph.specs.Nodes.{first_nodes, free_node, in_state, linked_to, node_at};
+ghost use Rattle.rcu_graph.specs.Nodes.{reclaimed, renewed, state_at, worded};
 ghost use Rattle.rcu_graph.specs.Tended.{AreAllUsed};
-ghost use Rattle.rcu_graph.specs.declared.node_state.NodeState.TheVariants.{Free, Left, Live};
+ghost use Rattle.rcu_graph.specs.declared.node_state.NodeState.TheVariants.{Free, Live, Unlinked};
 
 use crate::cycle::Cycle;
 use crate::node_state::NodeState;
@@ -154,14 +154,14 @@ impl Mirror {
         self.states.publish(node);
     }
 
-    /// Leaves a live node.
-    pub(crate) fn leave(&mut self, node: usize)
+    /// Marks a live node as unlinked.
+    pub(crate) fn mark_unlinked(&mut self, node: usize)
         requires node { node < self.old.plan.nodes }
         requires live { state_at self.old.nodes node ≡ Live }
         ensures plan { self.new.plan ≡ self.old.plan }
-        ensures nodes { self.new.nodes ≡ renewed self.old.nodes node (in_state Left) }
+        ensures nodes { self.new.nodes ≡ renewed self.old.nodes node (in_state Unlinked) }
     {
-        self.states.leave(node);
+        self.states.mark_unlinked(node);
     }
 
     /// Leads a link of a node elsewhere.
@@ -202,12 +202,12 @@ impl Mirror {
     }
 
     /// The nodes after a look that saw this number. It costs what becomes free or retired by it.
-    pub(crate) fn age(&mut self, number: u64)
+    pub(crate) fn reclaim(&mut self, number: u64)
         requires small { number ≤ 2 ^ 62 }
         requires late { AreBy number self.old.nodes }
         ensures plan { self.new.plan ≡ self.old.plan }
-        ensures nodes { self.new.nodes ≡ aged number number self.old.nodes }
+        ensures nodes { self.new.nodes ≡ reclaimed number number self.old.nodes }
     {
-        self.states.age(number);
+        self.states.reclaim(number);
     }
 }

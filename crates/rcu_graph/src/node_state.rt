@@ -1,18 +1,18 @@
 //! What state a node is in.
 ghost use Rattle.std.specs.Prelude.{◌≡◌, ◌≤◌, ◌^◌};
-ghost use Rattle.rcu_graph.specs.Nodes.{aged_state, is_free, is_live};
+ghost use Rattle.rcu_graph.specs.Nodes.{is_free, is_live, reclaimed_state};
 
 use rcu_seq::cookie::snapshot;
 
 /// The state of a node.
 #[derive(Clone, Copy, Debug, PartialEq, Eq)]
 pub enum NodeState {
-    /// No section is on it: it was never linked, or left a full grace period ago.
+    /// No section is on it: it was never linked, or unlinked a full grace period ago.
     Free,
     /// Sections may come to it.
     Live,
     /// No live node leads to it, since a number that is not known yet.
-    Left,
+    Unlinked,
     /// No live node leads to it, since this number at the latest.
     Retired(u64),
 }
@@ -32,15 +32,15 @@ impl NodeState {
         matches!(self, NodeState::Live)
     }
 
-    /// Returns the state after a look that saw this number, which is at most 2^62: what was left is
-    /// retired now, and what was retired a full grace period ago is free.
-    pub fn aged(self, number: u64) -> NodeState
+    /// Returns the state after a look that saw this number, which is at most 2^62: what was
+    /// unlinked is retired now, and what was retired a full grace period ago is free.
+    pub fn reclaimed(self, number: u64) -> NodeState
         requires { number ≤ 2 ^ 62 }
-        ensures { result ≡ aged_state number number self }
+        ensures { result ≡ reclaimed_state number number self }
     {
         match self {
             NodeState::Free | NodeState::Live => self,
-            NodeState::Left => NodeState::Retired(number),
+            NodeState::Unlinked => NodeState::Retired(number),
             NodeState::Retired(at) => {
                 if at <= number && snapshot(at) <= number {
                     NodeState::Free

@@ -6,9 +6,8 @@ use thiserror::Error;
 /// Why a graph, a cell or a map is not opened.
 #[derive(Clone, Copy, Debug, PartialEq, Eq, Error)]
 pub enum NotOpened {
-    /// None is as large as that: a root is no node, a node has no word, or there are more than 2^32
-    /// links and words in all; of a map, or it has no bucket; of a cell, or it has fewer than two
-    /// slots.
+    /// The sizes are refused: a root is no node, a node has no word, or there are more than 2^32
+    /// links and words in all. A map also has a bucket, and a cell two slots.
     #[error("there are no buckets, too few nodes, or more than 2^32 words")]
     BadSizes,
     /// The engine is not opened.

@@ -2,10 +2,9 @@
 ghost use Rattle.std.specs.Prelude.{◌≡◌, ◌↔◌, ◌+◌, ◌*◌, ◌^◌, Err, IfOk};
 ghost use Rattle.rcu_geometry.specs.Opening.{opening_refusal};
 ghost use Rattle.rcu_live.specs.Opening.{AreDealt, AreFanouts, engine_at_first};
-ghost use Rattle.rcu_graph.specs.Keeper.{IsKeeperOf};
+ghost use Rattle.rcu_graph.specs.Writer.{IsWriterOf};
 ghost use Rattle.rcu_graph.specs.Nodes.{first_place};
-ghost use Rattle.rcu_graph.specs.Opening.{AreWhole, IsSized, keeper_at_first};
-ghost use Rattle.rcu_graph.specs.Opening.{tested_opening};
+ghost use Rattle.rcu_graph.specs.Opening.{AreWhole, IsSized, tested_opening, writer_at_first};
 ghost use Rattle.rcu_graph.specs.Planned.{of_plan};
 ghost use Rattle.rcu_graph.specs.declared.known.Known.TheVariants.{Idle};
 ghost use Rattle.rcu_graph.specs.declared.not_opened.NotOpened.{NotOpened};
@@ -20,13 +19,13 @@ use rcu_seq::Fault;
 use std::alloc::Global;
 use std::sync::Arc;
 
-/// How many callbacks may be queued: more than any program queues.
+/// The most callbacks that may be queued: more than any program queues.
 const MOST: u64 = 1 << 62;
 
 /// A graph as it is opened, with its engine.
 #[derive(Drop)]
 pub struct Opened<L: Drop, F: Shape> {
-    /// The engine, which threads share, or which is under no lock. Somebody has to drive it.
+    /// The engine, which threads share, or which is under no lock. A thread has to drive it.
     pub live: L,
     /// The nodes, which its seats read.
     pub graph: Graph<F>,
@@ -38,7 +37,7 @@ pub struct Opened<L: Drop, F: Shape> {
     pub own: GraphWatcher<F>,
 }
 
-/// The engine of a graph, for whoever has a lock of their own.
+/// The engine of a graph, for a program with a lock of its own.
 pub type UnlockedEngine<const LEAF: u32, const FAN: u32, T, F> = Engine<
     Tree<LEAF, FAN>,
     T,
@@ -50,9 +49,9 @@ impl<F: Shape> Graph<F> {
     /// other nodes are free, with its engine: of `cpus` processors, idle at number 0, processor 0
     /// alone online.
     ///
-    /// Faults: `BadSizes` if no graph is so large; `TooManyCpus` (17) for no processor, more than
-    /// 4,096, or more than four levels hold; `BadLast` (19) if `last` is no last number; `NoMemory`
-    /// (16).
+    /// Faults: `BadSizes` if no graph may have these sizes; `TooManyCpus` (17) for no processor,
+    /// more than 4,096, or more than four levels hold; `BadLast` (19) if `last` is no last number;
+    /// `NoMemory` (16).
     pub fn open<const LEAF: u32, const FAN: u32, T: Drop>(
         alloc: Global,
         cpus: u32,
@@ -69,9 +68,9 @@ impl<F: Shape> Graph<F> {
             opened.graph opened.seats.items opened.watchers.items) }
         ensures plan { IfOk result (λ opened. opened.graph.plan ≡ plan) }
         ensures live { IfOk result (λ opened. opened.live ≡ opened.graph) }
-        ensures keeper { IfOk result (λ opened. IsKeeperOf opened.graph opened.own) }
+        ensures writer { IfOk result (λ opened. IsWriterOf opened.graph opened.own) }
         ensures own { IfOk result (λ opened.
-            opened.own ≡ keeper_at_first (F.first plan) opened.graph.table cpus plan) }
+            opened.own ≡ writer_at_first (F.first plan) opened.graph.table cpus plan) }
     {
         let opened = Self::open_unlocked::<LEAF, FAN, T>(alloc, cpus, last, plan)?;
         let Opened {
@@ -112,9 +111,9 @@ impl<F: Shape> Graph<F> {
         ensures plan { IfOk result (λ opened. opened.graph.plan ≡ plan) }
         ensures engine { IfOk result (λ opened. opened.live ≡ engine_at_first
             opened.graph.table cpus last (2 ^ 62) (of_plan plan Idle)) }
-        ensures keeper { IfOk result (λ opened. IsKeeperOf opened.graph opened.own) }
+        ensures writer { IfOk result (λ opened. IsWriterOf opened.graph opened.own) }
         ensures own { IfOk result (λ opened.
-            opened.own ≡ keeper_at_first (F.first plan) opened.graph.table cpus plan) }
+            opened.own ≡ writer_at_first (F.first plan) opened.graph.table cpus plan) }
     {
         if !plan.is_sized() {
             return Err(NotOpened::BadSizes);

@@ -1,38 +1,38 @@
 //! How large a graph is.
 
-/// How large a graph is, and a number of the user's. It is told once, at the opening.
+/// The sizes of a graph, and a number of the user's, chosen once, at the opening.
 #[derive(Clone, Copy, Debug, PartialEq, Eq)]
 pub struct Plan {
-    /// How many of the nodes are roots, the first ones.
+    /// The number of roots: the first nodes.
     pub roots: usize,
-    /// How many links a node has.
+    /// The number of links of a node.
     pub links: usize,
-    /// How many words a node has.
+    /// The number of words of a node.
     pub words: usize,
-    /// How many nodes there are, with the roots.
+    /// The number of nodes, including the roots.
     pub nodes: usize,
-    /// A number that the user's facts may speak of, as the seed of a hash.
+    /// A number that the user's facts may name, as the seed of a hash.
     pub seed: u64,
 }
 
-/// Where the links and the words of nodes are in the table of an engine.
+/// The layout of the links and words of nodes in the table of an engine.
 #[derive(Clone, Copy, Debug, PartialEq, Eq)]
 pub struct Layout {
-    /// Where the graph's words begin.
+    /// The place at which the graph's words begin.
     pub base: usize,
-    /// How large the graph is.
+    /// The plan of the graph.
     pub plan: Plan,
 }
 
-/// How many links and words a graph has at most.
+/// The most links and words of a graph.
 const MOST: usize = 1 << 32;
 
 impl Plan {
     ghost use Rattle.std.specs.Prelude.{◌↔◌, IsTrue};
     ghost use Rattle.rcu_graph.specs.Opening.{IsSized};
 
-    /// Returns whether a graph may be as large as that: its roots are nodes, each node has a word,
-    /// and all links and words are no more than 2^32.
+    /// Returns whether a graph may have these sizes: its roots are nodes, each node has a word, and
+    /// all links and words are no more than 2^32.
     pub fn is_sized(self) -> bool
         ensures { IsTrue result ↔ IsSized self }
     {

@@ -154,20 +154,20 @@ impl WordStep<Planned> for Publish {
     ghost then = { tells_publish };
 }
 
-/// Loads a word of a live node to which no live one leads: the node is left.
-pub struct Leave;
+/// Loads a word of a live node to which no live one leads: the node is unlinked.
+pub struct MarkUnlinked;
 
-impl WordStep<Planned> for Leave {
-    ghost use Rattle.rcu_graph.specs.Planned.{tells_leave};
+impl WordStep<Planned> for MarkUnlinked {
+    ghost use Rattle.rcu_graph.specs.Planned.{tells_mark_unlinked};
 
-    ghost then = { tells_leave };
+    ghost then = { tells_mark_unlinked };
 }
 
 /// Looks at the number, by which nodes become free.
-pub struct Age;
+pub struct Reclaim;
 
-impl NumberStep<Planned> for Age {
-    ghost use Rattle.rcu_graph.specs.Planned.{tells_age};
+impl NumberStep<Planned> for Reclaim {
+    ghost use Rattle.rcu_graph.specs.Planned.{tells_reclaim};
 
-    ghost then = { tells_age };
+    ghost then = { tells_reclaim };
 }

@@ -1,4 +1,4 @@
-//! Chains whose first words, the keys, go up: a section's search in one ends, whatever the keeper
+//! Chains whose first words, the keys, go up: a section's search in one ends, whatever the writer
 //! does meanwhile.
 ghost use Rattle.std.specs.Prelude.{◌≡◌, ◌<◌, ℕ, IfSome, List, slice_index};
 ghost use Rattle.rcu_live.specs.CpuSeat.{after_word_step};

@@ -19,7 +19,8 @@ use rcu_live::in_part::{self, Spot};
 use rcu_live::{NumberStep, Within, WordStep};
 
 impl<F: Shape, P: Within<GraphRule<F>>> Graph<F, P> {
-    /// Loads a word by a processor's seat. Where the graph's words begin is the caller's to keep.
+    /// Loads a word by a processor's seat. The caller keeps the place at which the graph's words
+    /// begin.
     pub(crate) fn load<M: WordStep<Planned>>(
         &self,
         seat: &mut GraphSeat<F, P>,

@@ -11,7 +11,7 @@ mod versions;
 mod waits;
 
 use crate::compare::compare;
-use rcu_cell::{Cell, CellRule, CellSeat, Full, Invariant, Keeper, Retired, Version};
+use rcu_cell::{Cell, CellRule, CellSeat, Full, Invariant, Retired, Version, Writer};
 use rcu_live::{Collected, Live};
 use rcu_state::Turned;
 use std::process::Abort;
@@ -52,14 +52,14 @@ fn pass_a_period<R: Abort + Wait>(rt: &R, live: &Engine, seat: &mut CellSeat<Any
     compare(rt, "turn", live.turn(rt), Ok(Turned::Ended(4)));
 }
 
-/// Has the keeper show these words, and compares what it answers.
+/// Has the writer show these words, and compares what it answers.
 fn shows<R: Abort>(
     rt: &R,
-    keeper: &mut Keeper<Any, 2>,
+    writer: &mut Writer<Any, 2>,
     words: [u64; 2],
     wanted: Result<Retired, Full>,
 ) {
-    compare(rt, words, keeper.update(&words), wanted);
+    compare(rt, words, writer.update(&words), wanted);
 }
 
 /// Reads in a section of its own, and compares the words.
@@ -79,27 +79,27 @@ fn reads<R: Abort>(
 }
 
 /// Two slots show one version after the other: the first is free for a third once a grace period
-/// has passed, and the keeper has looked.
+/// has passed, and the writer has looked.
 fn use_a_slot_again<R: Abort + Wait>(
     rt: &R,
     live: &Engine,
     cell: &Pairs,
     seat: &mut CellSeat<Any, 2>,
-    keeper: &mut Keeper<Any, 2>,
+    writer: &mut Writer<Any, 2>,
 )
     requires engine { live.now ≡ cell.now }
     requires seat { IsOutside live.now seat.old }
 {
     reads(rt, live, cell, seat, [1, 1]);
-    shows(rt, keeper, [2, 2], Ok(Retired { slot: 1, by: 2 }));
+    shows(rt, writer, [2, 2], Ok(Retired { slot: 1, by: 2 }));
     reads(rt, live, cell, seat, [2, 2]);
-    shows(rt, keeper, [3, 3], Err(Full));
-    compare(rt, "age", keeper.age(), 0);
-    shows(rt, keeper, [3, 3], Err(Full));
+    shows(rt, writer, [3, 3], Err(Full));
+    compare(rt, "reclaim", writer.reclaim(), 0);
+    shows(rt, writer, [3, 3], Err(Full));
     pass_a_period(rt, live, seat);
-    shows(rt, keeper, [3, 3], Err(Full));
-    compare(rt, "age", keeper.age(), 4);
-    shows(rt, keeper, [3, 3], Ok(Retired { slot: 2, by: 1 }));
+    shows(rt, writer, [3, 3], Err(Full));
+    compare(rt, "reclaim", writer.reclaim(), 4);
+    shows(rt, writer, [3, 3], Ok(Retired { slot: 2, by: 1 }));
     reads(rt, live, cell, seat, [3, 3]);
 }
 
@@ -114,6 +114,6 @@ fn slot_is_used_again_after_a_period(rt: HostRuntime) {
         &opened.live,
         &opened.cell,
         &mut seat,
-        &mut opened.keeper,
+        &mut opened.writer,
     );
 }

@@ -64,7 +64,7 @@ fn finds_none<R: Abort>(rt: &R, live: &Engine, map: &Routes, seat: &mut Seat)
 
 #[test]
 fn map_opens_with_no_entry(rt: HostRuntime) {
-    let Ok(mut opened) = Routes::open(rt.alloc(), 1, 8, 4, 16, 0) else {
+    let Ok(mut opened) = Routes::open(rt.alloc(), 1, 8, 4, 12, 0) else {
         return;
     };
     let dealt = (opened.seats.len(), opened.watchers.len());
@@ -73,13 +73,13 @@ fn map_opens_with_no_entry(rt: HostRuntime) {
     finds_none(&rt, &opened.live, &opened.map, &mut seat);
 }
 
-/// Opens a map of so many processors, buckets and nodes. Returns for how many processors it deals
+/// Opens a map of so many processors, buckets and entries. Returns for how many processors it deals
 /// seats, by a second call where the first is refused a growth.
 fn opens(alloc: Global, engine: (u32, u64), sizes: (usize, usize)) -> Result<usize, NotOpened> {
-    let ((cpus, last), (buckets, nodes)) = (engine, sizes);
-    let mut opened = Routes::open::<64, 64, u64>(alloc, cpus, last, buckets, nodes, 0);
+    let ((cpus, last), (buckets, entries)) = (engine, sizes);
+    let mut opened = Routes::open::<64, 64, u64>(alloc, cpus, last, buckets, entries, 0);
     if matches!(opened, Err(NotOpened::Fault(Fault::NoMemory))) {
-        opened = Routes::open(alloc, cpus, last, buckets, nodes, 0);
+        opened = Routes::open(alloc, cpus, last, buckets, entries, 0);
     }
     Ok(opened?.seats.len())
 }
@@ -101,20 +101,19 @@ fn map_opens_with_its_engine(rt: HostRuntime) {
     }
 }
 
-/// Numbers of buckets and nodes that no map has: no bucket, fewer nodes than buckets, and more than
-/// 2^32 words.
+/// Numbers of buckets and entries that no map has: no bucket, and more than 2^32 words.
 static NO_SIZES: [(usize, usize); 6] = [
     (0, 3),
-    (4, 3),
-    (1, 1_431_655_766),
+    (1, 1_431_655_764),
     (1, 1 << 62),
     (1, usize::MAX),
+    (usize::MAX, 0),
     (usize::MAX, usize::MAX),
 ];
 
 #[test]
 fn map_is_refused_bad_sizes(rt: HostRuntime) {
-    compare(&rt, (3, 3), opens(rt.alloc(), (1, 4), (3, 3)), Ok(1));
+    compare(&rt, (3, 0), opens(rt.alloc(), (1, 4), (3, 0)), Ok(1));
     for sizes in &NO_SIZES {
         let found = opens(rt.alloc(), (1, 4), *sizes);
         compare(&rt, *sizes, found, Err(NotOpened::BadSizes));

@@ -4,14 +4,14 @@ ghost use Rattle.std.specs.Prelude.{◌≡◌, replicate};
 ghost use Rattle.std.specs.Thread.{IsSync};
 ghost use Rattle.rcu_live.specs.CpuSeat.{IsSeatOf, after_word_step};
 ghost use Rattle.rcu_graph.specs.Graph.{IsWalking};
-ghost use Rattle.rcu_graph.specs.Keeper.{IsKeeperOf};
+ghost use Rattle.rcu_graph.specs.Writer.{IsWriterOf};
 ghost use Rattle.rcu_graph.specs.Nodes.{first_nodes, nodes_in};
 ghost use Rattle.rcu_graph.specs.Planned.{of_plan, plan_of};
 ghost use Rattle.rcu_graph.specs.declared.known.Known.TheVariants.{Idle};
 
 mod chain;
-mod keeper;
 mod turnover;
+mod writer;
 
 use crate::compare::compare;
 use crate::seats::next_online;
@@ -124,38 +124,38 @@ impl<'a> Reader<'a> {
     }
 }
 
-/// Publishes a node with the key 5, unlinks it, leaves it, and looks at the number.
-fn publish_and_leave(chain: &Chain, keeper: &mut GraphWatcher<Sorted>)
+/// Publishes a node with the key 5, unlinks it, marks it, and looks at the number.
+fn publish_and_unlink(chain: &Chain, writer: &mut GraphWatcher<Sorted>)
     requires sized { chain.now.plan ≡ plan_of 1 1 2 2 0 }
-    requires keeper { IsKeeperOf chain.now keeper.old }
-    requires first { nodes_in keeper.old.view.client.known
+    requires writer { IsWriterOf chain.now writer.old }
+    requires first { nodes_in writer.old.view.client.known
         ≡ first_nodes 1 2 (λ _. replicate 2 0) 1 2 }
 {
-    chain.write(keeper, 1, 0, 5);
-    chain.write(keeper, 1, 1, 7);
-    chain.publish(keeper, 0, 0, 1);
-    chain.link(keeper, 0, 0, 0);
-    chain.leave(keeper, 1);
-    chain.look(keeper);
+    chain.write(writer, 1, 0, 5);
+    chain.write(writer, 1, 1, 7);
+    chain.publish(writer, 0, 0, 1);
+    chain.link(writer, 0, 0, 0);
+    chain.mark_unlinked(writer, 1);
+    chain.look(writer);
 }
 
-/// Runs two readers beside the keeper. Returns whether what each reader saw was right.
+/// Runs two readers beside the writer. Returns whether what each reader saw was right.
 fn run_beside<R: Threads + Wait + Sync>(
     rt: &R,
     chain: &Chain,
-    mut keeper: GraphWatcher<Sorted>,
+    mut writer: GraphWatcher<Sorted>,
     a: Reader<'_>,
     b: Reader<'_>,
 ) -> (bool, bool)
     requires sized { chain.now.plan ≡ plan_of 1 1 2 2 0 }
-    requires keeper { IsKeeperOf chain.now keeper }
-    requires first { nodes_in keeper.view.client.known
+    requires writer { IsWriterOf chain.now writer }
+    requires first { nodes_in writer.view.client.known
         ≡ first_nodes 1 2 (λ _. replicate 2 0) 1 2 }
 {
     let readers = move || -> (bool, bool)
         requires { IsSync R.row }
     { thread::join(rt, move || a.search_all(rt), move || b.search_all(rt)) };
-    let ((), right) = thread::join(rt, move || publish_and_leave(chain, &mut keeper), readers);
+    let ((), right) = thread::join(rt, move || publish_and_unlink(chain, &mut writer), readers);
     right
 }
 
@@ -164,7 +164,7 @@ fn readers_beside_a_published_node(rt: HostRuntime) {
     let Ok(opened) = Chain::open(rt.alloc(), 3, 4_000_000, PLAN) else {
         return;
     };
-    let (mut seats, keeper) = (opened.seats, opened.own);
+    let (mut seats, writer) = (opened.seats, opened.own);
     let (live, chain) = (&opened.live, &opened.graph);
     let a = Reader {
         live,
@@ -176,6 +176,6 @@ fn readers_beside_a_published_node(rt: HostRuntime) {
         chain,
         seat: next_online(&rt, live, &mut seats),
     };
-    let right = run_beside(&rt, chain, keeper, a, b);
+    let right = run_beside(&rt, chain, writer, a, b);
     compare(&rt, "readers", right, (true, true));
 }

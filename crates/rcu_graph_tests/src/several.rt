@@ -11,7 +11,7 @@ ghost use Rattle.rcu_live.specs.Watcher as watcher;
 ghost use Rattle.rcu_live.specs.Words.{base_of};
 ghost use Rattle.rcu_graph.specs.Graph.{IsWalking};
 ghost use Rattle.rcu_graph.specs.Joining.{CanJoin};
-ghost use Rattle.rcu_graph.specs.Keeper.{IsKeeperOf};
+ghost use Rattle.rcu_graph.specs.Writer.{IsWriterOf};
 ghost use Rattle.rcu_graph.specs.Opening.{claimed_first};
 ghost use Rattle.rcu_graph.specs.Planned.{of_plan};
 ghost use Rattle.rcu_graph.specs.declared.known.Known.TheVariants.{Idle};
@@ -20,7 +20,7 @@ ghost use Rattle.rcu_map.specs.Keys.{root_words};
 use crate::compare::compare;
 use crate::map::route::Route;
 use rcu_live::{Alone, Board, Both, Client, CpuSeat, First, Live, Second, Watcher, Within};
-use rcu_map::{Map, MapKeeper, MapRule, MapSeat, MapWatcher};
+use rcu_map::{Map, MapRule, MapSeat, MapWatcher, MapWriter};
 use std::alloc::Global;
 use std::process::Abort;
 use std::sync::Arc;
@@ -53,7 +53,7 @@ fn joins<R: Abort, P: Within<Rule>>(
     requires one { (P.own_plan plan).links ≡ 1 }
     requires entries { (P.own_plan plan).words ≡ 2 }
     ensures map { result.0 ≡ engine_part P.own_plan P.begins (arc_value board.now) }
-    ensures keeper { IsKeeperOf result.0 (watcher_part P.lens result.1) }
+    ensures writer { IsWriterOf result.0 (watcher_part P.lens result.1) }
     ensures claimed { P.lens.get result.1.view.client
         ≡ claimed_first (root_words (P.own_plan plan).words) (P.own_plan plan) }
     ensures left { own.new ≡ watcher.after_word_step own.old
@@ -123,7 +123,7 @@ fn reads_both<R: Abort>(rt: &R, live: &Shared, maps: (&Routes, &Exits), seat: &m
 #[test]
 fn one_seat_reads_two_maps(rt: HostRuntime) {
     let alloc = rt.alloc();
-    let Ok(plan) = Map::<Route, 2>::sized(1, 4, 0) else {
+    let Ok(plan) = Map::<Route, 2>::sized(1, 2, 0) else {
         return;
     };
     let Some(plans) = Pair::plan(plan, plan) else {

@@ -1,4 +1,4 @@
--- What a map's keeper may do.
+-- What a map's writer may do.
 use Rattle.std.proofs.Common.{◌≡◌, ℕ, suc, ◌<◌, ◌∙◌, Option, Some, None, List, sym, subst, arith}
 use Rattle.std.proofs.Common.{refl}
 use Rattle.rcu_live.specs.Watcher.{Watching}
@@ -31,25 +31,25 @@ placed w v key k previous was o place e f h =
     previous n)
     h place))
 
-module _ (holds : List ℕ → Type 0) (keeper : Watching Planned)
-    (one : keeper.view.client.plan.links ≡ 1)
-    (m : IsMap holds keeper.view.client.plan.roots keeper.view.client.plan.seed
-    keeper.view.client.plan.words
-    keeper.view.client.plan.nodes (nodes_in keeper.view.client.known)) where
+module _ (holds : List ℕ → Type 0) (writer : Watching Planned)
+    (one : writer.view.client.plan.links ≡ 1)
+    (m : IsMap holds writer.view.client.plan.roots writer.view.client.plan.seed
+    writer.view.client.plan.words
+    writer.view.client.plan.nodes (nodes_in writer.view.client.known)) where
   abbrev buckets : ℕ
-  buckets = keeper.view.client.plan.roots
+  buckets = writer.view.client.plan.roots
 
   abbrev seed : ℕ
-  seed = keeper.view.client.plan.seed
+  seed = writer.view.client.plan.seed
 
   abbrev width : ℕ
-  width = keeper.view.client.plan.words
+  width = writer.view.client.plan.words
 
   abbrev count : ℕ
-  count = keeper.view.client.plan.nodes
+  count = writer.view.client.plan.nodes
 
   abbrev A : List Node
-  A = nodes_in keeper.view.client.known
+  A = nodes_in writer.view.client.known
 
   module _ (previous : ℕ) (words : List ℕ) (some : 0 < key_in words)
       (whole : IsWhole holds width words) where
@@ -64,7 +64,7 @@ module _ (holds : List ℕ → Type 0) (keeper : Watching Planned)
         → IsPlace buckets seed (key_in words) A previous there
         → ((j : ℕ) → word_to next ≡ suc j → (state_at A j ≡ Live)
         × GoesUp buckets seed words (node_at A j).words)
-        → CanPut (IsWhole holds width) (λ _ from to. GoesUp buckets seed from to) keeper
+        → CanPut (IsWhole holds width) (λ _ from to. GoesUp buckets seed from to) writer
         previous words next
     can_put there next place onward = record {
       one = one;
@@ -79,7 +79,7 @@ module _ (holds : List ℕ → Type 0) (keeper : Watching Planned)
     pub can_insert : (next : Option ℕ)
         → IsPlace buckets seed (key_in words) A previous None
         → word_to next ≡ next_of A previous
-        → CanPut (IsWhole holds width) (λ _ from to. GoesUp buckets seed from to) keeper
+        → CanPut (IsWhole holds width) (λ _ from to. GoesUp buckets seed from to) writer
         previous words next
     can_insert next place to = can_put None next place (λ j e.
         let leads : next_of A previous ≡ suc j = sym to ∙ e in
@@ -89,7 +89,7 @@ module _ (holds : List ℕ → Type 0) (keeper : Watching Planned)
     pub can_replace : (old : ℕ) (next : Option ℕ)
         → IsPlace buckets seed (key_in words) A previous (Some old)
         → word_to next ≡ next_of A old
-        → CanPut (IsWhole holds width) (λ _ from to. GoesUp buckets seed from to) keeper
+        → CanPut (IsWhole holds width) (λ _ from to. GoesUp buckets seed from to) writer
         previous words next
     can_replace old next place to = can_put (Some old) next place (λ j e.
         let first = led holds buckets seed width count A m previous old place.live place.leads.0 in
@@ -109,7 +109,7 @@ module _ (holds : List ℕ → Type 0) (keeper : Watching Planned)
       (led holds buckets seed width count A m previous old place.live place.leads.0).0
 
   pub can_remove : (key previous old : ℕ) → IsPlace buckets seed key A previous (Some old)
-      → CanPass (λ _ from to. GoesUp buckets seed from to) keeper previous old
+      → CanPass (λ _ from to. GoesUp buckets seed from to) writer previous old
   can_remove key previous old place = record {
     one = one;
     few = m.few;

@@ -1,13 +1,12 @@
--- The keeper's calls over a run of a map's shared words: a key that is there before and after each
+-- The writer's calls over a run of a map's shared words: a key that is there before and after each
 -- is linked at each moment.
 use Rattle.std.proofs.Common.{◌≡◌, ◌⊎◌, ℕ, suc, ◌+◌, ◌<◌, ◌≤◌, Bool, List, length, sym, ap, ◌∙◌}
 use Rattle.std.proofs.Common.{subst, inl, inr, arith, ⊎_elim, eq-eqb}
 use Rattle.std.proofs.lemmas.Bool.{cases_lt, eqb-true}
 use Rattle.rcu_live.specs.Watcher.{Watching}
 use Rattle.rcu_graph.specs.Absence.{AreLinkedWords, IsLinkedKey}
-use Rattle.rcu_graph.specs.Beside.{AreOnChain, IsChainOf, IsKeeperMove, IsOnChain, Moment}
-use Rattle.rcu_graph.specs.Beside.{nodes_at}
-use Rattle.rcu_graph.specs.Keeper.{after_look}
+use Rattle.rcu_graph.specs.Beside.{AreOnChain, IsChainOf, IsOnChain, IsWriterMove, Moment, nodes_at}
+use Rattle.rcu_graph.specs.Writer.{after_look}
 use Rattle.rcu_graph.specs.Nodes.{nodes_in, stored_in}
 use Rattle.rcu_graph.specs.declared.known.Known.{Known}
 use Rattle.rcu_graph.specs.declared.known.Node.{Node}
@@ -24,9 +23,9 @@ use Rattle.rcu_map.proofs.Buckets.{bucket_inside, root_bucket}
 use Rattle.rcu_map.proofs.Linked.{entry_linked, has_linked, is_linked}
 use Rattle.rcu_map.proofs.Runs.{has_at_end, on_chain}
 
-module _ (holds : List ℕ → Type 0) (plan : Plan) (opened key keeper last : ℕ) (moments : ℕ → Moment)
+module _ (holds : List ℕ → Type 0) (plan : Plan) (opened key writer last : ℕ) (moments : ℕ → Moment)
     (some : 0 < plan.roots) (one : plan.links ≡ 1) (wide : 1 < plan.words) (up : 0 < key)
-    (kept : IsMapOver holds plan keeper last moments) where
+    (kept : IsMapOver holds plan writer last moments) where
   abbrev start : ℕ
   start = bucket_of plan.roots plan.seed key
 
@@ -60,7 +59,7 @@ module _ (holds : List ℕ → Type 0) (plan : Plan) (opened key keeper last : �
   }
 
   knew : (t : ℕ) (now : Watching Planned) (run : Run now) → Made t now run
-      → (moments t).keeper ≡ now.view.client.known
+      → (moments t).writer ≡ now.view.client.known
   knew t now (begun _ m) made = made.1
   knew t now (changed before _ run by m) made = made.0
   knew t now (looked before _ number run opens is m) made = made.0
@@ -88,8 +87,8 @@ module _ (holds : List ℕ → Type 0) (plan : Plan) (opened key keeper last : �
       (nodes_in now.view.client.known) (is_map now run).map key some wide up has)
 
   one_store_more : (s t : ℕ) (before now : Watching Planned)
-      → (moments s).keeper ≡ before.view.client.known
-      → (moments t).keeper ≡ now.view.client.known
+      → (moments s).writer ≡ before.view.client.known
+      → (moments t).writer ≡ now.view.client.known
       → length (stored_in now.view.client.known)
       ≤ suc (length (stored_in before.view.client.known))
       → stores_of (moments t) ≤ suc (stores_of (moments s))
@@ -113,7 +112,7 @@ module _ (holds : List ℕ → Type 0) (plan : Plan) (opened key keeper last : �
       let e = ap (λ (k : Watching Planned). length (stored_in k.view.client.known)) is in
       omega (arith, e)
 
-  -- what the keeper knew at a moment before the first call it knew at the moment 0
+  -- what the writer knew at a moment before the first call it knew at the moment 0
   few_at_first : (t : ℕ) (now : Watching Planned) (m : IsMapOf holds plan now)
       → Made t now (begun now m) → stores_of (moments t) ≤ suc (stores_of (moments 0))
   few_at_first t now m made = one_store_more 0 t now now made.0 made.1 (omega arith)
@@ -133,7 +132,7 @@ module _ (holds : List ℕ → Type 0) (plan : Plan) (opened key keeper last : �
         → Moved n low
     call_on was n low to = ⊎_elim
         (λ (early : n < s). was n low early)
-        (λ (late : s ≤ n). on_chain_between Fits Joins First plan mine start keeper last moments
+        (λ (late : s ≤ n). on_chain_between Fits Joins First plan mine start writer last moments
         is_chain kept s t end few_stores (all_on s before run made) n low late to)
         (cases_lt n s)
 
@@ -143,7 +142,7 @@ module _ (holds : List ℕ → Type 0) (plan : Plan) (opened key keeper last : �
         → (n : ℕ) → n ≤ t → IsLinkedKey start key (nodes_at moments n)
     call_linked had has was n to = ⊎_elim
         (λ (early : n < s). was n (omega (arith, early)))
-        (λ (late : s ≤ n). linked_between Fits Joins First plan mine start keeper last moments
+        (λ (late : s ≤ n). linked_between Fits Joins First plan mine start writer last moments
         is_chain kept s t end few_stores key n late to (links_it s before run made had)
         (links_it t now later then has))
         (cases_lt n s)
@@ -152,7 +151,7 @@ module _ (holds : List ℕ → Type 0) (plan : Plan) (opened key keeper last : �
   pub run_on : (t : ℕ) (now : Watching Planned) (run : Run now) → Made t now run → t ≤ last
       → (n : ℕ) (low : n < last) → n < t → Moved n low
   run_on t now (begun _ m) made end = λ n low to.
-      on_chain_between Fits Joins First plan mine start keeper last moments is_chain kept 0 t end
+      on_chain_between Fits Joins First plan mine start writer last moments is_chain kept 0 t end
       (few_at_first t now m made) (all_on 0 now (begun now m) (made.0, made.0)) n low (omega arith)
       to
   run_on t now (changed before _ run by m) made end =
@@ -173,7 +172,7 @@ module _ (holds : List ℕ → Type 0) (plan : Plan) (opened key keeper last : �
       → t ≤ last → HasKeyThroughout holds plan opened key now run
       → (n : ℕ) → n ≤ t → IsLinkedKey start key (nodes_at moments n)
   run_linked_over t now (begun _ m) made end has = λ n to.
-      linked_between Fits Joins First plan mine start keeper last moments is_chain kept 0 t end
+      linked_between Fits Joins First plan mine start writer last moments is_chain kept 0 t end
       (few_at_first t now m made) key n (omega arith) to
       (links_it 0 now (begun now m) (made.0, made.0) has) (links_it t now (begun now m) made has)
   run_linked_over t now (changed before _ run by m) made end has =
@@ -243,7 +242,7 @@ module _ (holds : List ℕ → Type 0) (plan : Plan) (opened key keeper last : �
       → HadKey holds plan opened key now run
   key_had =
       run_had (IsLinkedKey start key) (λ nodes. HasKey plan.roots nodes key)
-      (λ s t end few n from to links. linked_at_one Fits Joins First plan mine start keeper last
+      (λ s t end few n from to links. linked_at_one Fits Joins First plan mine start writer last
       moments is_chain kept s t end few key n from to links)
       (λ now run links. has_linked holds plan.roots plan.seed plan.words plan.nodes
       (nodes_in now.view.client.known) (is_map now run).map key some wide up links)
@@ -254,7 +253,7 @@ module _ (holds : List ℕ → Type 0) (plan : Plan) (opened key keeper last : �
       → HadEntry holds plan opened words now run
   entry_had words keyed =
       run_had (AreLinkedWords start words) (λ nodes. HasEntry plan.roots nodes words)
-      (λ s t end few n from to links. words_at_one Fits Joins First plan mine start keeper last
+      (λ s t end few n from to links. words_at_one Fits Joins First plan mine start writer last
       moments is_chain kept s t end few words n from to links)
       (λ now run links. entry_linked holds plan.roots plan.seed plan.words plan.nodes
       (nodes_in now.view.client.known) (is_map now run).map key some wide up words keyed links)
@@ -266,24 +265,24 @@ module _ (holds : List ℕ → Type 0) (plan : Plan) (opened key keeper last : �
     within t low = omega (arith, early, low)
 
     move_at : (t : ℕ) → t < done
-        → (move : IsKeeperMove plan (since from moments t) (since from moments (suc t)))
+        → (move : IsWriterMove plan (since from moments t) (since from moments (suc t)))
         × IsOnChain plan (since from moments t) (since from moments (suc t)) mine start move
     move_at t low =
         let next : suc (from + t) ≡ from + suc t = omega arith in
-        subst (λ (n : ℕ). (move : IsKeeperMove plan (moments (from + t)) (moments n))
+        subst (λ (n : ℕ). (move : IsWriterMove plan (moments (from + t)) (moments n))
         × IsOnChain plan (moments (from + t)) (moments n) mine start move)
         next (
           kept.moves (from + t) (within t low),
           run_on last now run made (omega arith) (from + t) (within t low) (within t low),
         )
 
-    pub part : IsMapOver holds plan keeper done (since from moments)
+    pub part : IsMapOver holds plan writer done (since from moments)
     part = record {
       at = λ t low. kept.at (from + t) (omega (arith, early, low));
       moves = λ t low. (move_at t low).0;
     }
 
-    pub part_on : AreOnChain Fits Joins First plan mine start keeper done (since from moments) part
+    pub part_on : AreOnChain Fits Joins First plan mine start writer done (since from moments) part
     unfolding part
     part_on t low = (move_at t low).1
 

@@ -5,10 +5,11 @@ use Rattle.std.proofs.lemmas.List.{get_or-drop, length-drop}
 use Rattle.std.proofs.lemmas.List.Sums.{sum_by-cons}
 use Rattle.rcu_graph.specs.Counts.{one_if}
 use Rattle.rcu_graph.specs.Nodes.{is_live, no_node, state_at}
-use Rattle.rcu_graph.specs.Trimming.{live_in}
+use Rattle.rcu_graph.specs.Collecting.{live_in}
 use Rattle.rcu_graph.specs.declared.known.Node.{Node}
 use Rattle.rcu_graph.proofs.Tending.{live_in-le}
-use Rattle.rcu_map.specs.Entries.{entries_in}
+use Rattle.rcu_graph.proofs.Counting.{live_inside}
+use Rattle.rcu_map.specs.Entries.{IsEntry, entries_in}
 
 -- whether the node i is live
 abbrev live_at : List Node → ℕ → Bool
@@ -108,32 +109,35 @@ one_entry_more buckets xs ys i few past low off on same =
     behind buckets ys j
     ∙ (same (buckets + j) (λ is. ne (omega (arith, is, past))) ∙ sym (behind buckets xs j)))
 
+one_live : (nodes : List Node) (i : ℕ) → i < length nodes → live_at nodes i ≡ true
+    → 0 < live_in nodes
+one_live [] i low live = absurd (omega (arith, low))
+one_live (v ∷ nodes) zero low live =
+    let a = live_in-cons v nodes in
+    let b : one_if (is_live v.state) ≡ 1 = ap one_if live in
+    omega (arith, a, b)
+one_live (v ∷ nodes) (suc i) low live =
+    let a = live_in-cons v nodes in
+    let d = one_live nodes i (omega (arith, low)) live in
+    omega (arith, a, d)
+
+-- where there is an entry, there are some
+pub some_entries : (buckets : ℕ) (nodes : List Node) (i : ℕ) → IsEntry buckets nodes i
+    → 0 < entries_in buckets nodes
+some_entries buckets nodes i entry =
+    let past = entry.behind in
+    let low = live_inside nodes i entry.live in
+    let long = length-drop buckets nodes in
+    let back : buckets + (i - buckets) ≡ i = omega (arith, past) in
+    one_live (drop buckets nodes) (i - buckets) (omega (arith, past, low, long))
+    (behind buckets nodes (i - buckets)
+    ∙ (ap (λ (n : ℕ). is_live (state_at nodes n)) back ∙ ap is_live entry.live))
+
 -- no more entries than nodes
 pub entries_few : (buckets : ℕ) (nodes : List Node) → entries_in buckets nodes ≤ length nodes
 entries_few buckets nodes =
     let a = live_in-le (drop buckets nodes) in
     let b = length-drop buckets nodes in omega (arith, a, b)
-
--- where as many nodes are live as there are, each is
-one_most : (b : Bool) → one_if b ≤ 1
-one_most true = omega arith
-one_most false = omega arith
-
-one_up : (b : Bool) → 1 ≤ one_if b → b ≡ true
-one_up true up = refl
-one_up false up = absurd (omega (arith, up))
-
-all_live : (nodes : List Node) → length nodes ≤ live_in nodes → (i : ℕ) → i < length nodes
-    → live_at nodes i ≡ true
-all_live [] many i low = absurd (omega (arith, low))
-all_live (v ∷ nodes) many zero low =
-    let a = live_in-cons v nodes in
-    let most = live_in-le nodes in
-    one_up (is_live v.state) (omega (arith, a, most, many))
-all_live (v ∷ nodes) many (suc i) low =
-    let a = live_in-cons v nodes in
-    let most = one_most (is_live v.state) in
-    all_live nodes (omega (arith, a, most, many)) i (omega (arith, low))
 
 many_live : (nodes : List Node) → ((i : ℕ) → i < length nodes → live_at nodes i ≡ true)
     → live_in nodes ≡ length nodes
@@ -143,17 +147,6 @@ many_live (v ∷ nodes) all =
     let b : one_if (is_live v.state) ≡ 1 = ap one_if (all 0 (omega arith)) in
     let d = many_live nodes (λ i low. all (suc i) (omega (arith, low))) in
     omega (arith, a, b, d)
-
-pub all_behind_live : (buckets : ℕ) (nodes : List Node)
-    → length nodes ≤ entries_in buckets nodes + buckets → (i : ℕ) → buckets ≤ i → i < length nodes
-    → is_live (state_at nodes i) ≡ true
-all_behind_live buckets nodes many i past low =
-    let long = length-drop buckets nodes in
-    let back : buckets + (i - buckets) ≡ i = omega (arith, past) in
-    ap (λ (n : ℕ). is_live (state_at nodes n)) (sym back)
-    ∙ (sym (behind buckets nodes (i - buckets))
-    ∙ all_live (drop buckets nodes) (omega (arith, long, many)) (i - buckets)
-    (omega (arith, low, long, past)))
 
 pub many_behind : (buckets : ℕ) (nodes : List Node)
     → buckets ≤ length nodes → ((i : ℕ) → i < length nodes → is_live (state_at nodes i) ≡ true)

@@ -14,7 +14,7 @@ use Rattle.rcu_map.specs.Entries.{HasEntry}
 use Rattle.rcu_map.proofs.Chains.{reached}
 use Rattle.rcu_map.proofs.Gaps.{IsPassed, IsPut}
 use Rattle.rcu_graph.proofs.Puts.{not_free}
-use Rattle.rcu_map.proofs.Trimmed.{AreHeld}
+use Rattle.rcu_map.proofs.Collected.{AreHeld}
 
 -- the entry of the node i is in the map still
 pub still_there : (buckets : ℕ) (A B : List Node) (w : List ℕ) (i : ℕ)

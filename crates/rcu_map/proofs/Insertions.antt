@@ -6,7 +6,7 @@ use native.Mathlib.Decide.{ℕ_discrete}
 use Rattle.rcu_graph.specs.Absence.{next_of}
 use Rattle.rcu_graph.specs.Graph.{word_to}
 use Rattle.rcu_graph.specs.Nodes.{is_live, node_at, state_at}
-use Rattle.rcu_graph.specs.Tended.{AreTended, AreTrimmed}
+use Rattle.rcu_graph.specs.Tended.{AreCollected, AreTended}
 use Rattle.rcu_graph.specs.declared.known.Node.{Node}
 use Rattle.rcu_graph.specs.declared.node_state.NodeState.TheVariants.{Free}
 use Rattle.rcu_graph.proofs.Counting.{live_inside}
@@ -23,7 +23,7 @@ use Rattle.rcu_map.proofs.Gaps.{IsGap, IsPut, all, insertion_gap, ordered_with}
 use Rattle.rcu_graph.proofs.Puts.{not_free}
 use Rattle.rcu_map.proofs.Held.{held_with, node_behind, still_there}
 use Rattle.rcu_map.proofs.Stored.{is_put}
-use Rattle.rcu_map.proofs.Trimmed.{AreHeld, map_after, same_state}
+use Rattle.rcu_map.proofs.Collected.{AreHeld, map_after, same_state}
 
 module _ (holds : List ℕ → Type 0) (buckets seed width count : ℕ) (A : List Node)
     (m : IsMap holds buckets seed width count A) where
@@ -32,7 +32,7 @@ module _ (holds : List ℕ → Type 0) (buckets seed width count : ℕ) (A : Lis
       (some : 0 < key_in words) (place : IsPlace buckets seed (key_in words) A previous None)
       (to : word_to next ≡ next_of A previous) (inside : node < count)
       (free : state_at A node ≡ Free)
-      (t : AreTrimmed buckets 1 (put A previous node words next) B) where
+      (t : AreCollected buckets 1 (put A previous node words next) B) where
     abbrev S : List Node
     S = put A previous node words next
 

@@ -1,23 +1,23 @@
--- Where there is nothing to wait for, and where entries are the same.
-use Rattle.std.proofs.Common.{◌≡◌, ℕ, ◌+◌, ◌-◌, ◌<◌, ◌≤◌, ⊎_elim, List}
+-- What a wait for room comes to, and where entries are the same.
+use Rattle.std.proofs.Common.{◌≡◌, ℕ, ◌+◌, ◌-◌, ◌<◌, ◌≤◌, List}
 use Rattle.std.proofs.Common.{length, refl, ap, ◌∙◌, arith, Err, Ok, OnErr, OnOk, Result}
-use Rattle.std.proofs.lemmas.Bool.{cases_lt}
 use Rattle.rcu_live.specs.CpuSeat.{Seated}
 use Rattle.rcu_live.specs.Watcher.{Watching}
-use Rattle.rcu_graph.specs.Nodes.{node_at, nodes_in, state_at}
+use Rattle.rcu_graph.specs.Nodes.{node_at, state_at}
 use Rattle.rcu_graph.specs.declared.known.Planned.{Planned}
 use Rattle.rcu_graph.specs.declared.known.Node.{Node}
-use Rattle.rcu_graph.proofs.Counting.{live_inside, live_test, test_live}
+use Rattle.rcu_graph.proofs.Counting.{live_inside, live_test}
 use Rattle.rcu_graph.specs.Waits as graph
-use Rattle.rcu_graph.proofs.Looks.{aged_nodes}
+use Rattle.rcu_graph.proofs.Looks.{reclaimed_nodes}
 use Rattle.rcu_map.specs.Chains.{IsMap, buckets_in}
 use Rattle.rcu_map.specs.Entries.{AreSameEntries, HasKey, entries_in}
 use Rattle.rcu_map.specs.Keys.{key_in}
-use Rattle.rcu_map.specs.Waits.{AreAllLive, HasGivenUp, HasMadeRoom, WaitedFor}
+use Rattle.rcu_map.specs.Room.{AreAllLive, IsOneTooMany}
+use Rattle.rcu_map.specs.Waits.{HasGivenUp, HasMadeRoom, WaitedFor}
 use Rattle.rcu_map.specs.declared.put.NotPut.{NotPut}
 use Rattle.rcu_map.specs.declared.put.NotPut.TheVariants.{Fault, Full}
-use Rattle.rcu_map.proofs.Ages.{aged_entries}
-use Rattle.rcu_map.proofs.Counted.{all_behind_live, entries_and_roots, many_behind}
+use Rattle.rcu_map.proofs.Reclaims.{reclaimed_entries}
+use Rattle.rcu_map.proofs.Counted.{entries_and_roots, many_behind}
 
 -- a key that an entry has is one of the same entries
 pub key_kept : (buckets : ℕ) (A B : List Node) (key : ℕ)
@@ -32,7 +32,7 @@ pub made_room : {C E : Type 0} (seat now : Seated C) (k m : Watching Planned)
     (r : Result (Unit {0}) E) → OnOk r (graph.HasMadeRoom seat now k m)
     → OnOk r (HasMadeRoom (buckets_in k) seat now k m)
 made_room seat now k m (Ok _) made =
-    record { made = made; entries = aged_entries _ _ _ (aged_nodes k m made.looked) }
+    record { made = made; entries = reclaimed_entries _ _ _ (reclaimed_nodes k m made.looked) }
 made_room seat now k m (Err _) made = tt
 
 pub gave_up : {C E : Type 0} (seat now : Seated C) (k m : Watching Planned)
@@ -40,18 +40,17 @@ pub gave_up : {C E : Type 0} (seat now : Seated C) (k m : Watching Planned)
     → OnErr r (HasGivenUp (buckets_in k) seat now k m)
 gave_up seat now k m (Ok _) up = tt
 gave_up seat now k m (Err _) up =
-    record { gave_up = up; entries = aged_entries _ _ _ (aged_nodes k m up.looked) }
+    record { gave_up = up; entries = reclaimed_entries _ _ _ (reclaimed_nodes k m up.looked) }
 
--- an error of a wait is that each node is live, just where each is
-pub why_full : {C : Type 0} (buckets : ℕ) (seat now : Seated C) (before : Watching Planned)
+-- an error of a wait is that the entry is one too many, just where it is
+pub why_full : {C : Type 0} (key : ℕ) (seat now : Seated C) (before : Watching Planned)
     (why : NotPut) (after : Watching Planned)
-    → WaitedFor buckets seat now before (Err why) after
-    → (why ≡ Full → AreAllLive (nodes_in before.view.client.known))
-    × (AreAllLive (nodes_in before.view.client.known) → why ≡ Full)
-why_full buckets seat now before Full after end = (λ _. end.0, λ _. refl)
-why_full buckets seat now before (Fault fault) after end = (
+    → WaitedFor key seat now before (Err why) after
+    → (why ≡ Full → IsOneTooMany before key) × (IsOneTooMany before key → why ≡ Full)
+why_full key seat now before Full after end = (λ _. end.0, λ _. refl)
+why_full key seat now before (Fault fault) after end = (
   λ e. absurd (cc),
-  λ all. absurd (end.0 all),
+  λ many. absurd (end.0 many),
 )
 
 pub same_err : {T E : Type 0} (x y : E) → ◌≡◌ {A = Result T E} (Err x) (Err y) → x ≡ y
@@ -70,14 +69,7 @@ module _ (holds : List ℕ → Type 0) (buckets seed width count : ℕ) (A : Lis
       let few = m.few in
       let most = entries_and_roots buckets A roots_fit in omega (arith, few, most)
 
-  -- each node is live just where there are as many entries as nodes that are no roots
-  pub all_are_live : entries_in buckets A + buckets ≡ count → AreAllLive A
-  all_are_live many i low = ⊎_elim (λ (root : i < buckets). m.tended.rooted i root)
-      (λ (past : buckets ≤ i).
-      let few = m.few in
-      test_live (state_at A i) (all_behind_live buckets A (omega (arith, many, few)) i past low))
-      (cases_lt i buckets)
-
+  -- where each node is live, there are as many entries as nodes that are no roots
   pub as_many_as_nodes : AreAllLive A → entries_in buckets A + buckets ≡ count
   as_many_as_nodes all =
       many_behind buckets A roots_fit (λ i low. live_test (state_at A i) (all i low)) ∙ m.few

@@ -1,5 +1,5 @@
 -- The entries that calls of `next` came to are those that they returned.
-use Rattle.std.proofs.Common.{◌≡◌, ◌⊎◌, ℕ, zero, suc, ◌+◌, ◌<◌, List, [], ◌∷◌, ◌++◌, refl, sym, ap}
+use Rattle.std.proofs.Common.{◌≡◌, ◌⊎◌, ℕ, zero, suc, List, [], ◌∷◌, ◌++◌, refl, sym, ap}
 use Rattle.std.proofs.Common.{◌∙◌, ⊎_elim, append_assoc, arith, inl, inr}
 use Rattle.std.specs.Prelude.{Contains}
 use mathlib.Core.Option.{some-injective}

@@ -6,7 +6,7 @@ use Rattle.rcu_live.specs.Watcher.{Watching}
 use Rattle.rcu_graph.specs.Absence.{next_of}
 use Rattle.rcu_graph.specs.Graph.{word_to}
 use Rattle.rcu_graph.specs.Nodes.{nodes_in}
-use Rattle.rcu_graph.specs.declared.keeper.Full.{Full}
+use Rattle.rcu_graph.specs.declared.writer.Full.{Full}
 use Rattle.rcu_graph.specs.declared.known.Planned.{Planned}
 use Rattle.rcu_map.specs.Chains.{IsMap, buckets_in, seed_in}
 use Rattle.rcu_map.specs.Entries.{entries_in}
@@ -53,7 +53,7 @@ module _ (holds : List ℕ → Type 0) (before now : Watching Planned)
       → IsMap holds buckets seed width count (nodes_in now.view.client.known)
   over_map (Ok node) done = replaced_map holds buckets seed width count
       (nodes_in before.view.client.known) m previous node old words next
-      (nodes_in now.view.client.known) some place to done.inside done.free done.trimmed
+      (nodes_in now.view.client.known) some place to done.inside done.free done.collected
       done.kept.few done.kept.tended
   over_map (Err _) full =
       subst (λ (w : Watching Planned). IsMap holds buckets seed width count
@@ -66,7 +66,7 @@ module _ (holds : List ℕ → Type 0) (before now : Watching Planned)
   over_count (Ok node) done = replaced_count holds buckets seed width count
       (nodes_in before.view.client.known) m
       previous node old words next (nodes_in now.view.client.known) some place to done.inside
-      done.free done.trimmed
+      done.free done.collected
   over_count (Err _) full =
       ap (λ (w : Watching Planned). entries_in buckets (nodes_in w.view.client.known))
       full.unchanged
@@ -83,11 +83,11 @@ module _ (holds : List ℕ → Type 0) (before now : Watching Planned)
           refl;
       state = done.state;
       led = done.led;
-      trimmed = done.trimmed;
+      collected = done.collected;
     };
     nodes = replaced holds buckets seed width count (nodes_in before.view.client.known) m previous
         node
         old words next (nodes_in now.view.client.known) some place to done.inside done.free
-        done.trimmed;
+        done.collected;
   }
   over_put (Err _) full = full

@@ -6,11 +6,11 @@ use native.Mathlib.Decide.{ℕ_discrete}
 use Rattle.rcu_graph.specs.Absence.{key_at, next_of}
 use Rattle.rcu_graph.specs.Graph.{word_to}
 use Rattle.rcu_graph.specs.Nodes.{is_live, node_at, state_at}
-use Rattle.rcu_graph.specs.Tended.{AreTended, AreTrimmed, relinked}
+use Rattle.rcu_graph.specs.Tended.{AreCollected, AreTended, relinked}
 use Rattle.rcu_graph.specs.declared.known.Node.{Node}
-use Rattle.rcu_graph.specs.declared.node_state.NodeState.TheVariants.{Left, Live}
+use Rattle.rcu_graph.specs.declared.node_state.NodeState.TheVariants.{Live, Unlinked}
 use Rattle.rcu_graph.proofs.Counting.{live_inside}
-use Rattle.rcu_graph.proofs.States.{not_left}
+use Rattle.rcu_graph.proofs.States.{not_unlinked}
 use Rattle.rcu_map.specs.Chains.{IsMap}
 use Rattle.rcu_map.specs.Entries.{IsNodeOf, IsRemoved, entries_in}
 use Rattle.rcu_map.specs.Keys.{GoesUp, IsWhole, key_in}
@@ -20,7 +20,7 @@ use Rattle.rcu_map.proofs.Counted.{one_entry_more}
 use Rattle.rcu_map.proofs.Gaps.{IsPassed, but, but_other, ordered_past, other_but}
 use Rattle.rcu_map.proofs.Held.{held_past, still_there}
 use Rattle.rcu_map.proofs.Stored.{is_passed}
-use Rattle.rcu_map.proofs.Trimmed.{AreHeld, is_left, map_after, same_state}
+use Rattle.rcu_map.proofs.Collected.{AreHeld, is_unlinked, map_after, same_state}
 
 module _ (holds : List ℕ → Type 0) (buckets seed width count : ℕ) (A : List Node)
     (m : IsMap holds buckets seed width count A) where
@@ -71,7 +71,7 @@ module _ (holds : List ℕ → Type 0) (buckets seed width count : ℕ) (A : Lis
 
     -- it is taken out
     module _ (next : Option ℕ) (B : List Node) (to : word_to next ≡ next_of A old)
-        (t : AreTrimmed buckets 1 (relinked A previous 0 next) B) where
+        (t : AreCollected buckets 1 (relinked A previous 0 next) B) where
       abbrev S : List Node
       S = relinked A previous 0 next
 
@@ -83,8 +83,8 @@ module _ (holds : List ℕ → Type 0) (buckets seed width count : ℕ) (A : Lis
       held = held_past holds buckets seed width count A m (but old) previous (word_to next)
           (passes (word_to next) to) S p place.live previous_stays
 
-      pub out : state_at B old ≡ Left
-      out = is_left buckets S B t old (p.states old ∙ had.entry.live) had.entry.behind
+      pub out : state_at B old ≡ Unlinked
+      out = is_unlinked buckets S B t old (p.states old ∙ had.entry.live) had.entry.behind
           (λ j on leads. dite (ℕ_discrete j previous)
           (λ (is : j ≡ previous).
           no_ring (sym to ∙ (sym p.led ∙ (ap (λ (n : ℕ). next_of S n) (sym is) ∙ leads))))
@@ -93,7 +93,7 @@ module _ (holds : List ℕ → Type 0) (buckets seed width count : ℕ) (A : Lis
 
       kept : (i : ℕ) → state_at B i ≡ Live → but old i ≡ true
       kept i live = other_but old i
-          (λ is. not_left (state_at B old) (ap (λ (n : ℕ). state_at B n) (sym is) ∙ live) out)
+          (λ is. not_unlinked (state_at B old) (ap (λ (n : ℕ). state_at B n) (sym is) ∙ live) out)
 
       words_same : (i : ℕ) → (node_at B i).words ≡ (node_at A i).words
       words_same i = t.words_stay i ∙ p.same i
@@ -131,7 +131,7 @@ module _ (holds : List ℕ → Type 0) (buckets seed width count : ℕ) (A : Lis
         );
         old = old;
         had = had;
-        left = out;
+        unlinked = out;
         stays = words_same old;
         others = λ i ne. record { state = state_there i ne; words = words_same i };
       }

@@ -6,9 +6,9 @@ use native.Mathlib.Decide.{ℕ_discrete}
 use Rattle.rcu_graph.specs.Absence.{next_of}
 use Rattle.rcu_graph.specs.Graph.{word_to}
 use Rattle.rcu_graph.specs.Nodes.{is_live, node_at, state_at}
-use Rattle.rcu_graph.specs.Tended.{AreTended, AreTrimmed}
+use Rattle.rcu_graph.specs.Tended.{AreCollected, AreTended}
 use Rattle.rcu_graph.specs.declared.known.Node.{Node}
-use Rattle.rcu_graph.specs.declared.node_state.NodeState.TheVariants.{Free, Left, Live}
+use Rattle.rcu_graph.specs.declared.node_state.NodeState.TheVariants.{Free, Live, Unlinked}
 use Rattle.rcu_graph.proofs.Counting.{live_inside}
 use Rattle.rcu_graph.proofs.PutNodes.{few_put}
 use Rattle.rcu_map.specs.Chains.{IsMap}
@@ -21,12 +21,12 @@ use Rattle.rcu_map.proofs.Chains.{bucket_at, one_way}
 use Rattle.rcu_map.proofs.Counted.{one_entry_more}
 use Rattle.rcu_map.proofs.Gaps.{IsGap, IsPut, but, but_other, ordered_with, other_but}
 use Rattle.rcu_graph.proofs.Puts.{not_free}
-use Rattle.rcu_graph.proofs.States.{not_left}
+use Rattle.rcu_graph.proofs.States.{not_unlinked}
 use Rattle.rcu_map.proofs.Gaps.{replacement_gap}
 use Rattle.rcu_map.proofs.Held.{held_with, node_behind, still_there}
 use Rattle.rcu_map.proofs.Removals.{had, no_ring, not_old, other_key, passes, previous_stays}
 use Rattle.rcu_map.proofs.Stored.{is_put}
-use Rattle.rcu_map.proofs.Trimmed.{AreHeld, is_left, map_after, same_state}
+use Rattle.rcu_map.proofs.Collected.{AreHeld, is_unlinked, map_after, same_state}
 
 module _ (holds : List ℕ → Type 0) (buckets seed width count : ℕ) (A : List Node)
     (m : IsMap holds buckets seed width count A) where
@@ -34,7 +34,7 @@ module _ (holds : List ℕ → Type 0) (buckets seed width count : ℕ) (A : Lis
   module _ (previous node old : ℕ) (words : List ℕ) (next : Option ℕ) (B : List Node)
       (some : 0 < key_in words) (place : IsPlace buckets seed (key_in words) A previous (Some old))
       (to : word_to next ≡ next_of A old) (inside : node < count) (free : state_at A node ≡ Free)
-      (t : AreTrimmed buckets 1 (put A previous node words next) B) where
+      (t : AreCollected buckets 1 (put A previous node words next) B) where
     abbrev S : List Node
     S = put A previous node words next
 
@@ -73,8 +73,8 @@ module _ (holds : List ℕ → Type 0) (buckets seed width count : ℕ) (A : Lis
         (previous_stays holds buckets seed width count A m (key_in words) previous old some place)
         new_stays
 
-    pub passed_out : state_at B old ≡ Left
-    passed_out = is_left buckets S B t old (p.states old old_is_not ∙ old_is.entry.live)
+    pub passed_out : state_at B old ≡ Unlinked
+    passed_out = is_unlinked buckets S B t old (p.states old old_is_not ∙ old_is.entry.live)
         old_is.entry.behind
         (λ j on leads. dite (ℕ_discrete j node)
         (λ (is : j ≡ node). no_ring holds buckets seed width count A m (key_in words) previous old
@@ -90,7 +90,7 @@ module _ (holds : List ℕ → Type 0) (buckets seed width count : ℕ) (A : Lis
 
     kept : (i : ℕ) → state_at B i ≡ Live → but old i ≡ true
     kept i live = other_but old i (λ is.
-        not_left (state_at B old) (ap (λ (n : ℕ). state_at B n) (sym is) ∙ live) passed_out)
+        not_unlinked (state_at B old) (ap (λ (n : ℕ). state_at B n) (sym is) ∙ live) passed_out)
 
     states : (i : ℕ) → i ≢ old → state_at B i ≡ state_at S i
     states i ne = same_state buckets S B t (but old) held i (other_but old i ne)
@@ -166,7 +166,7 @@ module _ (holds : List ℕ → Type 0) (buckets seed width count : ℕ) (A : Lis
       is = words_here;
       old = old;
       had = old_is;
-      left = passed_out;
+      unlinked = passed_out;
       stays = words_there old old_is_not;
       others = λ i ne other. record { state = state_there i ne other; words = words_there i ne };
     }

@@ -1,4 +1,4 @@
--- A key that is there before and after each call of the keeper is linked at each moment between.
+-- A key that is there before and after each call of the writer is linked at each moment between.
 use Rattle.std.proofs.Common.{◌≡◌, ℕ, zero, suc, ◌+◌, ◌<◌, ◌≤◌, Bool, true, false, List, []}
 use Rattle.std.proofs.Common.{◌∷◌, inr, length, map, refl, sym, ap, ◌∙◌, subst, arith, ⊎_elim}
 use Rattle.std.proofs.Common.{eq-eqb}
@@ -7,18 +7,18 @@ use Rattle.std.proofs.lemmas.Bool.{cases_lt, eqb-true}
 use Rattle.std.proofs.Math.Nat.{le-max_left}
 use Rattle.rcu_live.specs.Numbers.{is_open_at}
 use Rattle.rcu_live.specs.Watcher.{Watching}
-use Rattle.rcu_graph.specs.Absence.{AreSameFor, IsChained, IsHistory, IsKeeperStep, IsLinkedKey}
-use Rattle.rcu_graph.specs.Absence.{IsOnIfOurs, arrived, aside, key_at, linked, next_of}
-use Rattle.rcu_graph.specs.Absence.{onwards, published}
+use Rattle.rcu_graph.specs.Absence.{AreSameFor, IsChained, IsHistory, IsLinkedKey, IsOnIfOurs}
+use Rattle.rcu_graph.specs.Absence.{IsWriterStep, arrived, aside, key_at, linked, next_of, onwards}
+use Rattle.rcu_graph.specs.Absence.{published}
 use Rattle.rcu_graph.specs.Graph.{word_to}
-use Rattle.rcu_graph.specs.Keeper.{after_look}
+use Rattle.rcu_graph.specs.Writer.{after_look}
 use Rattle.rcu_graph.specs.Nodes.{MayRead, latest_in, node_at, nodes_in, renewed, state_at}
-use Rattle.rcu_graph.specs.Tended.{AreLed, AreTrimmed, filled_with}
+use Rattle.rcu_graph.specs.Tended.{AreCollected, AreLed, filled_with}
 use Rattle.rcu_graph.specs.declared.known.Planned.{Planned}
 use Rattle.rcu_graph.specs.declared.known.Node.{Node}
 use Rattle.rcu_graph.specs.declared.node_state.NodeState.TheVariants.{Free, Live}
 use Rattle.rcu_graph.specs.declared.plan.Plan.{Plan}
-use Rattle.rcu_graph.proofs.Chains.{same_aged, unseen_where_free}
+use Rattle.rcu_graph.proofs.Chains.{same_reclaimed, unseen_where_free}
 use Rattle.rcu_graph.proofs.Counting.{kept_at, other_node}
 use Rattle.rcu_graph.proofs.Stores.{linked_on, reached_on}
 use Rattle.rcu_map.specs.Chains.{AreOfOneBucket, IsMap}
@@ -79,10 +79,10 @@ module _ (ours : List ℕ → Bool) (opened root : ℕ) where
       chains (suc t) up = rest.chained t (omega (arith, up))
 
       goes : (t : ℕ) → t < suc last + more
-          → IsKeeperStep ours opened root (then_to (suc last) first later t)
+          → IsWriterStep ours opened root (then_to (suc last) first later t)
           (then_to (suc last) first later (suc t))
       goes zero up =
-          subst (IsKeeperStep ours opened root (first 0))
+          subst (IsWriterStep ours opened root (first 0))
           (sym (starts_as last (λ n. first (suc n)) later e)) (h.steps 0 (omega arith))
       goes (suc t) up = rest.steps t (omega (arith, up))
 
@@ -227,7 +227,7 @@ module _ (holds : List ℕ → Type 0) (buckets seed width count opened key : �
           (filled_same node f free.free refl free.inside) key k
       linked_before (by_passing previous next live is) k = k
 
-      pub stores : (one : IsOneStore A S) → IsKeeperStep ours opened root (filled_in A S one) S
+      pub stores : (one : IsOneStore A S) → IsWriterStep ours opened root (filled_in A S one) S
       stores (by_put previous node words next live free is) =
           let f : Node → Node = filled_with (map word_to (next ∷ [])) words in
           let F : List Node = renewed A node f in
@@ -244,7 +244,7 @@ module _ (holds : List ℕ → Type 0) (buckets seed width count opened key : �
 
   -- right after it
   module _ (S B : List Node) (m : IsMap holds buckets seed width count B)
-      (t : AreTrimmed buckets 1 S B) where
+      (t : AreCollected buckets 1 S B) where
     live_in_stored : (i : ℕ) → i < buckets → state_at S i ≡ Live
     live_in_stored i is_root = ⊎_elim
         (λ (same : state_at B i ≡ state_at S i). sym same ∙ m.tended.rooted i is_root)
@@ -337,8 +337,8 @@ module _ (holds : List ℕ → Type 0) (plan : Plan) (opened key : ℕ) (some : 
     abbrev B : List Node
     B = nodes_in now.view.client.known
 
-    trimmed : AreTrimmed plan.roots 1 by.stored B
-    trimmed = subst (λ (p : Plan). AreTrimmed p.roots 1 by.stored B) m.planned by.trimmed
+    collected : AreCollected plan.roots 1 by.stored B
+    collected = subst (λ (p : Plan). AreCollected p.roots 1 by.stored B) m.planned by.collected
 
     led : AreLed (λ _ from to. GoesUp plan.roots plan.seed from to) 1 by.stored
     led = subst (λ (p : Plan). AreLed (λ _ from to. GoesUp p.roots p.seed from to) 1 by.stored)
@@ -349,17 +349,17 @@ module _ (holds : List ℕ → Type 0) (plan : Plan) (opened key : ℕ) (some : 
     call_chained (suc zero) low = chained_before holds plan.roots plan.seed plan.words plan.nodes
         opened key some wide up A m.map by.stored by.one
     call_chained (suc (suc zero)) low = chained_after holds plan.roots plan.seed plan.words
-        plan.nodes opened key some wide up by.stored B n.map trimmed led
+        plan.nodes opened key some wide up by.stored B n.map collected led
     call_chained (suc (suc (suc t))) low = is_chained now n
 
-    call_steps : (t : ℕ) → t < 3 → IsKeeperStep mine opened start (moments_in before now by t)
+    call_steps : (t : ℕ) → t < 3 → IsWriterStep mine opened start (moments_in before now by t)
         (moments_in before now by (suc t))
     call_steps zero low = aside (unseen_before holds plan.roots plan.seed plan.words plan.nodes
         opened key some wide up A m.map by.stored by.one)
     call_steps (suc zero) low = stores holds plan.roots plan.seed plan.words plan.nodes opened key
         some wide up A m.map by.stored by.one
     call_steps (suc (suc zero)) low = aside (unseen_after holds plan.roots plan.seed plan.words
-        plan.nodes opened key some wide up by.stored B n.map trimmed)
+        plan.nodes opened key some wide up by.stored B n.map collected)
     call_steps (suc (suc (suc t))) low = absurd (omega (arith, low))
 
     call_history : IsHistory mine opened start 3 (moments_in before now by)
@@ -370,7 +370,7 @@ module _ (holds : List ℕ → Type 0) (plan : Plan) (opened key : ℕ) (some : 
     call_linked was is (suc zero) low = linked_before holds plan.roots plan.seed plan.words
         plan.nodes opened key some wide up A m.map by.stored by.one (links_it before m was)
     call_linked was is (suc (suc zero)) low = linked_after holds plan.roots plan.seed plan.words
-        plan.nodes opened key some wide up by.stored B n.map trimmed (links_it now n is)
+        plan.nodes opened key some wide up by.stored B n.map collected (links_it now n is)
     call_linked was is (suc (suc (suc t))) low = links_it now n is
 
   module _ (before now : Watching Planned) (number : ℕ) (opens : is_open_at number opened ≡ true)
@@ -380,13 +380,13 @@ module _ (holds : List ℕ → Type 0) (plan : Plan) (opened key : ℕ) (some : 
     look_chained zero low = is_chained before m
     look_chained (suc t) low = is_chained now n
 
-    look_steps : (t : ℕ) → t < 1 → IsKeeperStep mine opened start (around before now t)
+    look_steps : (t : ℕ) → t < 1 → IsWriterStep mine opened start (around before now t)
         (around before now (suc t))
     look_steps zero low = aside
         (subst (λ (k : Watching Planned). AreSameFor opened (nodes_in before.view.client.known)
         (nodes_in k.view.client.known))
         (sym is)
-        (same_aged opened number _ (nodes_in before.view.client.known)
+        (same_reclaimed opened number _ (nodes_in before.view.client.known)
         (le-max_left number (latest_in before.view.client.known)) opens))
     look_steps (suc t) low = absurd (omega (arith, low))
 
@@ -402,7 +402,7 @@ module _ (holds : List ℕ → Type 0) (plan : Plan) (opened key : ℕ) (some : 
   map_at_end now (changed before _ run by m) = m
   map_at_end now (looked before _ number run opens is m) = m
 
-  -- a run ends where its keeper is
+  -- a run ends where its writer is
   ends_at : (now : Watching Planned) (run : Run now)
       → nodes_at now run (last_at now run) ≡ nodes_in now.view.client.known
   ends_at now (begun _ m) = refl

@@ -6,14 +6,14 @@ use Rattle.rcu_live.specs.CpuSeat.{Seated}
 use Rattle.rcu_live.specs.Watcher.{Watching}
 use Rattle.rcu_graph.specs.Nodes.{nodes_in}
 use Rattle.rcu_graph.specs.Tended.{AreAllUsed}
-use Rattle.rcu_graph.specs.declared.keeper.Full.{Full}
+use Rattle.rcu_graph.specs.declared.writer.Full.{Full}
 use Rattle.rcu_graph.specs.declared.known.Planned.{Planned}
 use Rattle.rcu_graph.specs.declared.known.Node.{Node}
 use Rattle.rcu_map.specs.Chains.{buckets_in}
 use Rattle.rcu_map.specs.Entries.{AreSameEntries, HasKey, IsEntryOf}
 use Rattle.rcu_map.specs.Keys.{key_in}
 use Rattle.rcu_map.specs.Puts.{HasAnswered, HasPutIn, Holds, IsPutIn, IsWanted, is_put}
-use Rattle.rcu_graph.specs.Puts.{IsFull}
+use Rattle.rcu_map.specs.Room.{LacksRoom}
 use Rattle.rcu_map.specs.Waits.{HasMadeRoom, HasPutInTime}
 use Rattle.rcu_map.specs.declared.put.Put.{Put}
 use Rattle.rcu_map.specs.declared.put.Put.TheVariants.{Insert, Replace, Upsert}
@@ -39,7 +39,7 @@ module _ {C : Type 0} (buckets : ℕ) (words : List ℕ) (there : Bool) (seat : 
     waited = λ full. absurd (takes_a_node buckets words there (nodes_in before.view.client.known)
         (nodes_in after.view.client.known) put.nodes full);
   }
-  put_at_once false same = (outside, record { seat_stays = refl; keeper_stays = same })
+  put_at_once false same = (outside, record { seat_stays = refl; writer_stays = same })
 
   -- and after a wait
   pub put_later : (now : Seated C) (looked : Watching Planned)
@@ -94,15 +94,16 @@ module _ {E : Type 0} (decode : List ℕ → E) (valid : E → Type 0) (key_of :
     (how : Put) (words : List ℕ) (before after : Watching Planned)
     (result : Result (Option E) Full)
     (a : HasAnswered decode valid key_of how key words before result after) where
-  -- no node was free
+  -- there was no room
   pub when_full : (full : Full) → result ≡ Err full
-      → IsWanted how (buckets_in before) (nodes_in before.view.client.known) key × IsFull before
-      after
+      → IsWanted how (buckets_in before) (nodes_in before.view.client.known) key
+      × LacksRoom before key
+      × (after ≡ before)
   when_full full e =
       let b = subst (λ (r : Result (Option E) Full).
       HasAnswered decode valid key_of how key words before r after)
       e a in
-      (b.wanted, b.full)
+      (b.wanted, b.full, b.unchanged)
 
   -- it was answered
   pub when_told : (old : Option E) → result ≡ Ok old

@@ -1,4 +1,4 @@
--- A run of a map's shared words beside an open section, and the keeper's calls over it.
+-- A run of a map's shared words beside an open section, and the writer's calls over it.
 use Rattle.std.specs.Prelude.{◌≡◌, ◌⊎◌, ◌+◌, ◌≤◌, ℕ, List}
 use Rattle.rcu_seq.specs.Numbers.{Number}
 use Rattle.rcu_live.specs.Watcher.{Watching}
@@ -17,7 +17,7 @@ since from moments t = moments (from + t)
 
 module _ (holds : List ℕ → Type 0) (plan : Plan) where
   -- the rule of a map holds at each moment, and this seat keeps it
-  abbrev pub IsMapOver : (keeper last : ℕ) → (ℕ → Moment) → Type 0
+  abbrev pub IsMapOver : (writer last : ℕ) → (ℕ → Moment) → Type 0
   IsMapOver = IsKeptOver (λ p. IsWhole holds p.words)
       (λ p _ from to. GoesUp p.roots p.seed from to) (λ p. root_words p.words) plan
 
@@ -28,19 +28,19 @@ module _ (holds : List ℕ → Type 0) (plan : Plan) where
 
   module _ (opened : Number) (moments : ℕ → Moment) where
     -- the calls of a run were made from the moment 0 to this one: between any two of them there is
-    -- a moment at which the keeper knew what it does there. Before the first one, or where there is
+    -- a moment at which the writer knew what it does there. Before the first one, or where there is
     -- none, it knew the same from the moment 0 on
     abbrev pub AreMadeOver : ℕ → (now : Watching Planned) → IsRun holds plan opened now → Type 0
     AreMadeOver t now (begun _ map) =
-        ((moments 0).keeper ≡ now.view.client.known)
-        × ((moments t).keeper ≡ now.view.client.known)
+        ((moments 0).writer ≡ now.view.client.known)
+        × ((moments t).writer ≡ now.view.client.known)
     AreMadeOver t now (changed before _ run by map) =
-        ((moments t).keeper ≡ now.view.client.known)
+        ((moments t).writer ≡ now.view.client.known)
         × (s : ℕ)
         × (s ≤ t)
         × AreMadeOver s before run
     AreMadeOver t now (looked before _ number run opens is map) =
-        ((moments t).keeper ≡ now.view.client.known)
+        ((moments t).writer ≡ now.view.client.known)
         × (s : ℕ)
         × (s ≤ t)
         × AreMadeOver s before run

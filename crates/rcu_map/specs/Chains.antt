@@ -1,5 +1,5 @@
--- The chains of a map, as its keeper knows them.
-use Rattle.std.specs.Prelude.{◌≡◌, ◌<◌, ◌≤◌, ℕ, suc, List, length}
+-- The chains of a map, as its writer knows them.
+use Rattle.std.specs.Prelude.{◌≡◌, ◌<◌, ◌≤◌, ◌+◌, ◌-◌, ℕ, suc, List, length}
 use Rattle.rcu_live.specs.Watcher.{Watching}
 use Rattle.rcu_graph.specs.Absence.{key_at, next_of}
 use Rattle.rcu_graph.specs.Nodes.{node_at, state_at}
@@ -13,22 +13,28 @@ use Rattle.rcu_graph.specs.declared.plan.Plan.{Plan}
 use Rattle.rcu_map.specs.Entries.{entries_in}
 use Rattle.rcu_map.specs.Keys.{GoesUp, IsWhole, bucket_in, multiplier_of, root_words}
 
--- how many buckets the map of a keeper has, and by which number it multiplies its keys
+-- how many buckets the map of a writer has, and by which number it multiplies its keys
 abbrev pub buckets_in : Watching Planned → ℕ
-buckets_in keeper = keeper.view.client.plan.roots
+buckets_in writer = writer.view.client.plan.roots
 
 abbrev pub seed_in : Watching Planned → ℕ
-seed_in keeper = keeper.view.client.plan.seed
+seed_in writer = writer.view.client.plan.seed
 
--- the plan of a map of so many buckets, words an entry and nodes, and of this seed
+-- the plan of a map of so many buckets, words an entry and entries, and of this seed: beside a node
+-- for each of the buckets and of the entries it has one more, so that a full map can replace
 abbrev pub plan_of_map : ℕ → ℕ → ℕ → ℕ → Plan
-plan_of_map buckets width count seed = plan_of buckets 1 width count (multiplier_of seed)
+plan_of_map buckets width entries seed =
+    plan_of buckets 1 width (buckets + entries + 1) (multiplier_of seed)
 
--- a map may have so many buckets, words an entry and nodes: an entry has a key and a word more
-pub record HasSizes (buckets width count : ℕ) : Type 0 where
+-- how many entries a map of this plan may have
+abbrev pub capacity : Plan → ℕ
+capacity plan = plan.nodes - plan.roots - 1
+
+-- a map may have so many buckets, words an entry and entries: an entry has a key and a word more
+pub record HasSizes (buckets width entries : ℕ) : Type 0 where
   pub some : 0 < buckets
   pub wide : 2 ≤ width
-  pub graph : IsSized (plan_of_map buckets width count 0)
+  pub graph : IsSized (plan_of_map buckets width entries 0)
 
 -- both nodes are live, and of one bucket
 pub record AreOfOneBucket (buckets seed : ℕ) (nodes : List Node) (i j : ℕ) : Type 0 where
@@ -59,7 +65,7 @@ pub record IsMap (holds : List ℕ → Type 0) (buckets seed width count : ℕ)
       i ≡ j
 
 -- of this plan, whose roots are those of the buckets, the nodes are those of a map with so many
--- entries, of two words or more: of so many, where that is no 0
+-- entries, which are no more than it may have, of two words or more: of so many, where that is no 0
 pub record IsKept (holds : List ℕ → Type 0) (width : ℕ) (plan : Plan) (nodes : List Node)
     (len : ℕ) : Type 0 where
   pub some : 0 < plan.roots
@@ -68,3 +74,4 @@ pub record IsKept (holds : List ℕ → Type 0) (width : ℕ) (plan : Plan) (nod
   pub words : 0 < width → plan.words ≡ width
   pub map : IsMap holds plan.roots plan.seed plan.words plan.nodes nodes
   pub count : len ≡ entries_in plan.roots nodes
+  pub most : len ≤ capacity plan

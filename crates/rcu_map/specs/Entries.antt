@@ -1,11 +1,11 @@
--- The entries of a map, as its nodes have them, and what a keeper's calls make of them.
+-- The entries of a map, as its nodes have them, and what a writer's calls make of them.
 use Rattle.std.specs.Prelude.{◌≡◌, ◌≢◌, ◌⊎◌, ◌↔◌, ◌≤◌, ℕ, List, drop}
 use Rattle.rcu_graph.specs.Absence.{key_at}
 use Rattle.rcu_graph.specs.Nodes.{node_at, state_at}
 use Rattle.rcu_graph.specs.Puts.{IsFreeNode}
-use Rattle.rcu_graph.specs.Trimming.{live_in}
+use Rattle.rcu_graph.specs.Collecting.{live_in}
 use Rattle.rcu_graph.specs.declared.known.Node.{Node}
-use Rattle.rcu_graph.specs.declared.node_state.NodeState.TheVariants.{Left, Live}
+use Rattle.rcu_graph.specs.declared.node_state.NodeState.TheVariants.{Live, Unlinked}
 use Rattle.rcu_map.specs.Keys.{key_in}
 
 -- the node i has an entry: it is live, and the root of no bucket
@@ -50,7 +50,7 @@ pub record IsInserted (buckets : ℕ) (before : List Node) (words : List ℕ)
 
 -- the entry of these words was put in the place of the one that had its key: beside those of other
 -- keys it is in the map, and nothing else. It has a node that was free, the node of the old one was
--- left, and the other nodes are the same
+-- unlinked, and the other nodes are the same
 pub record IsReplaced (buckets : ℕ) (before : List Node) (words : List ℕ)
     (after : List Node) : Type 0 where
   pub entries : (w : List ℕ)
@@ -62,18 +62,18 @@ pub record IsReplaced (buckets : ℕ) (before : List Node) (words : List ℕ)
   pub is : (node_at after node).words ≡ words
   pub old : ℕ
   pub had : IsNodeOf buckets before (key_in words) old
-  pub left : state_at after old ≡ Left
+  pub unlinked : state_at after old ≡ Unlinked
   pub stays : (node_at after old).words ≡ (node_at before old).words
   pub others : (i : ℕ) → i ≢ node → i ≢ old → IsSame before after i
 
 -- the entry of this key was taken out: those of other keys are in the map, and nothing else. Its
--- node was left, and the other nodes are the same
+-- node was unlinked, and the other nodes are the same
 pub record IsRemoved (buckets : ℕ) (before : List Node) (key : ℕ) (after : List Node) : Type 0 where
   pub entries : (w : List ℕ)
       → HasEntry buckets after w ↔ (HasEntry buckets before w × (key_in w ≢ key))
   pub old : ℕ
   pub had : IsNodeOf buckets before key old
-  pub left : state_at after old ≡ Left
+  pub unlinked : state_at after old ≡ Unlinked
   pub stays : (node_at after old).words ≡ (node_at before old).words
   pub others : (i : ℕ) → i ≢ old → IsSame before after i
 

@@ -1,6 +1,7 @@
 pub mod After
 pub mod Beside
 pub mod Chains
+pub mod Compared
 pub mod Cursors
 pub mod Entries
 pub mod Found
@@ -9,6 +10,7 @@ pub mod Listed
 pub mod Listing
 pub mod Nexts
 pub mod Puts
+pub mod Room
 pub mod Runs
 pub mod Splices
 pub mod Waits

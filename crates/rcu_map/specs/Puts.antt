@@ -1,19 +1,19 @@
--- What a map's keeper makes of an entry that it is to put in, and of a key that it is to take out.
+-- What a map's writer makes of an entry that it is to put in, and of a key that it is to take out.
 use Rattle.std.specs.Prelude.{◌≡◌, ℕ, Bool, true, false, List, Option, Some, None, Result, IfOk}
 use Rattle.std.specs.Prelude.{IfSome, OnErr, is_some}
 use Rattle.rcu_live.specs.Watcher.{Watching}
 use Rattle.rcu_graph.specs.Graph.{IsOfSameGraph}
-use Rattle.rcu_graph.specs.Keeper.{after_store}
+use Rattle.rcu_graph.specs.Writer.{after_store}
 use Rattle.rcu_graph.specs.Nodes.{nodes_in}
-use Rattle.rcu_graph.specs.Tended.{AreLed, AreTrimmed}
-use Rattle.rcu_graph.specs.declared.keeper.Full.{Full}
+use Rattle.rcu_graph.specs.Tended.{AreCollected, AreLed}
+use Rattle.rcu_graph.specs.declared.writer.Full.{Full}
 use Rattle.rcu_graph.specs.declared.known.Planned.{Planned}
 use Rattle.rcu_graph.specs.declared.known.Node.{Node}
 use Rattle.rcu_map.specs.Chains.{buckets_in, seed_in}
 use Rattle.rcu_map.specs.Entries.{HasKey, IsEntryOf, IsInserted, IsReplaced}
 use Rattle.rcu_map.specs.Keys.{GoesUp}
 use Rattle.rcu_map.specs.Splices.{IsOneStore}
-use Rattle.rcu_graph.specs.Puts.{IsFull}
+use Rattle.rcu_map.specs.Room.{LacksRoom}
 use Rattle.rcu_map.specs.declared.put.Put.{Put}
 use Rattle.rcu_map.specs.declared.put.Put.TheVariants.{Insert, Replace, Upsert}
 
@@ -48,14 +48,14 @@ Holds decode valid key_of buckets nodes key (Some entry) =
 abbrev pub IsOfKey : {E : Type 0} → (E → Type 0) → (E → ℕ) → ℕ → Option E → Type 0
 IsOfKey valid key_of key old = IfSome old (λ entry. (key_of entry ≡ key) × valid entry)
 
--- the keeper changed the nodes by one store, after which each chain goes up, and left what no live
--- node leads to any more. So a section sees the entries as they were, or as they are
+-- the writer changed the nodes by one store, after which each chain goes up, and unlinked what no
+-- live node leads to any more. So a section sees the entries as they were, or as they are
 pub record IsByOneStore (before after : Watching Planned) : Type 0 where
   pub stored : List Node
   pub one : IsOneStore (nodes_in before.view.client.known) stored
   pub state : after ≡ after_store before stored (nodes_in after.view.client.known)
   pub led : AreLed (λ _ from to. GoesUp (buckets_in before) (seed_in before) from to) 1 stored
-  pub trimmed : AreTrimmed (buckets_in before) 1 stored (nodes_in after.view.client.known)
+  pub collected : AreCollected (buckets_in before) 1 stored (nodes_in after.view.client.known)
 
 -- so it made this change
 pub record HasChanged (change : List Node → List Node → Type 0)
@@ -69,14 +69,14 @@ abbrev pub IsPutIn : ℕ → List ℕ → Bool → List Node → List Node → T
 IsPutIn buckets words true before after = IsReplaced buckets before words after
 IsPutIn buckets words false before after = IsInserted buckets before words after
 
--- the keeper put the entry of these words in, one of its key being there or none; or it did nothing
+-- the writer put the entry of these words in, one of its key being there or none; or it did nothing
 abbrev pub HasPutIn : ℕ → List ℕ → Bool → Bool → Watching Planned → Watching Planned → Type 0
 HasPutIn buckets words there true before after =
     HasChanged (IsPutIn buckets words there) before after
 HasPutIn buckets words there false before after = after ≡ before
 
--- the keeper was to put an entry of this key and these words in: it returned the one that had the
--- key, and put the new one in where that was wanted; or it needed a node, and none was free
+-- the writer was to put an entry of this key and these words in: it returned the one that had the
+-- key, and put the new one in where that was wanted; or that was wanted, and there was no room
 pub record HasAnswered {E : Type 0} (decode : List ℕ → E) (valid : E → Type 0) (key_of : E → ℕ)
     (how : Put) (key : ℕ) (words : List ℕ) (before : Watching Planned)
     (result : Result (Option E) Full) (after : Watching Planned) : Type 0
@@ -87,6 +87,8 @@ pub record HasAnswered {E : Type 0} (decode : List ℕ → E) (valid : E → Typ
         old)
     pub put : IfOk result (λ old.
         HasPutIn (buckets_in before) words (is_some old) (is_put how (is_some old)) before after)
+    pub room : IfOk result (λ old. is_put how (is_some old) ≡ true → ¬ LacksRoom before key)
     pub wanted : OnErr result (IsWanted how (buckets_in before) (nodes_in before.view.client.known)
         key)
-    pub full : OnErr result (IsFull before after)
+    pub full : OnErr result (LacksRoom before key)
+    pub unchanged : OnErr result (after ≡ before)

@@ -1,10 +1,10 @@
--- What a section sees of its keeper's calls, where it began at this number.
+-- What a section sees of its writer's calls, where it began at this number.
 use Rattle.std.specs.Prelude.{◌≡◌, ℕ, zero, suc, ◌+◌, Bool, true, List, [], ◌∷◌, map, nat_eq}
 use Rattle.rcu_seq.specs.Numbers.{Number}
 use Rattle.rcu_live.specs.Numbers.{is_open_at}
 use Rattle.rcu_live.specs.Watcher.{Watching}
 use Rattle.rcu_graph.specs.Graph.{word_to}
-use Rattle.rcu_graph.specs.Keeper.{after_look}
+use Rattle.rcu_graph.specs.Writer.{after_look}
 use Rattle.rcu_graph.specs.Nodes.{nodes_in, renewed}
 use Rattle.rcu_graph.specs.Tended.{filled_with}
 use Rattle.rcu_graph.specs.declared.known.Planned.{Planned}
@@ -47,15 +47,15 @@ then_to zero first later t = later t
 then_to (suc last) first later zero = first zero
 then_to (suc last) first later (suc t) = then_to last (λ n. first (suc n)) later t
 
--- a keeper's nodes are those of a map of this plan
-pub record IsMapOf (holds : List ℕ → Type 0) (plan : Plan) (keeper : Watching Planned) : Type 0
+-- a writer's nodes are those of a map of this plan
+pub record IsMapOf (holds : List ℕ → Type 0) (plan : Plan) (writer : Watching Planned) : Type 0
   where
-    pub planned : keeper.view.client.plan ≡ plan
+    pub planned : writer.view.client.plan ≡ plan
     pub map : IsMap holds plan.roots plan.seed plan.words plan.nodes
-        (nodes_in keeper.view.client.known)
+        (nodes_in writer.view.client.known)
 
 module _ (holds : List ℕ → Type 0) (plan : Plan) (opened : Number) where
-  -- since the section began the keeper has come to this state by calls: each changed the map by one
+  -- since the section began the writer has come to this state by calls: each changed the map by one
   -- store, or looked at a number at which the section may be open
   pub data IsRun : Watching Planned → Type 0 where
     begun : (now : Watching Planned) → IsMapOf holds plan now → IsRun now

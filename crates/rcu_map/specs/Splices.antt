@@ -4,12 +4,12 @@ use Rattle.rcu_live.specs.Board.{Object}
 use Rattle.rcu_live.specs.Watcher.{Watching}
 use Rattle.rcu_graph.specs.Absence.{key_at, next_of}
 use Rattle.rcu_graph.specs.Graph.{word_to}
-use Rattle.rcu_graph.specs.Keeper.{IsKeeperOf, after_store}
+use Rattle.rcu_graph.specs.Writer.{IsWriterOf, after_store}
 use Rattle.rcu_graph.specs.Nodes.{IsTarget, node_at, nodes_in, state_at}
 use Rattle.rcu_graph.specs.Opening.{AreWhole}
 use Rattle.rcu_graph.specs.Puts.{AreKept, IsFreeNode, put}
 use Rattle.rcu_graph.specs.Steps.{IsClaimed}
-use Rattle.rcu_graph.specs.Tended.{AreLed, AreTrimmed, relinked}
+use Rattle.rcu_graph.specs.Tended.{AreCollected, AreLed, relinked}
 use Rattle.rcu_graph.specs.declared.known.Planned.{Planned}
 use Rattle.rcu_graph.specs.declared.known.Node.{Node}
 use Rattle.rcu_graph.specs.declared.node_state.NodeState.TheVariants.{Live}
@@ -35,7 +35,7 @@ pub record IsPlace (buckets seed key : ℕ) (nodes : List Node) (previous : ℕ)
 pub record CanKeep (fits : List ℕ → Type 0) (first : ℕ → List ℕ) (graph : Object Plan)
     (seat : Watching Planned) : Type 0 where
   pub one : graph.plan.links ≡ 1
-  pub keeper : IsKeeperOf graph seat
+  pub writer : IsWriterOf graph seat
   pub nodes : IsClaimed first graph.plan.roots graph.plan.links graph.plan.words graph.plan.nodes
       seat.view.client.known
   pub whole : AreWhole fits first graph.plan
@@ -50,18 +50,18 @@ pub data IsOneStore (before stored : List Node) : Type 0 where
       → state_at before previous ≡ Live → stored ≡ relinked before previous 0 next
       → IsOneStore before stored
 
--- the keeper may lead the one node to where the other one leads
-pub record CanPass (joins : ℕ → List ℕ → List ℕ → Type 0) (keeper : Watching Planned)
+-- the writer may lead the one node to where the other one leads
+pub record CanPass (joins : ℕ → List ℕ → List ℕ → Type 0) (writer : Watching Planned)
     (previous old : ℕ) : Type 0 where
-  pub one : keeper.view.client.plan.links ≡ 1
-  pub few : length (nodes_in keeper.view.client.known) ≡ keeper.view.client.plan.nodes
-  pub live : state_at (nodes_in keeper.view.client.known) previous ≡ Live
-  pub inside : old < keeper.view.client.plan.nodes
-  pub target : IsTarget (joins 0) (node_at (nodes_in keeper.view.client.known) previous).words
-      (nodes_in keeper.view.client.known) (next_of (nodes_in keeper.view.client.known) old)
+  pub one : writer.view.client.plan.links ≡ 1
+  pub few : length (nodes_in writer.view.client.known) ≡ writer.view.client.plan.nodes
+  pub live : state_at (nodes_in writer.view.client.known) previous ≡ Live
+  pub inside : old < writer.view.client.plan.nodes
+  pub target : IsTarget (joins 0) (node_at (nodes_in writer.view.client.known) previous).words
+      (nodes_in writer.view.client.known) (next_of (nodes_in writer.view.client.known) old)
 
 -- the previous node was led to where the old one leads, by one store, and what no live node leads
--- to any more was left
+-- to any more was unlinked
 pub record HasPassed (fits : List ℕ → Type 0) (joins : ℕ → List ℕ → List ℕ → Type 0)
     (before now : Watching Planned) (previous old : ℕ) : Type 0 where
   pub next : Option ℕ
@@ -72,13 +72,13 @@ pub record HasPassed (fits : List ℕ → Type 0) (joins : ℕ → List ℕ → 
   pub kept : AreKept fits joins before.view.client.plan.roots before.view.client.plan.nodes
       (nodes_in now.view.client.known)
   pub led : AreLed joins 1 (relinked (nodes_in before.view.client.known) previous 0 next)
-  pub trimmed : AreTrimmed before.view.client.plan.roots 1
+  pub collected : AreCollected before.view.client.plan.roots 1
       (relinked (nodes_in before.view.client.known) previous 0 next)
       (nodes_in now.view.client.known)
 
--- the keeper has the graph's nodes as its seat had them
+-- the writer has the graph's nodes as its seat had them
 pub record HasKept (fits : List ℕ → Type 0) (joins : ℕ → List ℕ → List ℕ → Type 0)
-    (graph : Object Plan) (seat keeper : Watching Planned) : Type 0 where
-  pub same : keeper ≡ seat
+    (graph : Object Plan) (seat writer : Watching Planned) : Type 0 where
+  pub same : writer ≡ seat
   pub kept : AreKept fits joins graph.plan.roots graph.plan.nodes
-      (nodes_in keeper.view.client.known)
+      (nodes_in writer.view.client.known)

@@ -1,26 +1,23 @@
 -- What a call that waits for a free node leaves.
-use Rattle.std.specs.Prelude.{◌≡◌, ℕ, ◌<◌, Bool, true, false, List, Err, Ok, Result, length}
+use Rattle.std.specs.Prelude.{◌≡◌, ℕ, Bool, true, false, List, Err, Ok, Result}
 use Rattle.rcu_seq.specs.declared.fault.Fault.TheVariants.{Exhausted}
 use Rattle.rcu_live.specs.CpuSeat.{Seated}
 use Rattle.rcu_live.specs.Watcher.{Watching}
-use Rattle.rcu_graph.specs.Nodes.{nodes_in, state_at}
+use Rattle.rcu_graph.specs.Nodes.{nodes_in}
 use Rattle.rcu_graph.specs.Puts.{IsFreeNode}
 use Rattle.rcu_graph.specs.Tended.{AreAllUsed}
 use Rattle.rcu_graph.specs.Waits.{HasStayed}
 use Rattle.rcu_graph.specs.Waits as graph
 use Rattle.rcu_graph.specs.declared.known.Planned.{Planned}
 use Rattle.rcu_graph.specs.declared.known.Node.{Node}
-use Rattle.rcu_graph.specs.declared.node_state.NodeState.TheVariants.{Live}
+use Rattle.rcu_map.specs.Chains.{buckets_in}
 use Rattle.rcu_map.specs.Entries.{AreSameEntries}
 use Rattle.rcu_map.specs.Puts.{HasChanged, IsPutIn}
+use Rattle.rcu_map.specs.Room.{IsOneTooMany}
 use Rattle.rcu_map.specs.declared.put.NotPut.{NotPut}
 use Rattle.rcu_map.specs.declared.put.NotPut.TheVariants.{Fault, Full}
 
--- each node is live: none is free, and none becomes free before an entry is taken out
-abbrev pub AreAllLive : List Node → Type 0
-AreAllLive nodes = (i : ℕ) → i < length nodes → state_at nodes i ≡ Live
-
--- the keeper waited until a node was free, and no entry changed
+-- the writer waited until a node was free, and no entry changed
 pub record HasMadeRoom {C : Type 0} (buckets : ℕ) (seat now : Seated C)
     (before after : Watching Planned) : Type 0 where
   pub made : graph.HasMadeRoom seat now before after
@@ -34,27 +31,27 @@ pub record HasGivenUp {C : Type 0} (buckets : ℕ) (seat now : Seated C)
   pub entries : AreSameEntries buckets (nodes_in before.view.client.known)
       (nodes_in after.view.client.known)
 
--- what a wait for a free node comes to, outside of sections: each node is live, and nothing
--- happened; or some node is not, and then one is free, or the wait was given up
+-- what a wait for room for an entry of this key comes to, outside of sections: the entry is one too
+-- many, and nothing happened; or it is not, and then a node is free, or the wait was given up
 abbrev pub WaitedFor : {C : Type 0} → ℕ → Seated C → Seated C → Watching Planned
     → Result (Unit {0}) NotPut → Watching Planned → Type 0
-WaitedFor buckets seat now before (Ok _) after =
-    (¬ AreAllLive (nodes_in before.view.client.known)) × HasMadeRoom buckets seat now before after
-WaitedFor buckets seat now before (Err Full) after =
-    AreAllLive (nodes_in before.view.client.known) × HasStayed seat now before after
-WaitedFor buckets seat now before (Err (Fault fault)) after =
-    (¬ AreAllLive (nodes_in before.view.client.known))
+WaitedFor key seat now before (Ok _) after =
+    (¬ IsOneTooMany before key) × HasMadeRoom (buckets_in before) seat now before after
+WaitedFor key seat now before (Err Full) after =
+    IsOneTooMany before key × HasStayed seat now before after
+WaitedFor key seat now before (Err (Fault fault)) after =
+    (¬ IsOneTooMany before key)
     × (fault ≡ Exhausted)
-    × HasGivenUp buckets seat now before after
+    × HasGivenUp (buckets_in before) seat now before after
 
--- the keeper waited for a free node, and then made this change
+-- the writer waited for a free node, and then made this change
 pub record HasChangedLater {C : Type 0} (change : List Node → List Node → Type 0) (buckets : ℕ)
     (seat now : Seated C) (before after : Watching Planned) : Type 0 where
   pub looked : Watching Planned
   pub waited : HasMadeRoom buckets seat now before looked
   pub changed : HasChanged change looked after
 
--- the keeper of a caller with this seat, which is outside of sections, made this change: at once
+-- the writer of a caller with this seat, which is outside of sections, made this change: at once
 -- where a node was free, and else as soon as one was
 pub record HasChangedInTime {C : Type 0} (change : List Node → List Node → Type 0) (buckets : ℕ)
     (seat now : Seated C) (before after : Watching Planned) : Type 0 where
@@ -65,7 +62,7 @@ pub record HasChangedInTime {C : Type 0} (change : List Node → List Node → T
   pub waited : AreAllUsed (nodes_in before.view.client.known)
       → HasChangedLater change buckets seat now before after
 
--- the keeper of such a caller put the entry of these words in so, one of its key being there or
+-- the writer of such a caller put the entry of these words in so, one of its key being there or
 -- none; or nothing happened
 abbrev pub HasPutInTime : {C : Type 0} → ℕ → List ℕ → Bool → Bool → Seated C → Seated C
     → Watching Planned → Watching Planned → Type 0

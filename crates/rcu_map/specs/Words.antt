@@ -1,6 +1,6 @@
 -- Entries as the words that they are kept in.
 use Rattle.std.specs.Prelude.{ℕ, Bool, true, false, List, Option, Some, None, Result, Ok, Err}
-use Rattle.rcu_graph.specs.declared.keeper.Full.{Full}
+use Rattle.rcu_graph.specs.declared.writer.Full.{Full}
 
 -- words that tell themselves: how many there are, and what they are of, is their user's matter
 abbrev pub as_words : List ℕ → List ℕ

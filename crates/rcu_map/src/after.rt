@@ -56,7 +56,7 @@ impl<E: Entry<W>, const W: usize, P: Within<MapRule<E, W>>> Map<E, W, P> {
     /// the map, so whoever goes over the entries keeps the last key, and no cursor.
     ///
     /// It takes two loads for each node of the chains from the key's bucket up to there, and one
-    /// for each word of the entry but the key. It ends, whatever the keeper does meanwhile.
+    /// for each word of the entry but the key. It ends, whatever the writer does meanwhile.
     pub fn next_after(&self, seat: &mut MapSeat<E, W, P>, key: u64) -> Option<E>
         requires walking { IsWalking self.now (seat_part P.lens seat.old) }
         ensures same { seat.new ≡ after_word_step seat.old

@@ -1,28 +1,33 @@
-//! What the words of runs of a keeper's calls say.
+//! The definitions of runs of a writer's calls.
 ghost use Rattle.std.specs.Prelude.{◌≡◌, ◌↔◌, ◌≤◌, ◌∷◌, ℕ, Bool, Err, List, None, Ok, Some};
 ghost use Rattle.std.specs.Prelude.{false, true};
 ghost use Rattle.rcu_live.specs.Numbers.{is_open_at};
 ghost use Rattle.rcu_live.specs.Watcher.{Watching};
 ghost use Rattle.rcu_graph.specs.Beside.{Moment};
-ghost use Rattle.rcu_graph.specs.Keeper.{after_look};
+ghost use Rattle.rcu_graph.specs.Writer.{after_look};
 ghost use Rattle.rcu_graph.specs.Nodes.{nodes_in, stored_in};
-ghost use Rattle.rcu_graph.specs.declared.keeper.Full.{Full};
+ghost use Rattle.rcu_graph.specs.Puts.{IsFreeNode};
+ghost use Rattle.rcu_graph.specs.declared.writer.Full.{Full};
+ghost use Rattle.rcu_graph.specs.declared.known.Node.{Node};
 ghost use Rattle.rcu_graph.specs.declared.known.Planned.{Planned};
 ghost use Rattle.rcu_graph.specs.declared.plan.Plan.{Plan};
 ghost use Rattle.rcu_map.specs.Beside.{AreMadeOver, HadEntry, HadKey};
-ghost use Rattle.rcu_map.specs.Chains.{HasSizes, IsMap};
+ghost use Rattle.rcu_map.specs.Chains.{HasSizes, IsMap, buckets_in, capacity, plan_of_map};
+ghost use Rattle.rcu_map.specs.Compared.{IsAsRead, compared};
 ghost use Rattle.rcu_map.specs.Entries.{HasEntry, HasKey};
 ghost use Rattle.rcu_map.specs.Keys.{key_in};
 ghost use Rattle.rcu_map.specs.Puts.{HasChanged, IsByOneStore, IsPutIn};
+ghost use Rattle.rcu_map.specs.Room.{IsAtCapacity, IsNoneFreeYet, LacksRoom};
 ghost use Rattle.rcu_map.specs.Words.{answered, as_words, words_if};
 ghost use Rattle.rcu_map.specs.Runs.{HasKeyThroughout, IsMapOf, IsRun, begun, changed};
+ghost use Rattle.rcu_map.specs.declared.compared.Compared.{Compared};
 
 use crate::entry::Entry;
 
-/// A keeper has the map of a plan where it knows of that plan, and its nodes are a map's of the
-/// plan's sizes. Such a map begins a run. It goes on by each call that puts an entry in, and by
-/// each look at a number at which the section may be open. A key that was put in is there, in the
-/// place of another entry or not. One that is there throughout is there at the end.
+/// A writer has the map of a plan if it knows that plan, and its nodes are those of a map of the
+/// plan's sizes. Such a map begins a run. The run goes on by each call that puts an entry, and by
+/// each look at a number at which the section may be open. A key that was put is there, whether or
+/// not it replaced another entry. One that is there throughout is there at the end.
 pub fn runs_go_on_by_calls<E: Entry<W>, const W: usize>()
     ensures map { (plan : Plan) (now : Watching Planned) → now.view.client.plan ≡ plan →
         IsMap E.holds plan.roots plan.seed plan.words plan.nodes
@@ -44,13 +49,13 @@ pub fn runs_go_on_by_calls<E: Entry<W>, const W: usize>()
         HasKey plan.roots (nodes_in now.view.client.known) key }
 {}
 
-/// A change of a map is one store, which is the latest one in the keeper's view.
+/// A change of a map is one store, which is the latest one in the writer's view.
 pub fn a_change_is_one_store()
     ensures { (before after : Watching Planned) (by : IsByOneStore before after) →
         stored_in after.view.client.known ≡ by.stored ∷ stored_in before.view.client.known }
 {}
 
-/// Calls are made over moments where the keeper knows what it does between them: from the moment 0
+/// Calls are made over moments if the writer's knowledge changes by them alone: from the moment 0
 /// to that before the first call it knows the same, and each call is at or after the one before. So
 /// a run with no call may have any moments. A key that is there throughout was there, and if there
 /// was no call it was there at the beginning.
@@ -58,13 +63,13 @@ pub fn calls_are_made_over_moments<E: Entry<W>, const W: usize>()
     ensures begun { (plan : Plan) (opened t : ℕ) (moments : ℕ → Moment) (now : Watching Planned)
         (map : IsMapOf E.holds plan now) →
         AreMadeOver E.holds plan opened moments t now (begun now map) ↔
-        (((moments 0).keeper ≡ now.view.client.known)
-        × ((moments t).keeper ≡ now.view.client.known)) }
+        (((moments 0).writer ≡ now.view.client.known)
+        × ((moments t).writer ≡ now.view.client.known)) }
     ensures changed { (plan : Plan) (opened s t : ℕ) (moments : ℕ → Moment)
         (before now : Watching Planned) (run : IsRun E.holds plan opened before)
         (by : IsByOneStore before now) (map : IsMapOf E.holds plan now) →
         AreMadeOver E.holds plan opened moments s before run → s ≤ t →
-        (moments t).keeper ≡ now.view.client.known →
+        (moments t).writer ≡ now.view.client.known →
         AreMadeOver E.holds plan opened moments t now (changed before now run by map) }
     ensures in_order { (plan : Plan) (opened t : ℕ) (moments : ℕ → Moment)
         (before now : Watching Planned) (run : IsRun E.holds plan opened before)
@@ -82,7 +87,8 @@ pub fn calls_are_made_over_moments<E: Entry<W>, const W: usize>()
         HasEntry plan.roots (nodes_in now.view.client.known) words }
 {}
 
-/// Words tell themselves: those of an entry where a call has one, and none else.
+/// The words of an entry are their own decoding. A call that found an entry has its words, and one
+/// that found none has none.
 pub fn words_tell_themselves()
     ensures themselves { (words : List ℕ) → as_words words ≡ words }
     ensures there { (words : List ℕ) → words_if true words ≡ Some words }
@@ -92,9 +98,45 @@ pub fn words_tell_themselves()
     ensures full { (full : Full) (words : List ℕ) → answered (Err full) words ≡ Err full }
 {}
 
+/// A map has room for as many entries as it was opened for.
+pub fn a_map_has_room_for_its_entries()
+    ensures { (buckets width entries seed : ℕ) →
+        capacity (plan_of_map buckets width entries seed) ≡ entries }
+{}
+
+/// There is no room for an entry if it is one too many, or if no node is free yet. An entry whose
+/// key is there is never one too many: so it waits for a node alone.
+pub fn a_full_map_replaces()
+    ensures replaced { (writer : Watching Planned) (key : ℕ) →
+        HasKey (buckets_in writer) (nodes_in writer.view.client.known) key → LacksRoom writer key →
+        IsNoneFreeYet (nodes_in writer.view.client.known) }
+    ensures one_too_many { (writer : Watching Planned) (key : ℕ) →
+        ¬ HasKey (buckets_in writer) (nodes_in writer.view.client.known) key →
+        IsAtCapacity writer → LacksRoom writer key }
+    ensures none_free { (writer : Watching Planned) (key : ℕ) →
+        IsNoneFreeYet (nodes_in writer.view.client.known) → LacksRoom writer key }
+    ensures room { (writer : Watching Planned) (key node : ℕ) →
+        IsFreeNode (nodes_in writer.view.client.known) node → ¬ IsAtCapacity writer →
+        ¬ LacksRoom writer key }
+{}
+
+/// The entry of a key is as it was read if it has all words that were read.
+pub fn an_entry_is_as_it_was_read()
+    ensures as_read { (buckets : ℕ) (nodes : List Node) (words : List ℕ) →
+        HasEntry buckets nodes words → IsAsRead buckets nodes (key_in words) words }
+    ensures there { (buckets key : ℕ) (nodes : List Node) (words : List ℕ) →
+        IsAsRead buckets nodes key words → HasEntry buckets nodes words }
+    ensures keyed { (buckets key : ℕ) (nodes : List Node) (words : List ℕ) →
+        IsAsRead buckets nodes key words → key_in words ≡ key }
+    ensures same { (words : List ℕ) → compared (Ok Compared.Same) words ≡ Ok (Some words) }
+    ensures changed { (words : List ℕ) → compared (Ok Compared.Changed) words ≡ Ok (Some words) }
+    ensures gone { (words : List ℕ) → compared (Ok Compared.Gone) words ≡ Ok None }
+    ensures full { (full : Full) (words : List ℕ) → compared (Err full) words ≡ Err full }
+{}
+
 /// A map has sizes if there is a bucket and an entry has a word beside its key, and no others.
 pub fn an_entry_has_a_word_beside_its_key()
-    ensures least { HasSizes 1 2 1 }
-    ensures key_alone { (buckets count : ℕ) → HasSizes buckets 1 count → ⊥ }
-    ensures no_bucket { (width count : ℕ) → HasSizes 0 width count → ⊥ }
+    ensures least { HasSizes 1 2 0 }
+    ensures key_alone { (buckets entries : ℕ) → HasSizes buckets 1 entries → ⊥ }
+    ensures no_bucket { (width entries : ℕ) → HasSizes 0 width entries → ⊥ }
 {}

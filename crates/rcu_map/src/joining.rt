@@ -4,7 +4,7 @@ ghost use Rattle.std.specs.Arc.{arc_value};
 ghost use Rattle.rcu_live.specs.InPart.{engine_part, watcher_part};
 ghost use Rattle.rcu_live.specs.Watcher.{after_word_step};
 ghost use Rattle.rcu_graph.specs.Joining.{CanJoin};
-ghost use Rattle.rcu_graph.specs.Keeper.{IsKeeperOf};
+ghost use Rattle.rcu_graph.specs.Writer.{IsWriterOf};
 ghost use Rattle.rcu_graph.specs.Opening.{claimed_first};
 ghost use Rattle.rcu_graph.specs.Planned.{of_plan};
 ghost use Rattle.rcu_graph.specs.declared.known.Known.TheVariants.{Idle};
@@ -23,7 +23,7 @@ use std::sync::Arc;
 
 impl<E: Invariant, const W: usize, P: Within<MapRule<E, W>>> Map<E, W, P> {
     /// Returns the map at this place of an engine that was opened by this plan, and the watcher
-    /// that its keeper takes ([`Graph::join`]).
+    /// that its writer takes ([`Graph::join`]).
     pub fn join(
         board: &Arc<Board<P::Whole>, Global>,
         own: &mut MapWatcher<E, W, P>,
@@ -37,33 +37,33 @@ impl<E: Invariant, const W: usize, P: Within<MapRule<E, W>>> Map<E, W, P> {
         requires entries { 0 < W → (P.own_plan plan).words ≡ W }
         ensures map { IfOk result (λ joined.
             joined.0 ≡ engine_part P.own_plan P.begins (arc_value board.now)) }
-        ensures keeper { IfOk result (λ joined.
-            IsKeeperOf joined.0 (watcher_part P.lens joined.1)) }
+        ensures writer { IfOk result (λ joined.
+            IsWriterOf joined.0 (watcher_part P.lens joined.1)) }
         ensures claimed { IfOk result (λ joined. P.lens.get joined.1.view.client
             ≡ claimed_first (root_words (P.own_plan plan).words) (P.own_plan plan)) }
         ensures left { OnOk result (own.new ≡ after_word_step own.old
             (P.lens.set own.old.view.client (of_plan (P.own_plan plan) Idle))) }
         ensures unchanged { OnErr result (own.new ≡ own.old) }
     {
-        let (graph, keeper) = Graph::join(board, own, plan)?;
-        Ok((Map::over(graph), keeper))
+        let (graph, writer) = Graph::join(board, own, plan)?;
+        Ok((Map::over(graph), writer))
     }
 }
 
 impl<E: Entry<W>, const W: usize> Map<E, W> {
-    /// Returns the plan of a map of this many buckets and nodes, and of this seed, as one of
+    /// Returns the plan of a map of this many buckets and entries, and of this seed, as one of
     /// several clients.
     ///
     /// It is `BadSizes` if no map is so large.
-    pub fn sized(buckets: usize, nodes: usize, seed: u64) -> Result<Plan, NotOpened>
-        ensures plan { IfOk result (λ plan. plan ≡ plan_of_map buckets W nodes seed) }
+    pub fn sized(buckets: usize, entries: usize, seed: u64) -> Result<Plan, NotOpened>
+        ensures plan { IfOk result (λ plan. plan ≡ plan_of_map buckets W entries seed) }
         ensures some { IfOk result (λ plan. 0 < plan.roots) }
         ensures suits { IfOk result ⟦<MapRule<E, W> as Client>⟧.suits }
-        ensures bad_sizes { OnErr result (¬ HasSizes buckets W nodes) }
+        ensures bad_sizes { OnErr result (¬ HasSizes buckets W entries) }
         ensures fault { IfErr result (λ fault. fault ≡ NotOpened.BadSizes) }
     {
         words_are_two::<E, W>();
-        let plan = make_plan(buckets, W, nodes, seed)?;
+        let plan = make_plan(buckets, W, entries, seed)?;
         if !plan.is_sized() {
             return Err(NotOpened::BadSizes);
         }

@@ -1,4 +1,4 @@
-//! What is said of the keys of a map, and of going over its entries, over the definitions alone.
+//! The laws of a map's keys, and of walks over its entries, about the definitions alone.
 ghost use Rattle.std.specs.Prelude.{◌≡◌, ◌↔◌, ◌<◌, ◌≤◌, ◌+◌, ◌++◌, ◌∷◌, ℕ, Bool, Contains, IsSome};
 ghost use Rattle.std.specs.Prelude.{IsSomeAnd, List, Option, Some};
 ghost use Rattle.rcu_live.specs.Watcher.{Watching};
@@ -33,25 +33,25 @@ use rcu_graph::laws::{
     words_found_over_a_run_were_linked,
 };
 
-/// A key is in a map exactly where the chain of its bucket leads to it. So what is said of keys
-/// that are linked, as that a section finds them, is said of the keys of entries.
+/// A key is in a map exactly if the chain of its bucket leads to it. So a statement about linked
+/// keys, as that a section finds them, is one about the keys of entries.
 pub fn keys_of_a_map_are_linked<E: Entry<W>, const W: usize>()
     ensures { (buckets seed key count : ℕ) (nodes : List Node) → 0 < buckets → 0 < key →
         IsMap E.holds buckets seed W count nodes →
         HasKey buckets nodes key ↔ IsLinkedKey (bucket_of buckets seed key) key nodes }
 {}
 
-/// Calls of `next` one after another go on like one: from the cursor before the first one to that
-/// after the last one, by the hops of all.
+/// Calls of `next` one after another go on like one: from the cursor before the first to the cursor
+/// after the last, by the hops of all.
 pub fn calls_go_on()
     ensures { (buckets seed : ℕ) (start mid at : Cursor) (before after : List Hop) →
         GoOn buckets seed start before mid → GoOn buckets seed mid after at →
         GoOn buckets seed start (after ++ before) at }
 {}
 
-/// A key that is linked at each moment from the section's beginning to the end of the last bucket
-/// is among the entries that the hops came to. Meanwhile each step of the keeper is as
-/// `IsKeeperStep` says: it stores no link of a node that it took off the chain.
+/// The hops of a listing come to each key that is linked at each moment from the section's
+/// beginning to the end of the last bucket. Meanwhile each step of the writer is as `IsWriterStep`
+/// says: it stores no link of a node that it took off the chain.
 pub fn linked_keys_are_listed()
     ensures { (ours : List ℕ → Bool) (opened buckets seed key last : ℕ) (nodes : ℕ → List Node)
         (hops : List Hop) (at : Cursor) → 0 < buckets → 0 < key →
@@ -63,9 +63,9 @@ pub fn linked_keys_are_listed()
     linked_keys_are_found();
 }
 
-/// A key that is in the map when a section begins, and after each call of the keeper until its
-/// search ends, is found, whatever the calls are: so a section that searches a key that is replaced
-/// finds the old entry or the new one.
+/// A search finds a key that is in the map at the section's beginning and after each call of the
+/// writer until the search ends, whatever the calls are. So while a key is replaced, a search finds
+/// the old entry or the new one.
 pub fn keys_that_stay_are_found<E: Invariant, const W: usize>()
     ensures { (plan : Plan) (opened key : ℕ) (now : Watching Planned)
         (run : IsRun E.holds plan opened now) (was known : Known) (found : Option ℕ)
@@ -78,8 +78,8 @@ pub fn keys_that_stay_are_found<E: Invariant, const W: usize>()
     linked_keys_are_found();
 }
 
-/// What a section finds was in the map at a moment of the section: the chain of its key's bucket
-/// led to it.
+/// A key that a section finds was in the map at a moment of the section: the chain of its bucket
+/// led to it then.
 pub fn found_keys_were_there<E: Invariant, const W: usize>()
     ensures { (plan : Plan) (opened key : ℕ) (now : Watching Planned)
         (run : IsRun E.holds plan opened now) (was known : Known) (node : ℕ)
@@ -94,14 +94,15 @@ pub fn found_keys_were_there<E: Invariant, const W: usize>()
     found_keys_were_linked();
 }
 
-/// A key that is in the map when a run begins, and after each of its calls, is found by a search
-/// that begins and ends in the run. The run is one of the shared words by atomic steps: the
-/// section's hops are its loads, and the keeper's calls are made of its steps.
+/// A lookup finds a key that stays in the map: if the key is in the map at the beginning of a run
+/// of atomic steps and after each of the writer's calls in it, a search that begins and ends in the
+/// run finds it, also while it is replaced. The section's hops are loads of the run, and the
+/// writer's calls are made of its steps.
 pub fn keys_that_stay_are_found_over_a_run<E: Invariant, const W: usize>()
-    ensures { (plan : Plan) (opened key keeper seat from done last : ℕ) (moments : ℕ → Moment)
+    ensures { (plan : Plan) (opened key writer seat from done last : ℕ) (moments : ℕ → Moment)
         (now : Watching Planned) (run : IsRun E.holds plan opened now) (found : Option ℕ) →
         0 < plan.roots → plan.links ≡ 1 → 2 ≤ plan.words → 0 < key → from + done ≤ last →
-        IsMapOver E.holds plan keeper last moments →
+        IsMapOver E.holds plan writer last moments →
         AreMadeOver E.holds plan opened moments last now run →
         HasKeyThroughout E.holds plan opened key now run →
         IsReadOver E.holds plan seat opened done (since from moments) →
@@ -111,12 +112,13 @@ pub fn keys_that_stay_are_found_over_a_run<E: Invariant, const W: usize>()
     keys_linked_over_a_run_are_found::<MapShape<E, W>>();
 }
 
-/// What a search in such a run finds was in the map when the run began, or after one of its calls.
+/// A key that a search in such a run finds was in the map at the run's beginning, or after one of
+/// its calls.
 pub fn keys_found_over_a_run_were_there<E: Invariant, const W: usize>()
-    ensures { (plan : Plan) (opened key keeper seat from done last node : ℕ)
+    ensures { (plan : Plan) (opened key writer seat from done last node : ℕ)
         (moments : ℕ → Moment) (now : Watching Planned) (run : IsRun E.holds plan opened now) →
         0 < plan.roots → plan.links ≡ 1 → 2 ≤ plan.words → 0 < key → from + done ≤ last →
-        IsMapOver E.holds plan keeper last moments →
+        IsMapOver E.holds plan writer last moments →
         AreMadeOver E.holds plan opened moments last now run →
         IsReadOver E.holds plan seat opened done (since from moments) →
         IsSearched (bucket_of plan.roots plan.seed key) key (moments from).section (Some node)
@@ -125,14 +127,14 @@ pub fn keys_found_over_a_run_were_there<E: Invariant, const W: usize>()
     keys_found_over_a_run_were_linked::<MapShape<E, W>>();
 }
 
-/// So were the words with which the section holds it then: they are those of one entry, which was
-/// in the map when the run began, or after one of its calls.
+/// The words with which the section then holds the key are those of one entry, which was in the map
+/// at the run's beginning, or after one of its calls.
 pub fn words_found_over_a_run_were_there<E: Invariant, const W: usize>()
-    ensures { (plan : Plan) (opened key keeper seat from done last node : ℕ)
+    ensures { (plan : Plan) (opened key writer seat from done last node : ℕ)
         (moments : ℕ → Moment) (now : Watching Planned) (run : IsRun E.holds plan opened now)
         (words : List ℕ) →
         0 < plan.roots → plan.links ≡ 1 → 2 ≤ plan.words → 0 < key → from + done ≤ last →
-        IsMapOver E.holds plan keeper last moments →
+        IsMapOver E.holds plan writer last moments →
         AreMadeOver E.holds plan opened moments last now run →
         IsReadOver E.holds plan seat opened done (since from moments) →
         IsSearched (bucket_of plan.roots plan.seed key) key (moments from).section (Some node)
@@ -143,14 +145,15 @@ pub fn words_found_over_a_run_were_there<E: Invariant, const W: usize>()
     words_found_over_a_run_were_linked::<MapShape<E, W>>();
 }
 
-/// What a `get` in such a run returns is an entry that was in the map when the run began, or after
-/// one of its calls: that of the key, with the words of one moment.
+/// A lookup returns only an entry that was there: what a `get` in such a run returns was in the map
+/// at the run's beginning, or after one of its calls, as the entry of that key, with the words of
+/// one moment.
 pub fn found_entries_were_there<E: Entry<W>, const W: usize>()
-    ensures { (plan : Plan) (opened key keeper seat from done last : ℕ)
+    ensures { (plan : Plan) (opened key writer seat from done last : ℕ)
         (moments : ℕ → Moment) (now : Watching Planned) (run : IsRun E.holds plan opened now)
         (entry : E) →
         0 < plan.roots → plan.links ≡ 1 → 2 ≤ plan.words → 0 < key → from + done ≤ last →
-        IsMapOver E.holds plan keeper last moments →
+        IsMapOver E.holds plan writer last moments →
         AreMadeOver E.holds plan opened moments last now run →
         IsReadOver E.holds plan seat opened done (since from moments) →
         IsGot E.holds E.decode plan.roots plan.seed key (moments from).section (Some entry)
@@ -161,14 +164,13 @@ pub fn found_entries_were_there<E: Entry<W>, const W: usize>()
     words_found_over_a_run_were_there::<E, W>();
 }
 
-/// A key that stays in the map over such a run is among the entries that a listing's hops came to,
-/// which begins and ends in the run.
+/// The hops of a listing that begins and ends in such a run come to each key that stays in the map.
 pub fn keys_that_stay_are_listed_over_a_run<E: Invariant, const W: usize>()
-    ensures { (plan : Plan) (opened key keeper seat from done last : ℕ) (moments : ℕ → Moment)
+    ensures { (plan : Plan) (opened key writer seat from done last : ℕ) (moments : ℕ → Moment)
         (now : Watching Planned) (run : IsRun E.holds plan opened now) (hops : List Hop)
         (at : Cursor) →
         0 < plan.roots → plan.links ≡ 1 → 2 ≤ plan.words → 0 < key → from + done ≤ last →
-        IsMapOver E.holds plan keeper last moments →
+        IsMapOver E.holds plan writer last moments →
         AreMadeOver E.holds plan opened moments last now run →
         HasKeyThroughout E.holds plan opened key now run →
         IsReadOver E.holds plan seat opened done (since from moments) →
@@ -181,15 +183,15 @@ pub fn keys_that_stay_are_listed_over_a_run<E: Invariant, const W: usize>()
     linked_keys_are_listed();
 }
 
-/// A key that stays in the map over such a run is the key of an entry that a call of `next`
-/// returned, where these began at an iterator's beginning in the run, and went on until one came to
-/// its end.
+/// An iterator returns each key that stays in the map: if the calls of `next` begin at an
+/// iterator's beginning in such a run, and go on until one comes to the end, one of them returned
+/// an entry of the key.
 pub fn keys_that_stay_are_returned_by_next<E: Entry<W>, const W: usize>()
-    ensures { (plan : Plan) (opened key keeper seat from done last : ℕ) (moments : ℕ → Moment)
+    ensures { (plan : Plan) (opened key writer seat from done last : ℕ) (moments : ℕ → Moment)
         (now : Watching Planned) (run : IsRun E.holds plan opened now) (first : Nexted)
         (calls : List Nexted) (at : Cursor) →
         0 < plan.roots → plan.links ≡ 1 → 2 ≤ plan.words → 0 < key → from + done ≤ last →
-        IsMapOver E.holds plan keeper last moments →
+        IsMapOver E.holds plan writer last moments →
         AreMadeOver E.holds plan opened moments last now run →
         HasKeyThroughout E.holds plan opened key now run →
         IsReadOver E.holds plan seat opened done (since from moments) →
@@ -201,19 +203,19 @@ pub fn keys_that_stay_are_returned_by_next<E: Entry<W>, const W: usize>()
     keys_that_stay_are_listed_over_a_run::<E, W>();
 }
 
-/// Each key lies behind 0, so that the next entry behind 0 is the first one.
+/// Each key lies behind 0, so the next entry behind 0 is the first one.
 pub fn each_key_lies_behind_0()
     ensures { (buckets seed key : ℕ) → 0 < key → IsBehind buckets seed 0 key }
 {}
 
-/// A key that stays in the map over such a run, and that lies behind another one, is not passed
-/// over: there are words of a next entry behind that one, and it is the key's, or one before it.
+/// A step to the next entry behind a key finds words, and passes over no key that stays in the map
+/// over such a run and lies behind the first one: the words are of that key, or of one before it.
 pub fn no_words_of_a_key_that_stays_are_passed_over<E: Invariant, const W: usize>()
-    ensures { (plan : Plan) (opened key stays keeper seat from done last : ℕ)
+    ensures { (plan : Plan) (opened key stays writer seat from done last : ℕ)
         (moments : ℕ → Moment) (now : Watching Planned) (run : IsRun E.holds plan opened now)
         (next : Option (List ℕ)) →
         0 < plan.roots → plan.links ≡ 1 → 2 ≤ plan.words → 0 < stays → from + done ≤ last →
-        IsMapOver E.holds plan keeper last moments →
+        IsMapOver E.holds plan writer last moments →
         AreMadeOver E.holds plan opened moments last now run →
         HasKeyThroughout E.holds plan opened stays now run →
         IsReadOver E.holds plan seat opened done (since from moments) →
@@ -227,13 +229,14 @@ pub fn no_words_of_a_key_that_stays_are_passed_over<E: Invariant, const W: usize
     linked_keys_are_found();
 }
 
-/// The same of entries.
+/// A step to the next entry behind a key passes over no entry that stays: it returns that of the
+/// key that stays over such a run and lies behind the first one, or one before it.
 pub fn no_key_that_stays_is_passed_over<E: Entry<W>, const W: usize>()
-    ensures { (plan : Plan) (opened key stays keeper seat from done last : ℕ)
+    ensures { (plan : Plan) (opened key stays writer seat from done last : ℕ)
         (moments : ℕ → Moment) (now : Watching Planned) (run : IsRun E.holds plan opened now)
         (next : Option E) →
         0 < plan.roots → plan.links ≡ 1 → 2 ≤ plan.words → 0 < stays → from + done ≤ last →
-        IsMapOver E.holds plan keeper last moments →
+        IsMapOver E.holds plan writer last moments →
         AreMadeOver E.holds plan opened moments last now run →
         HasKeyThroughout E.holds plan opened stays now run →
         IsReadOver E.holds plan seat opened done (since from moments) →

@@ -3,13 +3,12 @@
 
 mod after;
 mod bucket;
+pub mod compared;
 pub mod cursor;
 pub mod definition_laws;
 pub mod entries;
 pub mod entry;
 mod joining;
-pub mod keeper;
-mod keeper_waits;
 pub mod laws;
 mod links;
 mod listing;
@@ -21,12 +20,15 @@ pub mod shape;
 pub mod updater;
 mod updater_waits;
 mod updates;
+pub mod writer;
+mod writer_waits;
 
+pub use compared::Compared;
 pub use entries::Entries;
 pub use entry::Entry;
-pub use keeper::MapKeeper;
 pub use map::Map;
 pub use opening::{Opened, make_plan};
 pub use put::{NotPut, Put};
 pub use shape::{MapRule, MapSeat, MapShape, MapWatcher};
 pub use updater::Updater;
+pub use writer::MapWriter;

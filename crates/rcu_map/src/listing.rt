@@ -1,4 +1,4 @@
-//! Going over the entries of a map, in an open section.
+//! Walks over the entries of a map, in an open section.
 ghost use Rattle.std.specs.Prelude.{◌≡◌, ◌<◌, List, ℕ};
 ghost use Rattle.rcu_live.specs.CpuSeat.{after_word_step};
 ghost use Rattle.rcu_live.specs.InPart.{seat_part};

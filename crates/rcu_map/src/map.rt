@@ -21,12 +21,12 @@ use std::alloc::{AllocError, Global};
 use std::marker::Model;
 use std::sync::Arc;
 
-/// Entries among the shared words of a running engine: a chain a bucket, whose keys go up. With one
-/// bucket it is a sorted list. The map is the client of the engine, or one of several, at the place
-/// `P`.
+/// Entries among the shared words of a running engine: a chain for each bucket, sorted by key. With
+/// one bucket it is a sorted list. The map is the client of the engine, or one of several, at the
+/// place `P`.
 ///
-/// An entry has `W` words. Where `W` is 0, the map's plan says at run time how many they are: then
-/// an entry is read and put in by its words.
+/// An entry has `W` words. If `W` is 0, the map's plan has their number at run time, and entries
+/// are read and put by their words.
 #[derive(Drop)]
 pub struct Map<E: Invariant, const W: usize, P: Within<MapRule<E, W>> = Alone> {
     pub(crate) graph: Graph<MapShape<E, W>, P>,
@@ -61,7 +61,7 @@ impl<E: Invariant, const W: usize, P: Within<MapRule<E, W>>> Map<E, W, P> {
         Map { graph }
     }
 
-    /// Returns how large it is: it has as many buckets as roots.
+    /// Returns its plan, which has a root for each bucket.
     pub fn plan(&self) -> Plan
         ensures plan { result ≡ self.now.plan }
         ensures some { 0 < self.now.plan.roots }
@@ -94,15 +94,15 @@ impl<E: Invariant, const W: usize, P: Within<MapRule<E, W>>> Map<E, W, P> {
         self.graph.board()
     }
 
-    /// Returns the nodes, for their keeper.
+    /// Returns the nodes, for their writer.
     pub fn graph(&self) -> &Graph<MapShape<E, W>, P>
         ensures { result.now ≡ self.now }
     {
         &self.graph
     }
 
-    /// Returns where the nodes' links and words are, by constants if `W` is not 0: what waits for a
-    /// load multiplies by no other number.
+    /// Returns the layout of the nodes' links and words, by constants if `W` is not 0: so no
+    /// multiplication by another number waits for a load.
     pub(crate) fn layout(&self) -> Layout
         ensures { result ≡ layout_of self.now }
     {
@@ -208,7 +208,8 @@ impl<E: Invariant, const W: usize, P: Within<MapRule<E, W>>> Map<E, W, P> {
 }
 
 impl<E: Entry<W>, const W: usize, P: Within<MapRule<E, W>>> Map<E, W, P> {
-    /// What a map of entries keeps: nothing is done. A caller learns the clause by the call.
+    /// States the invariant of a map of entries, and does nothing: a caller learns its clause by
+    /// the call.
     pub(crate) fn keeps_width(&self)
         ensures { self.now.plan.words ≡ W }
     {
@@ -217,7 +218,7 @@ impl<E: Entry<W>, const W: usize, P: Within<MapRule<E, W>>> Map<E, W, P> {
     }
 
     /// Returns the entry of this key, by two loads for each node of its bucket up to there, and one
-    /// for each word of it but the key. It ends, whatever the keeper does meanwhile. No entry has
+    /// for each word of it but the key. It ends, whatever the writer does meanwhile. No entry has
     /// the key 0.
     pub fn get(&self, seat: &mut MapSeat<E, W, P>, key: u64) -> Option<E>
         requires walking { IsWalking self.now (seat_part P.lens seat.old) }

@@ -1,11 +1,11 @@
 //! The opening of a map.
 ghost use Rattle.std.specs.Prelude.{◌≡◌, ◌↔◌, ◌+◌, ◌*◌, ◌^◌, ◌<◌, ◌≤◌, Err, IfErr, IfOk};
-ghost use Rattle.std.specs.Prelude.{OnErr, OnOk};
+ghost use Rattle.std.specs.Prelude.{IfNone, IfSome, OnErr, OnOk};
 ghost use Rattle.rcu_geometry.specs.Opening.{opening_refusal};
 ghost use Rattle.rcu_live.specs.Opening.{AreDealt, AreFanouts, engine_at_first};
-ghost use Rattle.rcu_graph.specs.Keeper.{IsKeeperOf};
+ghost use Rattle.rcu_graph.specs.Writer.{IsWriterOf};
 ghost use Rattle.rcu_graph.specs.Nodes.{first_place};
-ghost use Rattle.rcu_graph.specs.Opening.{IsSized, keeper_at_first, tested_opening};
+ghost use Rattle.rcu_graph.specs.Opening.{IsSized, tested_opening, writer_at_first};
 ghost use Rattle.rcu_graph.specs.Planned.{of_plan};
 ghost use Rattle.rcu_graph.specs.declared.known.Known.TheVariants.{Idle};
 ghost use Rattle.rcu_graph.specs.declared.not_opened.NotOpened.{NotOpened};
@@ -14,9 +14,9 @@ ghost use Rattle.rcu_map.specs.Keys.{root_words};
 
 use crate::bucket::multiplier_of;
 use crate::entry::{Entry, words_are_two};
-use crate::keeper::MapKeeper;
 use crate::map::Map;
 use crate::shape::{MapRule, MapSeat, MapShape, MapWatcher};
+use crate::writer::MapWriter;
 use rcu_graph::{Graph, Invariant, NotOpened, Plan, UnlockedEngine};
 use rcu_live::Live;
 use rcu_seq::Fault;
@@ -26,7 +26,7 @@ use std::sync::Arc;
 /// A map as it is opened, with its engine.
 #[derive(Drop)]
 pub struct Opened<L: Drop, E: Invariant, const W: usize> {
-    /// The engine, which threads share, or which is under no lock. Somebody has to drive it.
+    /// The engine, which threads share, or which is under no lock. A thread has to drive it.
     pub live: L,
     /// The map, which its seats read.
     pub map: Map<E, W>,
@@ -34,23 +34,35 @@ pub struct Opened<L: Drop, E: Invariant, const W: usize> {
     pub seats: Vec<MapSeat<E, W>>,
     /// A watcher a processor.
     pub watchers: Vec<MapWatcher<E, W>>,
-    /// Who puts the entries.
-    pub keeper: MapKeeper<E, W>,
+    /// The writer, which puts the entries.
+    pub writer: MapWriter<E, W>,
 }
 
-/// Returns the plan of a map of this many buckets, words an entry and nodes, and of this seed.
+/// Returns how many nodes a map of this many buckets and entries has: one for each, and one by
+/// which it can replace an entry while it is full.
+fn node_count(buckets: usize, entries: usize) -> Option<usize>
+    ensures sum { IfSome result (λ nodes. nodes ≡ buckets + entries + 1) }
+    ensures large { IfNone result (2 ^ 64 ≤ buckets + entries + 1) }
+{
+    buckets.checked_add(entries)?.checked_add(1)
+}
+
+/// Returns the plan of a map of this many buckets, words an entry and entries, and of this seed.
 ///
-/// It is `BadSizes` for no bucket, or fewer than two words.
-pub fn make_plan(buckets: usize, words: usize, nodes: usize, seed: u64) -> Result<Plan, NotOpened>
-    ensures plan { IfOk result (λ plan. plan ≡ plan_of_map buckets words nodes seed) }
+/// It is `BadSizes` for no bucket, or fewer than two words, or if the nodes are too many to count.
+pub fn make_plan(buckets: usize, words: usize, entries: usize, seed: u64) -> Result<Plan, NotOpened>
+    ensures plan { IfOk result (λ plan. plan ≡ plan_of_map buckets words entries seed) }
     ensures some { OnOk result (0 < buckets) }
     ensures wide { OnOk result (2 ≤ words) }
     ensures fault { IfErr result (λ fault. fault ≡ NotOpened.BadSizes) }
-    ensures none { OnErr result (¬ HasSizes buckets words nodes) }
+    ensures none { OnErr result (¬ HasSizes buckets words entries) }
 {
     if buckets == 0 || words < 2 {
         return Err(NotOpened::BadSizes);
     }
+    let Some(nodes) = node_count(buckets, entries) else {
+        return Err(NotOpened::BadSizes);
+    };
     Ok(Plan {
         roots: buckets,
         links: 1,
@@ -82,9 +94,9 @@ impl<E: Invariant, const W: usize> Map<E, W> {
         ensures plan { IfOk result (λ opened. opened.map.plan ≡ plan) }
         ensures engine { IfOk result (λ opened. opened.live ≡ engine_at_first
             opened.map.table cpus last (2 ^ 62) (of_plan opened.map.plan Idle)) }
-        ensures keeper { IfOk result (λ opened. IsKeeperOf opened.map opened.keeper) }
+        ensures writer { IfOk result (λ opened. IsWriterOf opened.map opened.writer) }
         ensures own { IfOk result (λ opened.
-            opened.keeper ≡ keeper_at_first (root_words plan.words) opened.map.table cpus plan) }
+            opened.writer ≡ writer_at_first (root_words plan.words) opened.map.table cpus plan) }
     {
         let opened = Graph::open_unlocked::<LEAF, FAN, T>(alloc, cpus, last, plan)?;
         let rcu_graph::Opened {
@@ -95,7 +107,7 @@ impl<E: Invariant, const W: usize> Map<E, W> {
             own,
         } = opened;
         let map = Map::over(graph);
-        let Ok(keeper) = MapKeeper::new(alloc, &map, own) else {
+        let Ok(writer) = MapWriter::new(alloc, &map, own) else {
             return Err(NotOpened::Fault(Fault::NoMemory));
         };
         Ok(Opened {
@@ -103,18 +115,20 @@ impl<E: Invariant, const W: usize> Map<E, W> {
             map,
             seats,
             watchers,
-            keeper,
+            writer,
         })
     }
 }
 
 impl<E: Entry<W>, const W: usize> Map<E, W> {
     /// Opens a map with no entry, with its engine: of `cpus` processors, idle at number 0,
-    /// processor 0 alone online. So many of the nodes as there are buckets are their roots, and
-    /// each other one has room for an entry. Which bucket a key belongs to hangs on the seed: an
-    /// opening that draws it at random keeps others from choosing keys that share a bucket.
+    /// processor 0 alone online. The map has room for `entries`; a replaced or removed one keeps
+    /// its room until a grace period ends. A full map can replace: it has a node more than its
+    /// buckets and entries take. The seed chooses the bucket of each key: draw it at random, so
+    /// that nobody can choose keys that share a bucket.
     ///
-    /// Faults: `BadSizes` for no bucket, fewer nodes than buckets, or more than 2^32 words in all;
+    /// Faults: `BadSizes` for no bucket, or more than 2^32 words in all, an entry's and one more a
+    /// node;
     /// `TooManyCpus` (17) for no processor, more than 4,096, or more than four levels hold;
     /// `BadLast` (19) if `last` is no last number; `NoMemory` (16).
     pub fn open<const LEAF: u32, const FAN: u32, T: Drop>(
@@ -122,30 +136,34 @@ impl<E: Entry<W>, const W: usize> Map<E, W> {
         cpus: u32,
         last: u64,
         buckets: usize,
-        nodes: usize,
+        entries: usize,
         seed: u64,
     ) -> Result<Opened<Live<LEAF, FAN, T, MapRule<E, W>>, E, W>, NotOpened>
         requires fanouts { AreFanouts LEAF FAN }
-        ensures bad_sizes { (result ≡ Err NotOpened.BadSizes) ↔ ¬ HasSizes buckets W nodes }
-        ensures fault { HasSizes buckets W nodes →
+        ensures bad_sizes { (result ≡ Err NotOpened.BadSizes) ↔ ¬ HasSizes buckets W entries }
+        ensures fault { HasSizes buckets W entries →
             tested_opening result ≡ opening_refusal LEAF FAN cpus last }
         ensures dealt { IfOk result (λ opened. AreDealt cpus last (2 ^ 62)
-            (first_place + (1 + W) * nodes) (of_plan opened.map.plan Idle) opened.map
+            (first_place + (1 + W) * (buckets + entries + 1))
+            (of_plan opened.map.plan Idle) opened.map
             opened.seats.items opened.watchers.items) }
-        ensures plan { IfOk result (λ opened. opened.map.plan ≡ plan_of_map buckets W nodes seed) }
+        ensures plan { IfOk result (λ opened.
+            opened.map.plan ≡ plan_of_map buckets W entries seed) }
         ensures live { IfOk result (λ opened. opened.live ≡ opened.map) }
-        ensures keeper { IfOk result (λ opened. IsKeeperOf opened.map opened.keeper) }
+        ensures writer { IfOk result (λ opened. IsWriterOf opened.map opened.writer) }
         ensures own { IfOk result (λ opened.
-            opened.keeper ≡ keeper_at_first (root_words W) opened.map.table cpus
-            (plan_of_map buckets W nodes seed)) }
+            opened.writer ≡ writer_at_first (root_words W) opened.map.table cpus
+            (plan_of_map buckets W entries seed)) }
     {
-        let opened = Self::open_unlocked::<LEAF, FAN, T>(alloc, cpus, last, buckets, nodes, seed)?;
+        let opened = Self::open_unlocked::<LEAF, FAN, T>(
+            alloc, cpus, last, buckets, entries, seed,
+        )?;
         let Opened {
             live: engine,
             map,
             seats,
             watchers,
-            keeper,
+            writer,
         } = opened;
         let Ok(board) = Arc::try_clone(map.board()) else {
             return Err(NotOpened::Fault(Fault::NoMemory));
@@ -155,7 +173,7 @@ impl<E: Entry<W>, const W: usize> Map<E, W> {
             map,
             seats,
             watchers,
-            keeper,
+            writer,
         })
     }
 
@@ -166,26 +184,28 @@ impl<E: Entry<W>, const W: usize> Map<E, W> {
         cpus: u32,
         last: u64,
         buckets: usize,
-        nodes: usize,
+        entries: usize,
         seed: u64,
     ) -> Result<Opened<UnlockedEngine<LEAF, FAN, T, MapShape<E, W>>, E, W>, NotOpened>
         requires fanouts { AreFanouts LEAF FAN }
-        ensures bad_sizes { (result ≡ Err NotOpened.BadSizes) ↔ ¬ HasSizes buckets W nodes }
-        ensures fault { HasSizes buckets W nodes →
+        ensures bad_sizes { (result ≡ Err NotOpened.BadSizes) ↔ ¬ HasSizes buckets W entries }
+        ensures fault { HasSizes buckets W entries →
             tested_opening result ≡ opening_refusal LEAF FAN cpus last }
         ensures dealt { IfOk result (λ opened. AreDealt cpus last (2 ^ 62)
-            (first_place + (1 + W) * nodes) (of_plan opened.map.plan Idle) opened.map
+            (first_place + (1 + W) * (buckets + entries + 1))
+            (of_plan opened.map.plan Idle) opened.map
             opened.seats.items opened.watchers.items) }
-        ensures plan { IfOk result (λ opened. opened.map.plan ≡ plan_of_map buckets W nodes seed) }
+        ensures plan { IfOk result (λ opened.
+            opened.map.plan ≡ plan_of_map buckets W entries seed) }
         ensures engine { IfOk result (λ opened. opened.live ≡ engine_at_first
             opened.map.table cpus last (2 ^ 62) (of_plan opened.map.plan Idle)) }
-        ensures keeper { IfOk result (λ opened. IsKeeperOf opened.map opened.keeper) }
+        ensures writer { IfOk result (λ opened. IsWriterOf opened.map opened.writer) }
         ensures own { IfOk result (λ opened.
-            opened.keeper ≡ keeper_at_first (root_words W) opened.map.table cpus
-            (plan_of_map buckets W nodes seed)) }
+            opened.writer ≡ writer_at_first (root_words W) opened.map.table cpus
+            (plan_of_map buckets W entries seed)) }
     {
         words_are_two::<E, W>();
-        let plan = make_plan(buckets, W, nodes, seed)?;
+        let plan = make_plan(buckets, W, entries, seed)?;
         Map::open_planned::<LEAF, FAN, T>(alloc, cpus, last, plan)
     }
 }

@@ -4,7 +4,7 @@ ghost use Rattle.rcu_map.specs.Puts.{is_put};
 
 use rcu_seq::Fault;
 
-/// Where an entry may go that is put in.
+/// Which entries a put may add or replace.
 #[derive(Clone, Copy, Debug, PartialEq, Eq)]
 pub enum Put {
     /// Beside the others, if none has its key.
@@ -31,7 +31,7 @@ impl Put {
 /// Why a call that waits for a free node put no entry in.
 #[derive(Clone, Copy, Debug, PartialEq, Eq)]
 pub enum NotPut {
-    /// Each node is in use, and none becomes free before an entry is taken out.
+    /// The map has as many entries as it may, and none has the key: one has to be taken out first.
     Full,
     /// The wait was refused, or given up.
     Fault(Fault),

@@ -7,18 +7,18 @@ ghost use Rattle.rcu_map.specs.Puts.{IsOfKey};
 ghost use Rattle.rcu_map.specs.declared.put.NotPut.{NotPut};
 
 use crate::entry::Entry;
-use crate::keeper_waits::check_outside;
 use crate::put::{NotPut, Put};
 use crate::shape::{MapRule, MapSeat};
 use crate::updater::Updater;
+use crate::writer_waits::check_outside;
 use rcu_graph::Full;
 use rcu_live::{Live, Within};
 use rcu_seq::{Cookie, Tag};
 use std::sync::Wait;
 
 impl<E: Entry<W>, const W: usize, P: Within<MapRule<E, W>>> Updater<E, W, P> {
-    /// Looks at the number, and puts an entry in, if that needs no node or one is free. If a later
-    /// number may free one, `Err` is the number.
+    /// Looks at the number, and puts an entry in, if that needs no node or there is room. If a
+    /// later number may free a node for it, `Err` is the number.
     fn look_and_put(
         &self,
         rt: &impl Wait,
@@ -31,17 +31,17 @@ impl<E: Entry<W>, const W: usize, P: Within<MapRule<E, W>>> Updater<E, W, P> {
         ensures old { IfOk result (λ answer. IfOk answer (λ old.
             IsOfKey E.valid E.key_of (E.key_of entry) old)) }
     {
-        let mut keeper = self.lock(rt);
-        let number = keeper.age();
-        match keeper.put(how, entry) {
+        let mut writer = self.lock(rt);
+        let number = writer.reclaim();
+        match writer.put(how, entry) {
             Ok(old) => Ok(Ok(old)),
-            Err(Full) if keeper.is_all_live() => Ok(Err(NotPut::Full)),
+            Err(Full) if writer.is_one_too_many(entry.key()) => Ok(Err(NotPut::Full)),
             Err(Full) => Err(number),
         }
     }
 
     /// Puts an entry in so, and returns the one that had its key, as
-    /// [`MapKeeper::put_or_wait`](crate::MapKeeper::put_or_wait). The lock is taken for each look,
+    /// [`MapWriter::put_or_wait`](crate::MapWriter::put_or_wait). The lock is taken for each look,
     /// and not held meanwhile: so other threads go on.
     ///
     /// No proof says that it returns: others may take each node that becomes free.

@@ -1,4 +1,4 @@
-//! What a map's keeper does to its entries, by one store each.
+//! What a map's writer does to its entries, by one store each.
 ghost use Rattle.std.specs.Prelude.{◌≡◌, ◌≢◌, ◌<◌, IfNone, IsSome, MatchResult, None, Ok, Some};
 ghost use Rattle.std.specs.Prelude.{false, length, true};
 ghost use Rattle.rcu_graph.specs.Graph.{IsOfSameGraph};
@@ -10,17 +10,18 @@ ghost use Rattle.rcu_map.specs.Puts.{HasAnswered, HasChanged, Holds, IsPutIn};
 ghost use Rattle.rcu_map.specs.Splices.{IsPlace};
 ghost use Rattle.rcu_map.specs.Words.{answered, as_words, words_if};
 ghost use Rattle.rcu_graph.specs.Puts.{IsFull};
+ghost use Rattle.rcu_map.specs.Room.{IsAtCapacity};
 ghost use Rattle.rcu_map.specs.declared.put.Put.{Put};
 
 use crate::entry::Entry;
-use crate::keeper::MapKeeper;
 use crate::links::pass;
 use crate::put::Put;
 use crate::shape::MapRule;
+use crate::writer::MapWriter;
 use rcu_graph::{Full, Invariant};
 use rcu_live::Within;
 
-impl<E: Invariant, const W: usize, P: Within<MapRule<E, W>>> MapKeeper<E, W, P> {
+impl<E: Invariant, const W: usize, P: Within<MapRule<E, W>>> MapWriter<E, W, P> {
     /// Puts an entry of these words behind the node where its key belongs, which no entry has.
     fn put_behind(&mut self, previous: usize, words: &[u64]) -> Result<(), Full>
         requires whole { E.holds words.now }
@@ -29,6 +30,7 @@ impl<E: Invariant, const W: usize, P: Within<MapRule<E, W>>> MapKeeper<E, W, P> 
         requires place { IsPlace (buckets_in self.old) (seed_in self.old) (key_in words.now)
             (nodes_in self.old.view.client.known)
             previous None }
+        requires room { ¬ IsAtCapacity self.old }
         ensures same { IsOfSameGraph self.old self.new }
         ensures put { MatchResult result
             (λ _. HasChanged (IsPutIn (buckets_in self.old) words.now false) self.old self.new)
@@ -43,7 +45,12 @@ impl<E: Invariant, const W: usize, P: Within<MapRule<E, W>>> MapKeeper<E, W, P> 
 
     /// Puts an entry of these words in the place of the old one that has its key, behind this node,
     /// and returns its node.
-    fn put_over(&mut self, previous: usize, old: usize, words: &[u64]) -> Result<usize, Full>
+    pub(crate) fn put_over(
+        &mut self,
+        previous: usize,
+        old: usize,
+        words: &[u64],
+    ) -> Result<usize, Full>
         requires whole { E.holds words.now }
         requires keyed { 0 < key_in words.now }
         requires sized { length words.now ≡ self.old.view.client.plan.words }
@@ -70,9 +77,13 @@ impl<E: Invariant, const W: usize, P: Within<MapRule<E, W>>> MapKeeper<E, W, P> 
             (answered result old.new) self.new }
         ensures unchanged { result ≢ Ok true → old.new ≡ old.old }
     {
+        self.keeps_a_node();
         let place = self.place_of(words[0]);
         let Some(node) = place.node else {
             if how.puts(false) {
+                if self.is_full() {
+                    return Err(Full);
+                }
                 self.put_behind(place.previous, words)?;
             }
             return Ok(false);
@@ -120,10 +131,10 @@ impl<E: Invariant, const W: usize, P: Within<MapRule<E, W>>> MapKeeper<E, W, P> 
     }
 }
 
-impl<E: Entry<W>, const W: usize, P: Within<MapRule<E, W>>> MapKeeper<E, W, P> {
-    /// Puts an entry in so, by one store, and returns the one that had its key. `Full` means that
-    /// the entry needs a node, and that none is free. Costs a step for each node of its bucket up
-    /// to there.
+impl<E: Entry<W>, const W: usize, P: Within<MapRule<E, W>>> MapWriter<E, W, P> {
+    /// Inserts, replaces or upserts an entry, as `how` says, by one store, and returns the one that
+    /// had its key. `Full` means that the entry has no room: no node is free yet, or the map is
+    /// full and no entry has its key. Costs a step for each node of its bucket up to there.
     pub fn put(&mut self, how: Put, entry: E) -> Result<Option<E>, Full>
         requires sound { E.valid entry }
         ensures { HasAnswered E.decode E.valid E.key_of how (E.key_of entry)
@@ -138,8 +149,8 @@ impl<E: Entry<W>, const W: usize, P: Within<MapRule<E, W>>> MapKeeper<E, W, P> {
     }
 
     /// Puts an entry in, by one store, if none has its key. Returns the one that has it: then
-    /// nothing changed. `Full` means that none has it, and that no node is free. Costs a step for
-    /// each node of its bucket up to there.
+    /// nothing changed. `Full` means that none has it, and that the map is full or no node is free
+    /// yet. Costs a step for each node of its bucket up to there.
     pub fn insert(&mut self, entry: E) -> Result<Option<E>, Full>
         requires sound { E.valid entry }
         ensures { HasAnswered E.decode E.valid E.key_of Put.Insert
@@ -150,7 +161,8 @@ impl<E: Entry<W>, const W: usize, P: Within<MapRule<E, W>>> MapKeeper<E, W, P> {
 
     /// Puts an entry in the place of the one that has its key, by one store, and returns that: a
     /// section finds the old one or the new one. If none has its key, nothing changes. `Full` means
-    /// that one has it, and that no node is free. Costs as [`insert`](Self::insert).
+    /// that one has it, and that no node is free yet: one will be, also in a full map. Costs as
+    /// [`insert`](Self::insert).
     pub fn replace(&mut self, entry: E) -> Result<Option<E>, Full>
         requires sound { E.valid entry }
         ensures { HasAnswered E.decode E.valid E.key_of Put.Replace
@@ -160,8 +172,8 @@ impl<E: Entry<W>, const W: usize, P: Within<MapRule<E, W>>> MapKeeper<E, W, P> {
     }
 
     /// Puts an entry in, by one store, in the place of the one that has its key, and returns that
-    /// (as std's `insert` of a hash map). `Full` means that no node is free. Costs as
-    /// [`insert`](Self::insert).
+    /// (as std's `insert` of a hash map). `Full` means that no node is free yet, or that none has
+    /// its key and the map is full. Costs as [`insert`](Self::insert).
     pub fn upsert(&mut self, entry: E) -> Result<Option<E>, Full>
         requires sound { E.valid entry }
         ensures { HasAnswered E.decode E.valid E.key_of Put.Upsert

@@ -3,8 +3,8 @@ ghost use Rattle.std.specs.Prelude.{◌≡◌, ◌≢◌, ℕ, false, true};
 ghost use Rattle.rcu_stress.specs.Worker.{IsStopped};
 ghost use Rattle.rcu_stress.specs.declared.gate.Point.{Point};
 
-/// A gate stops a worker where it may answer it with false at one of the two places. It does not
-/// where it lets it pass at both, or stops another worker alone.
+/// A gate stops a worker if it may return false to it at one of the two places. It does not if it
+/// lets the worker pass at both, or stops only another worker.
 pub fn a_gate_stops_whom_it_does_not_let_pass()
     ensures entered { (worker : ℕ) →
         IsStopped (λ w at passed. (w ≡ worker) × (at ≡ Point.Entered) × (passed ≡ false)) worker }

@@ -16,9 +16,9 @@ pub(crate) type Engine = Live<4, 4, u64>;
 
 /// The calls of an engine that take its lock, as workers make them.
 ///
-/// An answer is told to a worker whose seat had stored so often. Nothing else is known of the
-/// answers here. So a function that has to return what was told has to make the call, and at that
-/// place of its round.
+/// The definitions say of an answer only its call, and how often the worker's seat had stored by
+/// then. So a function that has to return the answer has to make that call, at that place of its
+/// round.
 pub(crate) trait LockedCalls: Shared<NoClient> + Drop {
     // It may answer a worker so whose seat had stored so often.
     ghost answers: { ℕ → LockedAnswer → Type 0 };
@@ -100,22 +100,22 @@ impl LockedCalls for Engine {
     }
 }
 
-/// What the engine told a worker that moved the grace periods on.
+/// The engine's answers to a worker that moved the grace periods on.
 #[derive(Clone, Copy)]
 pub(crate) struct DrivingAnswers {
     pub(crate) collected: Collected,
     pub(crate) turned: Turned,
-    /// How many callbacks are done, and how many wait.
+    /// The number of callbacks that are done, and of those that wait.
     pub(crate) tended: (u64, u64),
 }
 
-/// What the engine told a worker in a round.
+/// The engine's answers to a worker in a round.
 #[derive(Drop)]
 pub(crate) struct RoundAnswers {
-    /// How many callbacks were queued, this one among them.
+    /// The number of callbacks that were queued, this one included.
     pub(crate) queued: u64,
     pub(crate) driving: DrivingAnswers,
     pub(crate) ran: Ran<u64>,
-    /// How many callbacks moved as its processor went offline, where it did.
+    /// The number of callbacks that moved when its processor went offline, if it did.
     pub(crate) moved: Option<u64>,
 }

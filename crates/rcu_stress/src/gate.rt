@@ -11,12 +11,12 @@ pub enum Point {
     Polled,
 }
 
-/// Whether workers go on, by which a test holds them up or ends them early.
+/// Decides whether workers go on, so that a test can hold them up or end them early.
 pub trait Gate: Sync {
     // It may answer a worker so at a place of its round.
     ghost answers: { ℕ → Point → Bool → Type 0 } = { λ _ _ _. Unit {0} };
 
-    /// Whether the worker goes on at this place of its round. Where it does not, it closes its
+    /// Returns whether the worker goes on at this place of its round. If it does not, it closes its
     /// section and ends, which is no fault.
     fn pass(&self, worker: u32, point: Point) -> bool
         ensures { answers worker point result };

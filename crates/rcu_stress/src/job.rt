@@ -23,10 +23,10 @@ use std::alloc::Global;
 use std::marker::Model;
 use std::sync::Wait;
 
-/// How many callbacks a round hands out at most.
+/// The most callbacks that a round hands out.
 const MOST_IN_ROUND: u64 = 8;
 
-/// How many callbacks the program hands out at most in the end.
+/// The most callbacks that the program hands out at the end.
 const MOST_AT_END: u64 = 1_000_000;
 
 /// Opens a section of the seat, or nests deeper in it: once, twice or three times, as the word
@@ -51,10 +51,10 @@ fn close<E: LockedCalls>(live: &E, seat: &mut CpuSeat)
     'exits: while seat.exit(live).is_ok() {}
 }
 
-/// Hands out callbacks of a processor, at most so many, to this share, and returns them. Room for
-/// them is made before it: a refused call hands out none.
+/// Hands out at most `most` callbacks of a processor to this share, and returns them. It makes room
+/// for them first: a refused call hands out none.
 ///
-/// Faults: `BadCpu` (1) where there is no such processor; `NoMemory` (16).
+/// Faults: `BadCpu` (1) if there is no such processor; `NoMemory` (16).
 fn hand_out<R: Wait, E: LockedCalls>(
     rt: &R,
     live: &E,
@@ -77,7 +77,7 @@ fn hand_out<R: Wait, E: LockedCalls>(
     Ok(ran)
 }
 
-/// How large a run is, and what its words follow from.
+/// The size of a run, and the seed of its draws.
 #[derive(Clone, Copy)]
 pub(crate) struct RunSettings {
     pub(crate) workers: u32,
@@ -85,7 +85,7 @@ pub(crate) struct RunSettings {
     pub(crate) seed: u64,
 }
 
-/// What a worker gives back: its share, and the first fault that it met.
+/// The result of a worker: its share, and the first fault that it met.
 #[derive(Drop)]
 pub(crate) struct WorkerResult {
     pub(crate) share: LedgerShare,
@@ -234,8 +234,8 @@ impl<'a, E: LockedCalls> Job<'a, E> {
         Ok(true)
     }
 
-    /// One round, on one word. Returns what the engine told, or none where the gate did not let the
-    /// worker pass: its section is open then.
+    /// Runs one round, by one word. Returns the engine's answers, or none if the gate did not let
+    /// the worker pass: then its section is open.
     fn run_round<R: Wait, G: Gate>(
         &mut self,
         rt: &R,
@@ -274,8 +274,8 @@ impl<'a, E: LockedCalls> Job<'a, E> {
         }))
     }
 
-    /// A read section with a cookie that is polled inside, and a quiescent state. Returns whether
-    /// the gate let the worker pass; where it did not, the section is open.
+    /// Opens a section, polls a cookie inside it, closes it and passes a quiescent state. Returns
+    /// whether the gate let the worker pass; if not, the section is open.
     fn read<G: Gate>(&mut self, gate: &G, word: u32, share: &mut LedgerShare) -> Result<bool, Fault>
         ghost looks: { ℕ }
         requires early { share.old.early < most_rounds + length share.old.ids }
@@ -305,9 +305,9 @@ impl<'a, E: LockedCalls> Job<'a, E> {
         Ok(true)
     }
 
-    /// Whether the gate lets the worker go on at a place inside its section: when it has entered,
-    /// and has looked no more often than before; or when it has looked twice more, to take its
-    /// cookie and to poll it.
+    /// Returns whether the gate lets the worker go on at a place inside its section: after it
+    /// entered, with no load more than before; or after two loads more, by which it took its cookie
+    /// and polled it.
     fn pass<G: Gate>(&self, gate: &G, point: Point) -> bool
         ghost looks: { ℕ }
         requires inside { 0 < self.now.seat.depth }
@@ -317,7 +317,7 @@ impl<'a, E: LockedCalls> Job<'a, E> {
         gate.pass(self.worker, point)
     }
 
-    /// Polls the cookie, and counts it where it is done.
+    /// Polls the cookie, and counts it if it is done.
     fn poll(&mut self, cookie: Cookie, share: &mut LedgerShare)
         requires { share.old.early < most_rounds + length share.old.ids }
         ensures share { share.new ≡
@@ -331,7 +331,7 @@ impl<'a, E: LockedCalls> Job<'a, E> {
         }
     }
 
-    /// The id of a round's callback. Those of other workers and rounds differ.
+    /// Returns the id of a round's callback. Those of other workers and rounds differ.
     fn id(&self, round: u32) -> u64
         ensures { result ≡ id_of self.now.worker self.now.settings.rounds round }
     {
@@ -351,15 +351,15 @@ impl<'a, E: LockedCalls> Job<'a, E> {
             .map_err(|refused| refused.fault)
     }
 
-    /// The processor that a worker looks at besides its own.
+    /// Returns the processor that a worker looks at besides its own.
     fn other(&self, word: u32) -> u32
         ensures { result ≡ other_by self.now.settings.workers word }
     {
         word / 8 % self.settings.workers
     }
 
-    /// Moves the grace periods on: collects of a processor that the word names, turns, and tends
-    /// its own callbacks. Returns what the engine told.
+    /// Moves the grace periods on: collects from a processor that the word names, turns, and tends
+    /// its own callbacks. Returns the engine's answers.
     fn drive<R: Wait>(&self, rt: &R, word: u32) -> Result<DrivingAnswers, Fault>
         ensures collected { IfOk result (λ driving. E.answers self.now.seat.view.stores
             (Collecting (other_by self.now.settings.workers word) driving.collected)) }
@@ -378,8 +378,8 @@ impl<'a, E: LockedCalls> Job<'a, E> {
         })
     }
 
-    /// Where the word says so, takes another processor than 0 offline and online again. Returns how
-    /// many callbacks moved then.
+    /// If the word says so, takes a processor other than 0 offline and online again. Returns the
+    /// number of callbacks that moved.
     fn leave_and_return<R: Wait>(&mut self, rt: &R, word: u32) -> Result<Option<u64>, Fault>
         ensures told { IfOk result (λ left. leaves_by self.old.worker word ≡ true →
             IsSomeAnd left (λ moved. E.answers self.old.seat.view.stores (Departing moved))) }
@@ -396,7 +396,7 @@ impl<'a, E: LockedCalls> Job<'a, E> {
         Ok(None)
     }
 
-    /// Where the word says so, gets the processor idle, and wakes it.
+    /// If the word says so, makes the processor idle, and wakes it.
     fn sleep_and_wake(&mut self, word: u32) -> Result<(), Fault>
         ensures stayed { sleeps_by word ≡ false → self.new ≡ self.old }
         ensures woken { OnOk result (sleeps_by word ≡ true →
@@ -410,7 +410,7 @@ impl<'a, E: LockedCalls> Job<'a, E> {
         Ok(())
     }
 
-    /// One grace period, which nobody else's processor holds up.
+    /// Drives one grace period, which no other processor holds up.
     fn pass_period<R: Wait>(&mut self, rt: &R) -> Result<(), Fault>
         ensures rest { self.new ≡ record self.old { seat = self.new.seat } }
     {
@@ -421,8 +421,8 @@ impl<'a, E: LockedCalls> Job<'a, E> {
         Ok(())
     }
 
-    /// What the program does on its own when all workers have ended: two grace periods, and then it
-    /// hands out what is left.
+    /// Runs alone after all workers have ended: drives two grace periods, and hands out the
+    /// callbacks that are left.
     pub(crate) fn hand_out_rest<R: Wait>(&mut self, rt: &R) -> Result<LedgerShare, Fault>
         ensures queued { IfOk result (λ share. share.queued ≡ 0) }
         ensures early { IfOk result (λ share. share.early ≡ 0) }

@@ -49,7 +49,7 @@ impl Sums {
     }
 }
 
-/// How many of the ids there are beyond the different ones.
+/// Returns the number of ids that occur again.
 fn count_twice(alloc: Global, ids: &[u64]) -> Result<u64, AllocError>
     ensures { IfOk result (λ twice.
         twice ≡ length ids.now - distinct_count (λ x y. x == y) ids.now) }
@@ -58,7 +58,8 @@ fn count_twice(alloc: Global, ids: &[u64]) -> Result<u64, AllocError>
     Ok((ids.len() - different.len()) as u64)
 }
 
-/// What the workers of a run did, and the program at its end: the share of each, and the totals.
+/// The actions of a run's workers, and of the program at its end: the share of each, and the
+/// totals.
 #[derive(Drop)]
 pub struct Ledger {
     /// Those of the workers, in order.
@@ -118,42 +119,42 @@ impl Ledger {
         })
     }
 
-    /// How many callbacks were queued: the sum over all shares.
+    /// Returns the number of callbacks that were queued: the sum over all shares.
     pub fn queued(&self) -> u64
         ensures { result ≡ queued_in self.now }
     {
         self.queued
     }
 
-    /// How many callbacks were handed out: the sum over all shares.
+    /// Returns the number of callbacks that were handed out: the sum over all shares.
     pub fn ran(&self) -> u64
         ensures { result ≡ ran_in self.now }
     {
         self.ran
     }
 
-    /// How often a cookie or a callback came early: the sum over all shares.
+    /// Returns how often a cookie or a callback came early: the sum over all shares.
     pub fn early(&self) -> u64
         ensures { result ≡ early_in self.now }
     {
         self.early
     }
 
-    /// How many handings out there were of ids beyond the different ones.
+    /// Returns how often an id was handed out again.
     pub fn twice(&self) -> u64
         ensures { result ≡ twice_in self.now }
     {
         self.twice
     }
 
-    /// The share of each worker, in order.
+    /// Returns the share of each worker, in order.
     pub fn shares(&self) -> &[LedgerShare]
         ensures { result.now ≡ self.now.shares }
     {
         self.shares.as_slice()
     }
 
-    /// The program's own share.
+    /// Returns the program's own share.
     pub fn own(&self) -> &LedgerShare
         ensures { result.now ≡ self.now.own }
     {

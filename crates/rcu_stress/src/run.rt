@@ -23,8 +23,8 @@ const LAST: u64 = 1 << 62;
 /// of its own, for `rounds` rounds, and then alone until nothing is left. A worker draws its words
 /// by the seed, and passes the gate twice a round.
 ///
-/// Returns what was counted. Faults: the first one that the lowest worker met, else the one that
-/// the program met, of which only 16 is expected.
+/// Returns the ledger. Faults: the first one that the lowest worker met, else the one that the
+/// program met, of which only 16 is expected.
 pub fn torture<R: Threads + Wait + Sync, G: Gate>(
     alloc: Global,
     rt: &R,

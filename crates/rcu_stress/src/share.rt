@@ -7,8 +7,8 @@ use rcu_seq::cookie::snapshot;
 use std::alloc::{AllocError, Global};
 use std::marker::Model;
 
-/// What one worker did, or the program at the end: how many callbacks it queued, the ids of those
-/// that were handed out to it, and how often something came early.
+/// The actions of one worker, or of the program at the end: how many callbacks it queued, the ids
+/// of those that were handed out to it, and how often something came early.
 #[derive(Drop)]
 pub struct LedgerShare {
     queued: u64,
@@ -37,7 +37,7 @@ impl Model for LedgerShare {
 }
 
 impl LedgerShare {
-    /// The share of who did nothing.
+    /// Returns the share of a worker that did nothing.
     pub fn new(alloc: Global) -> LedgerShare
         ensures { result ≡ record { queued = 0; early = 0; ids = []; room = result.room } }
     {
@@ -48,7 +48,7 @@ impl LedgerShare {
         }
     }
 
-    /// How many callbacks it queued.
+    /// Returns the number of callbacks that it queued.
     pub fn queued(&self) -> u64
         ensures queued { result ≡ self.now.queued }
         ensures bounded { result ≤ most_rounds }
@@ -56,15 +56,15 @@ impl LedgerShare {
         self.queued
     }
 
-    /// How many callbacks were handed out to it.
+    /// Returns the number of callbacks that were handed out to it.
     pub fn ran(&self) -> u64
         ensures { result ≡ ran_of self.now }
     {
         self.ids.len() as u64
     }
 
-    /// How often something came early: a cookie that was done inside the section in which it was
-    /// taken, or a callback that was handed out before a full grace period had passed.
+    /// Returns how often something came early: a cookie that was done inside the section in which
+    /// it was taken, or a callback that was handed out before a full grace period had passed.
     pub fn early(&self) -> u64
         ensures early { result ≡ self.now.early }
         ensures bounded { result ≤ most_rounds + length self.now.ids }
@@ -72,14 +72,14 @@ impl LedgerShare {
         self.early
     }
 
-    /// The ids of the callbacks that were handed out to it, in order.
+    /// Returns the ids of the callbacks that were handed out to it, in order.
     pub fn ids(&self) -> &[u64]
         ensures { result.now ≡ self.now.ids }
     {
         self.ids.as_slice()
     }
 
-    /// It queued one callback more.
+    /// Counts one queued callback more.
     pub(crate) fn note_queued(&mut self)
         requires { self.old.queued < most_rounds }
         ensures { self.new ≡ record self.old { queued = self.old.queued + 1 } }
@@ -87,7 +87,7 @@ impl LedgerShare {
         self.queued += 1;
     }
 
-    /// A cookie was done inside the section in which it was taken.
+    /// Counts a cookie that was done inside the section in which it was taken.
     pub(crate) fn note_early(&mut self)
         requires { self.old.early < most_rounds + length self.old.ids }
         ensures { self.new ≡ record self.old { early = self.old.early + 1 } }
@@ -95,7 +95,7 @@ impl LedgerShare {
         self.early += 1;
     }
 
-    /// Makes room for the ids of so many callbacks.
+    /// Makes room for the ids of `count` callbacks.
     pub(crate) fn make_room(&mut self, count: usize) -> Result<(), AllocError>
         ensures room { OnOk result (count ≤ self.new.room) }
         ensures rest { self.new ≡ record self.old { room = self.new.room } }
@@ -104,7 +104,7 @@ impl LedgerShare {
         self.ids.reserve(count)
     }
 
-    /// Takes down what a run handed out, for which there is room.
+    /// Records the callbacks that a run handed out, for which there is room.
     pub(crate) fn take_down(&mut self, ran: &Ran<u64>)
         requires room { length ran.now.calls.items ≤ self.old.room }
         requires bounded { All (λ call. call.at.number ≤ 2 ^ 62) ran.now.calls.items }

@@ -16,17 +16,17 @@ use std::sync::Wait;
 use std::thread;
 use std::thread::Threads;
 
-/// What workers gave back.
+/// The results of workers.
 #[derive(Drop)]
 pub(crate) struct WorkerResults {
     /// In the order of the workers.
     pub(crate) shares: Vec<LedgerShare>,
-    /// The first fault that the lowest of them met that met one.
+    /// The first fault of the lowest worker that met one.
     pub(crate) fault: Option<Fault>,
 }
 
 impl WorkerResults {
-    /// What nobody gave back, with room for so many.
+    /// Returns the results of no worker, with room for `workers`.
     pub(crate) fn new(alloc: Global, workers: u32) -> Result<WorkerResults, AllocError>
         ensures len { IfOk result (λ results. vec_len results.shares ≡ 0) }
         ensures room { IfOk result (λ results. vec_capacity results.shares ≡ workers) }
@@ -37,7 +37,7 @@ impl WorkerResults {
         })
     }
 
-    /// Takes in what the next worker gave back, for which there is room.
+    /// Adds the result of the next worker, for which there is room.
     fn add(&mut self, next: WorkerResult)
         requires { vec_len self.old.shares < vec_capacity self.old.shares }
         ensures { HasAdded self.old next self.new }
@@ -82,9 +82,9 @@ pub(crate) fn deal_jobs<'a, R: Wait>(
     Ok((first, others))
 }
 
-/// Runs the jobs, each on a thread of its own, or here where none can be made, and the first one
-/// here. Adds what they give back to these results, which have room for it: the first one's first,
-/// and then the others' in order.
+/// Runs the first job here, and each other one on a thread of its own, or here if no thread can be
+/// made. Adds their results, for which there is room: first that of the first job, and then the
+/// others in order.
 pub(crate) fn run_all<R: Threads + Wait + Sync, G: Gate>(
     rt: &R,
     gate: &G,

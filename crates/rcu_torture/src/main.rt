@@ -38,8 +38,8 @@ fn arguments<R: Env + AllocGlobal>(rt: &R) -> io::Result<Vec<String>> {
     Ok(env::args(rt)?.skip(1).collect(rt.alloc())?)
 }
 
-/// Does what the words order, or prints why they are refused. The text is `clap`'s, which ends its
-/// last line.
+/// Performs the order of the words, or prints why they are refused. The text is `clap`'s, which
+/// ends its last line.
 fn run_words<R>(rt: &R, words: &[String]) -> u8
 where
     R: AllocGlobal + Input + Print + Eprint + Threads + Wait + Sync,

@@ -14,9 +14,9 @@ use std::alloc::Global;
 use std::sync::Wait;
 use std::thread::Threads;
 
-/// Does what the order says, and costs what that costs: replies to the lines that the reader gives,
-/// or stresses the running engine and prints the ledger. The fault for which it was refused is
-/// printed as a reply is; where the writer fails in it, it returns `Write`.
+/// Performs the order: replies to the lines that the reader gives, or stresses the running engine
+/// and prints the ledger. It prints the fault of a refused run as a reply; if the writer fails in
+/// it, it returns `Write`.
 pub fn perform<T: Threads + Wait + Sync, R: Source, W: Sink>(
     alloc: Global,
     rt: &T,
@@ -35,7 +35,7 @@ pub fn perform<T: Threads + Wait + Sync, R: Source, W: Sink>(
     print_refusal(ran, writer)
 }
 
-/// Does what the order says, but for printing a fault.
+/// Performs the order, but prints no fault.
 fn answer<T: Threads + Wait + Sync, R: Source, W: Sink>(
     alloc: Global,
     rt: &T,
@@ -59,7 +59,7 @@ fn answer<T: Threads + Wait + Sync, R: Source, W: Sink>(
     }
 }
 
-/// Works the running engine, and prints the ledger of that.
+/// Stresses the running engine, and prints the ledger.
 fn run_torture<T: Threads + Wait + Sync, W: Sink>(
     alloc: Global,
     rt: &T,
@@ -107,7 +107,7 @@ fn print_refusal<W: Sink>(ran: Result<(), RunFault>, writer: &mut W) -> Result<(
     }
 }
 
-/// The status with which the program ends: 0, or 1 where the run was refused or a stream failed.
+/// Returns the program's exit status: 0, or 1 if the run was refused or a stream failed.
 pub fn status_of(ended: &Result<(), RunFault>) -> u8
     ensures { result ≡ exit_status ended.now }
 {

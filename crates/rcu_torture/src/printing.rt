@@ -11,7 +11,7 @@ use rcu_seq::Fault;
 use rcu_stress::Ledger;
 use rcu_text::{BlockWriter, Failed, Output, Sink, put_numbered};
 
-/// Prints a fault as a reply is printed. Where the writer fails, it took a beginning of the line.
+/// Prints a fault as a reply is printed. If the writer fails, it took a prefix of the line.
 pub fn print_fault<W: Sink>(writer: &mut W, fault: Fault) -> Result<(), Failed>
     ensures { Writes result (W.outgoing writer.old) (W.outgoing writer.new) (fault_line fault) }
 {
@@ -19,7 +19,7 @@ pub fn print_fault<W: Sink>(writer: &mut W, fault: Fault) -> Result<(), Failed>
     send_fault(&mut out, fault)
 }
 
-/// Writes a fault's line through an output for which nothing waits.
+/// Writes a fault's line through an output with no bytes waiting.
 fn send_fault<O: Output>(out: &mut O, fault: Fault) -> Result<(), Failed>
     requires { (O.out out.old).waiting ≡ [] }
     ensures bytes { Writes result (O.out out.old).writer (O.out out.new).writer
@@ -30,8 +30,8 @@ fn send_fault<O: Output>(out: &mut O, fault: Fault) -> Result<(), Failed>
     out.flush()
 }
 
-/// Prints the ledger of so many workers and rounds, a line for each number. Where the writer fails,
-/// it took a beginning of the lines.
+/// Prints the ledger of this many workers and rounds, a line for each number. If the writer fails,
+/// it took a prefix of the lines.
 pub fn print_ledger<W: Sink>(
     writer: &mut W,
     workers: u32,
@@ -45,7 +45,7 @@ pub fn print_ledger<W: Sink>(
     send_ledger(&mut out, workers, rounds, ledger)
 }
 
-/// Writes a ledger's lines through an output for which nothing waits.
+/// Writes a ledger's lines through an output with no bytes waiting.
 fn send_ledger<O: Output>(
     out: &mut O,
     workers: u32,
@@ -61,7 +61,7 @@ fn send_ledger<O: Output>(
     out.flush()
 }
 
-/// Puts a ledger's lines behind what waits.
+/// Puts a ledger's lines after the bytes that wait.
 fn put_ledger<O: Output>(
     out: &mut O,
     workers: u32,

@@ -17,7 +17,7 @@ from sleep import OWN, sleeps
 GETS_QUIET = """
     quietME = 1                           | rcu_seat_idle(&own->seat)); .. wake_driver(own);
     fence !
-    s = slept                             | rcu_seat_wakes(&own->seat, &wakes)
+    s = slept                             | rcu_seat_should_wake_driver(&own->seat, &wakes)
     if s is ME goto wakes
     goto over
 wakes:
@@ -29,7 +29,7 @@ over:
 # A thread requests the grace period of a cookie, ME, and looks whether the driver sleeps if that is
 # the greatest. (What the second thread does is needed: it requests all.)
 REQUESTS = """
-    c = max cookie ME !                   | rcu_seat_want(&own->seat, cookie, &wakes)
+    c = max cookie ME !                   | rcu_seat_request_gp(&own->seat, cookie, &wakes)
     if c is ME goto over
     if c is 2 goto over
     s = asleep !                          | if (wakes) wake(&requested);
@@ -43,11 +43,11 @@ over:
 DRIVES = """
     lock
 again:
-    asleep = 1 !                          | must("wanted", rcu_wanted(&rcu, true, &cookie));
+    asleep = 1 !                          | must("requested", rcu_requested_gp(&rcu, true, &cookie));
     fence !
     c = cookie !
     if c is made goto sleeps              | if (rcu_poll(&rcu, cookie)) {
-    asleep = 0                            | must("wanted", rcu_wanted(&rcu, false, &cookie));
+    asleep = 0                            | must("requested", rcu_requested_gp(&rcu, false, &cookie));
     made = cookie                         | make_grace_periods(cookie);
     goto again
 sleeps:
@@ -80,7 +80,7 @@ PROTOCOLS = {
     "a sleep until two readers are quiet":
         ({"quiet1": 0, "quiet2": 0, "slept": 0},
          [GETS_QUIET.replace("ME", "1"), GETS_QUIET.replace("ME", "2"),
-          sleeps("rcu_may_sleep(&rcu, &sleeps, &left)",
+          sleeps("rcu_driver_prepare_wait(&rcu, &sleeps, &left)",
                  "if (sleeps) pthread_cond_wait(&quiet, &lock)")]),
     "a sleep until a thread requests a grace period":
         ({"cookie": 0, "asleep": 0},

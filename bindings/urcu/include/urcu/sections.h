@@ -19,7 +19,7 @@ extern "C" {
 struct urcu_place_1 {
     void *seat;
     unsigned long depth;
-    bool wished;
+    bool wake_requested;
 };
 struct urcu_reader_1 {
     struct urcu_place_1 *shown; /* null if the library's calls open and close the sections */
@@ -53,7 +53,7 @@ static inline enum urcu_exit_ urcu_exits_(struct urcu_reader_1 *reader) {
     }
     __atomic_store_n(&place->depth, 0, __ATOMIC_RELEASE);
     __atomic_signal_fence(__ATOMIC_SEQ_CST);
-    return __atomic_load_n(&place->wished, __ATOMIC_SEQ_CST) ? URCU_LEFT_AWAITED_ : URCU_LEFT_;
+    return __atomic_load_n(&place->wake_requested, __ATOMIC_SEQ_CST) ? URCU_LEFT_AWAITED_ : URCU_LEFT_;
 }
 
 /* Enter and leave a section within another one. Return false if the library's call has to. */

@@ -1,4 +1,4 @@
-//! The command line, as `clap` is told of it.
+//! The command line, as `clap` reads it.
 ghost use Rattle.std.specs.Prelude.{◌≡◌, false, IfOk, codes};
 ghost use Rattle.clap.specs.Words.{app_of, new_app, rule_of};
 ghost use Rattle.clap.specs.declared.builder.command.Command.TheViews.{out-Command as fields_of};
@@ -70,7 +70,7 @@ fn torture_command<'a>(alloc: Global) -> Result<Command<'a>, AllocError>
         .arg(required_option(alloc, "seed", seed, value_parser!(u64)))
 }
 
-/// A command of this name, and what help says of it: before its options, and behind them.
+/// Makes a command of this name, with its help before the options and after them.
 fn described<'a>(alloc: Global, name: &'a str, about: &'a str, more: &'a str) -> Command<'a>
     ensures app { app_of result ≡ new_app name.entry.now }
     ensures local { (fields_of result).has_globals ≡ false }

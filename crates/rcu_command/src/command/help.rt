@@ -10,35 +10,35 @@ Each line on standard input is an event. The reply to it is a line on standard o
 
 'rcu script --help', 'rcu pair --help' and 'rcu torture --help' say more.
 
-Exit status: 0; 1 where the run was refused ('fault N') or a stream failed; 2 where the command line
-was refused or asked for help.";
+Exit status: 0; 1 if the run was refused ('fault N') or a stream failed; 2 if the command line was
+refused or asked for help.";
 
 /// Of `script`.
 pub const SCRIPT: &str = "\
---leaf and --inner are one of these pairs, which hold so many processors at most:
+--leaf and --inner are one of these pairs, with the most processors that it can hold:
   2 2: 16    2 3: 54    4 4: 256    16 64: 4096    64 64: 4096
 Another pair gives 'fault 18', no processor or too many 'fault 17', another last number 'fault 19'.
-At first processor 0 alone is online.
+At first only processor 0 is online.
 
 Lines on standard input (C is a processor, counted from 0):
-  begin, end, turn         a grace period begins, ends, or whichever of both is due
-  awaits                   which processors it awaits
-  note C, quiet C          a processor notes the number; reports that it was quiet since
-  deliver K                the report K arrives
-  enter C, exit C          a read section of a processor
-  online C, offline C      a processor comes, and goes
-  idle C, wake C           it goes idle, where it opens no section until it wakes
-  scan C                   it is looked at: one found idle counts as a report of it
-  take, start              a cookie; one whose grace period is asked for
-  poll K, poll K E         whether the cookie K is done, of epoch 0 or of epoch E
-  renumber                 the next epoch begins, where the number is the last one
-  queue C ID, tend C       a callback waits on a processor; its list is brought up to date
-  run C MOST               callbacks that are done are handed out
-  bar, visit C, bartest    a barrier begins, visits a processor, is tested
+  begin, end, turn         begins or ends a grace period; turn does whichever is due
+  awaits                   lists the awaited processors
+  note C, quiet C          a processor notes the number; passes a quiescent state, and reports it
+  deliver K                report K arrives
+  enter C, exit C          a read-side critical section of a processor begins; ends
+  online C, offline C      a processor arrives; departs
+  idle C, wake C           a processor goes idle: it has no section until it wakes
+  scan C                   counts the quiescent state of an idle processor
+  take, start              takes a cookie; start also requests its grace period
+  poll K, poll K E         tests if the cookie K is done, of epoch 0 or of epoch E
+  renumber                 begins the next epoch, if the number is the last one
+  queue C ID, tend C       queues a callback; advances the callbacks of a processor
+  run C MOST               hands out callbacks that are done
+  bar, visit C, bartest    a barrier begins; visits a processor; is tested
 
-The reply to each line is a line on standard output, and 'fault N' where the line is refused. There
-are no comments. At the end of the input the exit status is 0. It is 1 where the run was refused
-before it began or a stream failed.
+The reply to each line is a line on standard output: 'fault N' if the line is refused. There are no
+comments. The exit status is 0 at the end of the input, and 1 if the run was refused at its opening
+or a stream failed.
 
 Examples:
   printf 'begin\\nnote 0\\nquiet 0\\ndeliver 1\\nend\\n' | rcu script --leaf 2 --inner 2 --cpus 1
@@ -46,23 +46,22 @@ Examples:
 
 /// Of `pair`.
 pub const PAIR: &str = "\
---leaf and --inner, and --leaf2 and --inner2, are each one of these pairs, which hold so many
-processors at most:
+--leaf and --inner, and --leaf2 and --inner2, are each one of these pairs, with the most processors
+that it can hold:
   2 2: 16    2 3: 54    4 4: 256    16 64: 4096    64 64: 4096
 Another pair gives 'fault 18', no processor or too many 'fault 17', another last number 'fault 19'.
 
 Lines on standard input (X is a or b, C a processor, counted from 0):
-  X begin C ..             a grace period of X begins, and awaits these processors
+  X begin C ..             begins a grace period of X that awaits these processors
   X report C V             a report of a processor, with the number V that it noted, arrives at X
   X depart C               a processor departs
-  X end                    the grace period of X ends
-  X awaits                 which processors X awaits
-  X merge                  X takes in what the other one heard
-  same                     whether both await the same processors
+  X end                    ends the grace period of X
+  X awaits                 lists the processors that X awaits
+  X merge                  X takes in the reports and departures that the other one has
+  same                     tests if both await the same processors
 
-The reply to each line is a line on standard output, and 'fault N' where the line is refused. At the
-end of the input the exit status is 0. It is 1 where the run was refused before it began or a stream
-failed.
+The reply to each line is a line on standard output: 'fault N' if the line is refused. The exit
+status is 0 at the end of the input, and 1 if the run was refused at its opening or a stream failed.
 
 Example:
   printf 'a begin 0 1\\nb begin 0 1\\na report 0 1\\nb merge\\nsame\\n' |
@@ -70,11 +69,11 @@ Example:
 
 /// Of `torture`.
 pub const TORTURE: &str = "\
-It reads nothing, and prints six lines: workers, rounds, how many callbacks were queued and how many
-ran, how often a callback or a cookie came too early, and how often a callback ran twice. The last
-two have to be 0. Out of memory, it prints 'fault 16' alone.
+It reads no input, and prints six lines: the workers, the rounds, the callbacks that were queued and
+those that ran, the callbacks and cookies that were done too early, and the callbacks that ran
+twice. The last two have to be 0. Out of memory, it prints only 'fault 16'.
 
-The exit status is 0 where the ledger was printed, whatever it says; 1 at a fault, or where standard
+The exit status is 0 if the ledger was printed, whatever it says; 1 at a fault, or if standard
 output failed.
 
 Example:

@@ -75,12 +75,12 @@ fn limits_are_replaced(rt: HostRuntime) {
     let Ok(mut opened) = opened else {
         return;
     };
-    let (live, cell, keeper) = (&opened.live, &opened.cell, &mut opened.keeper);
+    let (live, cell, writer) = (&opened.live, &opened.cell, &mut opened.writer);
     let mut seat = opened.seats.pop().unwrap();
     let retired = Retired { slot: 1, by: 2 };
     let found = cell.value_section(live, &mut seat);
     compare(&rt, "value_section", found, Ok(first));
-    let found = keeper.update_value(second);
+    let found = writer.update_value(second);
     compare(&rt, "update_value", found, Ok(retired));
     let found = cell.value_section(live, &mut seat);
     compare(&rt, "value_section", found, Ok(second));

@@ -1,7 +1,7 @@
 //! What moves the grace periods on, in tests with threads.
 ghost use Rattle.rcu_live.specs.CpuSeat.{IsSeatOf};
 
-use rcu_cell::{CellRule, CellSeat, Keeper, Version};
+use rcu_cell::{CellRule, CellSeat, Version, Writer};
 use rcu_live::Live;
 use std::sync::Wait;
 
@@ -11,14 +11,14 @@ use std::sync::Wait;
 pub(crate) fn drive<R: Wait, F: Version<W>, const W: usize>(
     rt: &R,
     live: &Live<4, 4, u64, CellRule<F, W>>,
-    keeper: &mut Keeper<F, W>,
+    writer: &mut Writer<F, W>,
     seat: &mut CellSeat<F, W>,
     cpus: u32,
 )
     requires { IsSeatOf live.now seat.old }
     ensures { IsSeatOf live.now seat.new }
 {
-    keeper.age();
+    writer.reclaim();
     if let Ok((_, 0)) = live.tend(rt, 0) {
         let _ = live.queue(rt, seat, 0);
         let _ = live.tend(rt, 0);
@@ -30,5 +30,5 @@ pub(crate) fn drive<R: Wait, F: Version<W>, const W: usize>(
     }
     let _ = live.turn(rt);
     let _ = live.run(rt, 0, 8);
-    keeper.age();
+    writer.reclaim();
 }

@@ -9,7 +9,7 @@ use crate::cell::limits::{Limits, Shared, SharedEngine};
 use crate::cell::parts::drive;
 use crate::compare::compare;
 use crate::seats::{next_online, next_seat};
-use rcu_cell::{CellSeat, Keeper, Value};
+use rcu_cell::{CellSeat, Value, Writer};
 use rcu_seq::Fault;
 use std::process::Abort;
 use std::sync::Wait;
@@ -60,7 +60,7 @@ impl<'a> Server<'a> {
 #[derive(Drop)]
 struct Control<'a> {
     live: &'a SharedEngine,
-    keeper: Keeper<Limits, 2>,
+    writer: Writer<Limits, 2>,
     seat: CellSeat<Limits, 2>,
     ghost seat_of: { IsSeatOf live.now seat },
 }
@@ -71,10 +71,10 @@ impl<'a> Control<'a> {
         requires { limits.rate ≤ limits.burst }
     {
         for _ in rt.forever() {
-            if self.keeper.update_value(limits).is_ok() {
+            if self.writer.update_value(limits).is_ok() {
                 return;
             }
-            drive(rt, self.live, &mut self.keeper, &mut self.seat, 2);
+            drive(rt, self.live, &mut self.writer, &mut self.seat, 2);
         }
     }
 
@@ -94,7 +94,7 @@ fn run_service<R: Abort + Threads + Wait + Sync>(
     live: &SharedEngine,
     cell: &Shared,
     mut seats: Vec<CellSeat<Limits, 2>>,
-    keeper: Keeper<Limits, 2>,
+    writer: Writer<Limits, 2>,
 ) -> u32
     requires engine { live.now ≡ cell.now }
     requires seats { All (IsOutside live.now) seats.items }
@@ -102,7 +102,7 @@ fn run_service<R: Abort + Threads + Wait + Sync>(
     let seat = next_online(rt, live, &mut seats);
     let server = Server { live, cell, seat };
     let seat = next_seat(rt, live, &mut seats);
-    let control = Control { live, keeper, seat };
+    let control = Control { live, writer, seat };
     let ((), answered) = thread::join(rt, move || control.work(rt), move || server.serve(rt));
     answered
 }
@@ -113,7 +113,7 @@ fn limits_are_replaced_while_requests_are_answered(rt: HostRuntime) {
     let Ok(opened) = Shared::open(rt.alloc(), 2, 4_000_000, 4, &first.to_words()) else {
         return;
     };
-    let (seats, keeper) = (opened.seats, opened.keeper);
-    let answered = run_service(&rt, &opened.live, &opened.cell, seats, keeper);
+    let (seats, writer) = (opened.seats, opened.writer);
+    let answered = run_service(&rt, &opened.live, &opened.cell, seats, writer);
     compare(&rt, "answered", answered, REQUESTS);
 }

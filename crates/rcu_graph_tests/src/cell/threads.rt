@@ -1,4 +1,4 @@
-//! Three readers and a keeper, each on a thread of its own: no version that is read is torn, and
+//! Three readers and a writer, each on a thread of its own: no version that is read is torn, and
 //! none is older than one that the same reader saw before.
 ghost use Rattle.std.specs.Prelude.{◌≡◌, All};
 ghost use Rattle.std.specs.Thread.{IsSync};
@@ -8,7 +8,7 @@ ghost use Rattle.rcu_graph.specs.Graph.{IsOutside};
 use crate::cell::parts::drive;
 use crate::compare::compare;
 use crate::seats::{next_online, next_seat};
-use rcu_cell::{Cell, CellRule, CellSeat, Invariant, Keeper, Version};
+use rcu_cell::{Cell, CellRule, CellSeat, Invariant, Version, Writer};
 use rcu_live::Live;
 use std::process::Abort;
 use std::sync::Wait;
@@ -92,7 +92,7 @@ impl<'a> Reader<'a> {
 #[derive(Drop)]
 struct Updater<'a> {
     live: &'a Engine,
-    keeper: Keeper<Same, 4>,
+    writer: Writer<Same, 4>,
     seat: CellSeat<Same, 4>,
     ghost seat_of: { IsSeatOf live.now seat },
 }
@@ -101,10 +101,10 @@ impl<'a> Updater<'a> {
     /// Publishes a version, as soon as a slot is free.
     fn publish<R: Wait>(&mut self, rt: &R, version: u64) {
         for _ in rt.forever() {
-            if self.keeper.update(&[version; 4]).is_ok() {
+            if self.writer.update(&[version; 4]).is_ok() {
                 return;
             }
-            drive(rt, self.live, &mut self.keeper, &mut self.seat, 4);
+            drive(rt, self.live, &mut self.writer, &mut self.seat, 4);
         }
     }
 
@@ -161,7 +161,7 @@ fn run_on<R: Abort + Threads + Wait + Sync>(
     live: &Engine,
     cell: &Numbered,
     mut seats: Vec<CellSeat<Same, 4>>,
-    keeper: Keeper<Same, 4>,
+    writer: Writer<Same, 4>,
 ) -> (bool, bool, bool)
     requires engine { live.now ≡ cell.now }
     requires seats { All (IsOutside live.now) seats.items }
@@ -170,16 +170,16 @@ fn run_on<R: Abort + Threads + Wait + Sync>(
     let b = next_reader(rt, live, cell, &mut seats);
     let c = next_reader(rt, live, cell, &mut seats);
     let seat = next_seat(rt, live, &mut seats);
-    let updater = Updater { live, keeper, seat };
+    let updater = Updater { live, writer, seat };
     run_beside(rt, updater, a, b, c)
 }
 
 #[test]
-fn readers_beside_a_keeper(rt: HostRuntime) {
+fn readers_beside_a_writer(rt: HostRuntime) {
     let Ok(opened) = Numbered::open(rt.alloc(), 4, 4_000_000, 64, &[0; 4]) else {
         return;
     };
-    let (seats, keeper) = (opened.seats, opened.keeper);
-    let right = run_on(&rt, &opened.live, &opened.cell, seats, keeper);
+    let (seats, writer) = (opened.seats, opened.writer);
+    let right = run_on(&rt, &opened.live, &opened.cell, seats, writer);
     compare(&rt, "readers", right, (true, true, true));
 }

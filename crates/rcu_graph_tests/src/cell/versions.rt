@@ -1,4 +1,4 @@
-//! A version that a section has loaded, while the keeper shows others.
+//! A version that a section has loaded, while the writer shows others.
 ghost use Rattle.std.specs.Prelude.{◌≡◌, ◌≤◌};
 ghost use Rattle.rcu_graph.specs.Graph.{IsOutside};
 
@@ -6,7 +6,7 @@ use crate::cell::limits::{Limits, Shared, SharedEngine};
 use crate::cell::{Any, Engine, Pairs, reads, shows};
 use crate::compare::compare;
 use crate::seats::{enters, exits};
-use rcu_cell::{CellSeat, Full, Keeper, Retired, Value};
+use rcu_cell::{CellSeat, Full, Retired, Value, Writer};
 use std::process::Abort;
 
 /// Words loaded before others are shown, and words loaded after them, in one section.
@@ -15,15 +15,15 @@ fn load_and_show<R: Abort>(
     live: &Engine,
     cell: &Pairs,
     seat: &mut CellSeat<Any, 2>,
-    keeper: &mut Keeper<Any, 2>,
+    writer: &mut Writer<Any, 2>,
 )
     requires engine { live.now ≡ cell.now }
     requires seat { IsOutside live.now seat.old }
 {
     enters(rt, live, seat);
     let mut loaded = cell.loaded(seat);
-    shows(rt, keeper, [3, 4], Ok(Retired { slot: 1, by: 2 }));
-    shows(rt, keeper, [5, 6], Err(Full));
+    shows(rt, writer, [3, 4], Ok(Retired { slot: 1, by: 2 }));
+    shows(rt, writer, [5, 6], Err(Full));
     compare(rt, "read", loaded.read(1), 2);
     compare(rt, "snapshot", loaded.snapshot(), [1, 2]);
     let mut later = cell.loaded(seat);
@@ -43,7 +43,7 @@ fn loaded_version_stays_as_it_was(rt: HostRuntime) {
         &opened.live,
         &opened.cell,
         &mut seat,
-        &mut opened.keeper,
+        &mut opened.writer,
     );
 }
 
@@ -53,7 +53,7 @@ fn load_and_show_values<R: Abort>(
     live: &SharedEngine,
     cell: &Shared,
     seat: &mut CellSeat<Limits, 2>,
-    keeper: &mut Keeper<Limits, 2>,
+    writer: &mut Writer<Limits, 2>,
     first: Limits,
     second: Limits,
 )
@@ -64,7 +64,7 @@ fn load_and_show_values<R: Abort>(
     enters(rt, live, seat);
     let mut loaded = cell.loaded(seat);
     let retired = Retired { slot: 1, by: 2 };
-    compare(rt, "update_value", keeper.update_value(second), Ok(retired));
+    compare(rt, "update_value", writer.update_value(second), Ok(retired));
     compare(rt, "value", loaded.value(), first);
     exits(rt, live, seat);
     let found = cell.value_section(live, seat);
@@ -84,7 +84,7 @@ fn loaded_value_stays_as_it_was(rt: HostRuntime) {
     let Ok(mut opened) = Shared::open(rt.alloc(), 1, 8, 2, &first.to_words()) else {
         return;
     };
-    let (live, cell, keeper) = (&opened.live, &opened.cell, &mut opened.keeper);
+    let (live, cell, writer) = (&opened.live, &opened.cell, &mut opened.writer);
     let mut seat = opened.seats.pop().unwrap();
-    load_and_show_values(&rt, live, cell, &mut seat, keeper, first, second);
+    load_and_show_values(&rt, live, cell, &mut seat, writer, first, second);
 }

@@ -7,29 +7,29 @@ use crate::cell::limits::{Limits, Shared, SharedEngine};
 use crate::cell::{Any, Engine, Pairs};
 use crate::compare::compare;
 use crate::seats::{next_online, next_seat};
-use rcu_cell::{CellSeat, Keeper, Retired, Value};
+use rcu_cell::{CellSeat, Retired, Value, Writer};
 use rcu_seq::Fault;
 use std::process::Abort;
 use std::sync::Wait;
 use std::thread;
 use std::thread::Threads;
 
-/// Has the keeper show these words, and compares what it answers.
+/// Has the writer show these words, and compares what it answers.
 fn shows<R: Abort + Wait>(
     rt: &R,
     live: &Engine,
-    keeper: &mut Keeper<Any, 2>,
+    writer: &mut Writer<Any, 2>,
     seat: &mut CellSeat<Any, 2>,
     words: [u64; 2],
     wanted: Result<Retired, Fault>,
 )
-    requires keeper { IsWatcherOf live.now keeper.old }
+    requires writer { IsWatcherOf live.now writer.old }
     requires seat { IsSeatOf live.now seat.old }
-    ensures keeper { IsWatcherOf live.now keeper.new }
+    ensures writer { IsWatcherOf live.now writer.new }
     ensures seat { IsSeatOf live.now seat.new }
     ensures depth { seat.new.depth ≡ seat.old.depth }
 {
-    let found = keeper.update_or_wait(rt, live, seat, &words);
+    let found = writer.update_or_wait(rt, live, seat, &words);
     compare(rt, words, found, wanted);
 }
 
@@ -38,19 +38,19 @@ fn shows<R: Abort + Wait>(
 fn update_up_to_the_last_number<R: Abort + Wait>(
     rt: &R,
     live: &Engine,
-    keeper: &mut Keeper<Any, 2>,
+    writer: &mut Writer<Any, 2>,
     seat: &mut CellSeat<Any, 2>,
 )
-    requires keeper { IsWatcherOf live.now keeper.old }
+    requires writer { IsWatcherOf live.now writer.old }
     requires seat { IsSeatOf live.now seat.old }
 {
     compare(rt, "enter", seat.enter(live), Ok(1));
-    shows(rt, live, keeper, seat, [2, 2], Err(Fault::InSection));
+    shows(rt, live, writer, seat, [2, 2], Err(Fault::InSection));
     compare(rt, "exit", seat.exit(live), Ok(0));
     shows(
         rt,
         live,
-        keeper,
+        writer,
         seat,
         [2, 2],
         Ok(Retired { slot: 1, by: 2 }),
@@ -58,13 +58,13 @@ fn update_up_to_the_last_number<R: Abort + Wait>(
     shows(
         rt,
         live,
-        keeper,
+        writer,
         seat,
         [3, 3],
         Ok(Retired { slot: 2, by: 1 }),
     );
-    shows(rt, live, keeper, seat, [4, 4], Err(Fault::Exhausted));
-    shows(rt, live, keeper, seat, [4, 4], Err(Fault::Exhausted));
+    shows(rt, live, writer, seat, [4, 4], Err(Fault::Exhausted));
+    shows(rt, live, writer, seat, [4, 4], Err(Fault::Exhausted));
 }
 
 #[test]
@@ -73,7 +73,7 @@ fn updates_wait_up_to_the_last_number(rt: HostRuntime) {
         return;
     };
     let mut seat = opened.seats.pop().unwrap();
-    update_up_to_the_last_number(&rt, &opened.live, &mut opened.keeper, &mut seat);
+    update_up_to_the_last_number(&rt, &opened.live, &mut opened.writer, &mut seat);
 }
 
 /// How often the limits are replaced, in two slots: each change but the first waits for a grace
@@ -126,9 +126,9 @@ impl<'a> Reader<'a> {
 #[derive(Drop)]
 struct Control<'a> {
     live: &'a SharedEngine,
-    keeper: Keeper<Limits, 2>,
+    writer: Writer<Limits, 2>,
     seat: CellSeat<Limits, 2>,
-    ghost keeper_of: { IsWatcherOf live.now keeper },
+    ghost writer_of: { IsWatcherOf live.now writer },
     ghost seat_of: { IsSeatOf live.now seat },
 }
 
@@ -136,7 +136,7 @@ impl<'a> Control<'a> {
     fn replace<R: Wait>(&mut self, rt: &R, limits: Limits) -> bool
         requires { limits.rate ≤ limits.burst }
     {
-        self.keeper
+        self.writer
             .update_value_or_wait(rt, self.live, &mut self.seat, limits)
             .is_ok()
     }
@@ -169,7 +169,7 @@ fn limits_are_replaced_in_two_slots(rt: HostRuntime) {
     let Ok(opened) = Shared::open(rt.alloc(), 2, 4_000_000, 2, &first.to_words()) else {
         return;
     };
-    let (mut seats, keeper) = (opened.seats, opened.keeper);
+    let (mut seats, writer) = (opened.seats, opened.writer);
     let (live, cell) = (&opened.live, &opened.cell);
     let reader = Reader {
         live,
@@ -178,7 +178,7 @@ fn limits_are_replaced_in_two_slots(rt: HostRuntime) {
         newest: 0,
     };
     let seat = next_seat(&rt, live, &mut seats);
-    let control = Control { live, keeper, seat };
+    let control = Control { live, writer, seat };
     let found = run_beside(&rt, control, reader);
     compare(&rt, "changes and reads", found, (CHANGES, READS));
 }

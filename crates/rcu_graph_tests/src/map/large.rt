@@ -3,18 +3,16 @@ use crate::compare::compare;
 use crate::map::Routes;
 use crate::map::scene::Scene;
 
-/// 40,000 nodes of a link and two words: 120,000 cells.
-const NODES: u32 = 40_000;
+const BUCKETS: usize = 4096;
 
-const BUCKETS: u32 = 4096;
-
-/// How many routes are put in: one for each node but the roots.
-const ROUTES: u32 = NODES - BUCKETS;
+/// How many routes are put in: as many as the map has room for. It has 40,001 nodes of a link and
+/// two words: 120,003 cells.
+const ROUTES: u32 = 35_904;
 
 impl<'a> Scene<'a> {
     /// Takes the route to a network out. Returns whether there was one.
     fn remove(&mut self, network: u32) -> bool {
-        self.keeper.remove(u64::from(network)).is_some()
+        self.writer.remove(u64::from(network)).is_some()
     }
 
     /// Whether a section finds the route to a network as it was put in.
@@ -27,12 +25,11 @@ impl<'a> Scene<'a> {
 
 #[test]
 fn each_of_35_904_routes_is_found(rt: HostRuntime) {
-    let (buckets, nodes) = (BUCKETS as usize, NODES as usize);
-    let Ok(mut opened) = Routes::open(rt.alloc(), 1, 4_000_000, buckets, nodes, 0) else {
+    let Ok(mut opened) = Routes::open(rt.alloc(), 1, 4_000_000, BUCKETS, ROUTES as usize, 0) else {
         return;
     };
     let mut scene = Scene {
-        keeper: opened.keeper,
+        writer: opened.writer,
         seat: opened.seats.pop().unwrap(),
         live: &opened.live,
         map: &opened.map,

@@ -10,7 +10,7 @@ use crate::map::scene::Scene;
 use crate::map::script::{NETWORKS, lists};
 use crate::map::{Routes, Seat};
 use crate::seats::{enters, exits};
-use rcu_map::MapKeeper;
+use rcu_map::MapWriter;
 use std::process::Abort;
 
 /// The networks from 1 to 9 as 4 buckets of a map of the seed 0 have them: 2 and 5, 4 and 7, 1, 6
@@ -37,7 +37,7 @@ fn one_by_one(map: &Routes, seat: &mut Seat) -> [Option<Route>; NETWORKS]
 
 /// Takes each route out as soon as a section has come to it, which goes on behind it. Returns how
 /// many there were.
-fn take_each(map: &Routes, keeper: &mut MapKeeper<Route, 2>, seat: &mut Seat) -> usize
+fn take_each(map: &Routes, writer: &mut MapWriter<Route, 2>, seat: &mut Seat) -> usize
     requires { IsWalking map.now seat.old }
     ensures state { seat.new ≡ after_word_step seat.old seat.new.view.client }
     ensures walking { IsWalking map.now seat.new }
@@ -48,7 +48,7 @@ fn take_each(map: &Routes, keeper: &mut MapKeeper<Route, 2>, seat: &mut Seat) ->
             return taken;
         };
         network = route.network;
-        if keeper.remove(network) != Some(route) {
+        if writer.remove(network) != Some(route) {
             return 0;
         }
     }
@@ -78,7 +78,7 @@ impl<'a> Scene<'a> {
     /// Takes each route out under a section that goes over all. Returns how many there were.
     fn clear<R: Abort>(&mut self, rt: &R) -> usize {
         enters(rt, self.live, &mut self.seat);
-        let taken = take_each(self.map, &mut self.keeper, &mut self.seat);
+        let taken = take_each(self.map, &mut self.writer, &mut self.seat);
         exits(rt, self.live, &mut self.seat);
         taken
     }
@@ -86,11 +86,11 @@ impl<'a> Scene<'a> {
 
 #[test]
 fn each_route_comes_behind_the_one_before(rt: HostRuntime) {
-    let Ok(mut opened) = Routes::open(rt.alloc(), 1, 4_000, 4, 13, 0) else {
+    let Ok(mut opened) = Routes::open(rt.alloc(), 1, 4_000, 4, 9, 0) else {
         return;
     };
     let mut scene = Scene {
-        keeper: opened.keeper,
+        writer: opened.writer,
         seat: opened.seats.pop().unwrap(),
         live: &opened.live,
         map: &opened.map,

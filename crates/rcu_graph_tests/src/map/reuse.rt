@@ -6,19 +6,19 @@ ghost use Rattle.rcu_graph.specs.Graph.{IsWatcherOf};
 use crate::compare::compare;
 use crate::map::route::Route;
 use crate::map::{Engine, Routes, Seat};
-use rcu_map::{MapKeeper, Put};
+use rcu_map::{MapWriter, Put};
 use std::sync::Wait;
 
 /// How many routes are put in and taken out again.
 const REMOVALS: u32 = 1_000_000;
 
-/// The keeper of a map of one processor.
+/// The writer of a map of one processor.
 #[derive(Drop)]
 struct Scene<'a> {
     live: &'a Engine,
-    keeper: MapKeeper<Route, 2>,
+    writer: MapWriter<Route, 2>,
     seat: Seat,
-    ghost keeper_of: { IsWatcherOf live.now keeper },
+    ghost writer_of: { IsWatcherOf live.now writer },
     ghost seat_of: { IsSeatOf live.now seat },
 }
 
@@ -29,19 +29,19 @@ impl<'a> Scene<'a> {
         requires { 0 < route.network }
     {
         let put = self
-            .keeper
+            .writer
             .put_or_wait(rt, self.live, &mut self.seat, Put::Insert, route);
-        put == Ok(None) && self.keeper.remove(route.network) == Some(route)
+        put == Ok(None) && self.writer.remove(route.network) == Some(route)
     }
 }
 
 #[test]
 fn a_million_removals_through_256_nodes(rt: HostRuntime) {
-    let Ok(mut opened) = Routes::open(rt.alloc(), 1, 1 << 62, 16, 256, 0) else {
+    let Ok(mut opened) = Routes::open(rt.alloc(), 1, 1 << 62, 16, 239, 0) else {
         return;
     };
     let mut scene = Scene {
-        keeper: opened.keeper,
+        writer: opened.writer,
         seat: opened.seats.pop().unwrap(),
         live: &opened.live,
     };
@@ -54,5 +54,5 @@ fn a_million_removals_through_256_nodes(rt: HostRuntime) {
         }
     }
     compare(&rt, "put_or_wait", done, REMOVALS);
-    compare(&rt, "len", scene.keeper.len(), 0);
+    compare(&rt, "len", scene.writer.len(), 0);
 }

@@ -7,7 +7,7 @@ use crate::compare::compare;
 use crate::seats::{enters, exits};
 use rcu_graph::{Full, Invariant, NotOpened};
 use rcu_live::Live;
-use rcu_map::{Map, MapKeeper, MapSeat, Put, make_plan};
+use rcu_map::{Map, MapSeat, MapWriter, Put, make_plan};
 use rcu_seq::Fault;
 use std::alloc::{AllocError, Global};
 use std::process::Abort;
@@ -53,14 +53,14 @@ fn has(room: &[u64], row: &mut [u64], key: u64, version: u64) -> bool
     *room == *row
 }
 
-/// A keeper, an entry, and room for one.
+/// A writer, an entry, and room for one.
 #[derive(Drop)]
 struct Desk {
-    keeper: MapKeeper<Row, 0>,
+    writer: MapWriter<Row, 0>,
     row: Vec<u64>,
     room: Vec<u64>,
-    ghost row_of: { length row.items ≡ keeper.view.client.plan.words },
-    ghost room_of: { length room.items ≡ keeper.view.client.plan.words },
+    ghost row_of: { length row.items ≡ writer.view.client.plan.words },
+    ghost room_of: { length room.items ≡ writer.view.client.plan.words },
 }
 
 impl Desk {
@@ -68,20 +68,20 @@ impl Desk {
     fn put(&mut self, how: Put, key: u64, version: u64) -> Result<bool, Full>
         requires { 0 < key }
     {
-        self.keeper.plan();
+        self.writer.plan();
         write_row(&mut self.row, key, version);
-        self.keeper.put_words(how, &self.row, &mut self.room)
+        self.writer.put_words(how, &self.row, &mut self.room)
     }
 
     /// Whether the room has the entry of this key and version.
     fn has(&mut self, key: u64, version: u64) -> bool
         requires { 0 < key }
     {
-        self.keeper.plan();
+        self.writer.plan();
         has(&self.room, &mut self.row, key, version)
     }
 
-    /// Puts an entry of each key in, replaces it, and looks it up as its keeper does.
+    /// Puts an entry of each key in, replaces it, and looks it up as its writer does.
     fn fill<R: Abort>(&mut self, rt: &R) {
         for key in 1..=KEYS {
             compare(rt, key, self.put(Put::Replace, key, 0), Ok(false));
@@ -90,31 +90,31 @@ impl Desk {
             compare(rt, "the one that is there", self.has(key, 1), true);
             compare(rt, key, self.put(Put::Upsert, key, 3), Ok(true));
             compare(rt, "the one that was there", self.has(key, 1), true);
-            compare(rt, key, self.keeper.get_words(key, &mut self.room), true);
+            compare(rt, key, self.writer.get_words(key, &mut self.room), true);
             compare(rt, "the new one", self.has(key, 3), true);
         }
         compare(
             rt,
             "get_words",
-            self.keeper.get_words(0, &mut self.room),
+            self.writer.get_words(0, &mut self.room),
             false,
         );
-        compare(rt, "len", self.keeper.len() as u64, KEYS);
+        compare(rt, "len", self.writer.len() as u64, KEYS);
     }
 
     /// Takes the entry of each key out.
     fn clear<R: Abort>(&mut self, rt: &R) {
         for key in 1..=KEYS {
-            compare(rt, key, self.keeper.remove_words(key, &mut self.room), true);
+            compare(rt, key, self.writer.remove_words(key, &mut self.room), true);
             compare(rt, "the one that was there", self.has(key, 3), true);
             compare(
                 rt,
                 key,
-                self.keeper.remove_words(key, &mut self.room),
+                self.writer.remove_words(key, &mut self.room),
                 false,
             );
         }
-        compare(rt, "len", self.keeper.len(), 0);
+        compare(rt, "len", self.writer.len(), 0);
     }
 }
 
@@ -185,7 +185,7 @@ fn uses<R: Abort>(rt: &R, alloc: Global, words: usize) -> Result<(), NotOpened>
     };
     let live = Live::new(board, opened.live);
     let mut desk = Desk {
-        keeper: opened.keeper,
+        writer: opened.writer,
         row,
         room,
     };

@@ -1,4 +1,4 @@
-//! A map of one processor, and its keeper.
+//! A map of one processor, and its writer.
 ghost use Rattle.std.specs.Prelude.{◌≡◌};
 ghost use Rattle.rcu_live.specs.CpuSeat.{IsSeatOf};
 ghost use Rattle.rcu_graph.specs.Planned.{of_plan};
@@ -6,14 +6,14 @@ ghost use Rattle.rcu_graph.specs.declared.known.Known.TheVariants.{Idle};
 
 use crate::map::route::Route;
 use crate::map::{Engine, Routes, Seat};
-use rcu_map::MapKeeper;
+use rcu_map::MapWriter;
 
-/// A map of one processor, and its keeper.
+/// A map of one processor, and its writer.
 #[derive(Drop)]
 pub(crate) struct Scene<'a> {
     pub(crate) live: &'a Engine,
     pub(crate) map: &'a Routes,
-    pub(crate) keeper: MapKeeper<Route, 2>,
+    pub(crate) writer: MapWriter<Route, 2>,
     pub(crate) seat: Seat,
     pub(crate) ghost engine: { live.now ≡ map.now },
     pub(crate) ghost seat_of: { IsSeatOf map.now seat },
@@ -27,6 +27,6 @@ impl<'a> Scene<'a> {
         let Some(route) = Route::to(network, port) else {
             return false;
         };
-        self.keeper.insert(route) == Ok(None)
+        self.writer.insert(route) == Ok(None)
     }
 }

@@ -1,4 +1,4 @@
-//! One thread calls a map by a script, beside a plain table of what it has: by the map's keeper,
+//! One thread calls a map by a script, beside a plain table of what it has: by the map's writer,
 //! and by an updater.
 mod caller;
 
@@ -26,9 +26,13 @@ use std::sync::Wait;
 #[derive(Clone, Copy)]
 enum Call {
     Put(Put, u32, u32, Result<Option<u32>, Full>),
+    /// With the port that was read, and the new one.
+    Compare(u32, u32, u32, Result<Option<u32>, Full>),
     Remove(u32, Option<u32>),
+    /// With the port that was read.
+    CompareRemove(u32, u32, Option<u32>),
     /// A grace period passes, and the caller looks before it and behind it.
-    Age,
+    Reclaim,
 }
 
 /// How many networks there are. A network with the port 0 has no route.
@@ -42,9 +46,12 @@ static ORDER: Order = (0, [0, 2, 4, 5, 7, 1, 3, 6, 8, 9]);
 static OTHER_ORDER: Order = (0x6A09_E667_F3BC_C908, [0, 1, 3, 5, 7, 9, 2, 4, 6, 8]);
 
 /// Entries in front of others, behind them and between them; each call where the key is there, and
-/// where it is not; all nodes used, and some free again.
-static SCRIPT: [Call; 36] = [
+/// where it is not; a full map, and one of which no node is free yet; updates where the port is as
+/// it was read, and where it is another one.
+static SCRIPT: [Call; 50] = [
     Call::Remove(5, None),
+    Call::Compare(5, 1, 1, Ok(None)),
+    Call::CompareRemove(5, 1, None),
     Call::Put(Replace, 5, 1, Ok(None)),
     Call::Put(Insert, 5, 1, Ok(None)),
     Call::Put(Insert, 5, 2, Ok(Some(1))),
@@ -53,33 +60,45 @@ static SCRIPT: [Call; 36] = [
     Call::Put(Insert, 4, 5, Ok(None)),
     Call::Put(Insert, 3, 6, Err(Full)),
     Call::Put(Insert, 4, 6, Ok(Some(5))),
-    Call::Put(Replace, 7, 6, Err(Full)),
+    Call::Compare(7, 5, 6, Ok(Some(4))),
+    Call::Put(Replace, 7, 6, Ok(Some(4))),
+    Call::Put(Replace, 7, 8, Err(Full)),
     Call::Put(Replace, 3, 6, Ok(None)),
-    Call::Put(Upsert, 7, 6, Err(Full)),
+    Call::Put(Upsert, 7, 8, Err(Full)),
     Call::Put(Upsert, 3, 6, Err(Full)),
-    Call::Remove(7, Some(4)),
+    Call::Compare(7, 6, 8, Err(Full)),
+    Call::Compare(7, 4, 8, Ok(Some(6))),
+    Call::Compare(3, 4, 8, Ok(None)),
+    Call::CompareRemove(7, 4, Some(6)),
+    Call::CompareRemove(7, 6, Some(6)),
+    Call::CompareRemove(7, 6, None),
     Call::Remove(7, None),
     Call::Put(Insert, 3, 6, Err(Full)),
-    Call::Age,
+    Call::Reclaim,
     Call::Put(Insert, 3, 6, Ok(None)),
     Call::Remove(3, Some(6)),
-    Call::Age,
-    Call::Put(Replace, 5, 7, Ok(Some(1))),
-    Call::Put(Replace, 9, 8, Err(Full)),
-    Call::Age,
+    Call::Reclaim,
+    Call::Compare(5, 1, 7, Ok(Some(1))),
     Call::Put(Replace, 9, 8, Ok(Some(3))),
-    Call::Age,
-    Call::Put(Upsert, 9, 6, Ok(Some(8))),
-    Call::Age,
+    Call::Put(Replace, 9, 9, Err(Full)),
+    Call::Reclaim,
+    Call::Put(Replace, 9, 9, Ok(Some(8))),
+    Call::Reclaim,
+    Call::Put(Upsert, 9, 6, Ok(Some(9))),
+    Call::Reclaim,
     Call::Put(Upsert, 9, 9, Ok(Some(6))),
     Call::Remove(5, Some(7)),
     Call::Remove(9, Some(9)),
     Call::Remove(4, Some(5)),
-    Call::Age,
+    Call::Reclaim,
     Call::Put(Insert, 8, 1, Ok(None)),
     Call::Put(Insert, 6, 2, Ok(None)),
     Call::Put(Upsert, 2, 3, Ok(None)),
     Call::Put(Insert, 1, 4, Ok(None)),
+    Call::Put(Upsert, 3, 5, Err(Full)),
+    Call::Put(Upsert, 1, 5, Ok(Some(4))),
+    Call::Put(Insert, 3, 5, Err(Full)),
+    Call::CompareRemove(1, 4, Some(5)),
 ];
 
 /// Whether a call puts its route in, by the port that it returns.
@@ -160,16 +179,16 @@ impl<'a, C: Caller + Drop> Scene<'a, C> {
         let _ = self.seat.quiesce(self.live);
     }
 
-    /// A grace period passes: the nodes that were left are free. The caller looks at its number
+    /// A grace period passes: the nodes that were unlinked are free. The caller looks at its number
     /// before, which is 4 less than after it.
-    fn age<R: Abort + Wait>(&mut self, rt: &R) {
+    fn reclaim<R: Abort + Wait>(&mut self, rt: &R) {
         let cookie = self.watcher.take(self.live);
-        let before = self.caller.age(rt);
-        compare(rt, "age", before.saturating_add(4), cookie.number);
+        let before = self.caller.reclaim(rt);
+        compare(rt, "reclaim", before.saturating_add(4), cookie.number);
         for _ in 0..4u32 {
             self.drive(rt, cookie);
         }
-        compare(rt, "age", self.caller.age(rt), cookie.number);
+        compare(rt, "reclaim", self.caller.reclaim(rt), cookie.number);
     }
 
     /// Makes a row's call, compares what it returns, and writes it into the table.
@@ -184,12 +203,30 @@ impl<'a, C: Caller + Drop> Scene<'a, C> {
                     self.note(network, port);
                 }
             }
+            Call::Compare(network, port, new, wanted) => {
+                let read = Route::to(network, port).expect(rt, "the script has routes");
+                let route = Route::to(network, new).expect(rt, "the script has routes");
+                let found = self.caller.compare_replace(rt, read, route);
+                let found = found.map(|old| old.map(|route| route.port));
+                compare(rt, row, found, wanted);
+                if wanted == Ok(Some(port)) {
+                    self.note(network, new);
+                }
+            }
+            Call::CompareRemove(network, port, wanted) => {
+                let read = Route::to(network, port).expect(rt, "the script has routes");
+                let found = self.caller.compare_remove(rt, read);
+                compare(rt, row, found.map(|route| route.port), wanted);
+                if wanted == Some(port) {
+                    self.note(network, 0);
+                }
+            }
             Call::Remove(network, wanted) => {
                 let found = self.caller.remove(rt, u64::from(network));
                 compare(rt, row, found.map(|route| route.port), wanted);
                 self.note(network, 0);
             }
-            Call::Age => self.age(rt),
+            Call::Reclaim => self.reclaim(rt),
         }
     }
 
@@ -237,12 +274,12 @@ impl<'a, C: Caller + Drop> Scene<'a, C> {
 #[test]
 fn map_is_as_its_script_says(rt: HostRuntime) {
     let (seed, order) = ORDER;
-    let Ok(mut opened) = Routes::open(rt.alloc(), 1, 4_000_000, 2, 6, seed) else {
+    let Ok(mut opened) = Routes::open(rt.alloc(), 1, 4_000_000, 2, 4, seed) else {
         return;
     };
     let mut scene = Scene {
         caller: Alone {
-            keeper: opened.keeper,
+            writer: opened.writer,
         },
         seat: opened.seats.pop().unwrap(),
         watcher: opened.watchers.pop().unwrap(),
@@ -257,12 +294,12 @@ fn map_is_as_its_script_says(rt: HostRuntime) {
 #[test]
 fn updater_does_as_the_script_says(rt: HostRuntime) {
     let (seed, order) = OTHER_ORDER;
-    let Ok(mut opened) = Routes::open(rt.alloc(), 1, 4_000_000, 2, 6, seed) else {
+    let Ok(mut opened) = Routes::open(rt.alloc(), 1, 4_000_000, 2, 4, seed) else {
         return;
     };
     let mut scene = Scene {
         caller: Shared {
-            updater: Control::new(opened.keeper),
+            updater: Control::new(opened.writer),
         },
         seat: opened.seats.pop().unwrap(),
         watcher: opened.watchers.pop().unwrap(),

@@ -14,11 +14,11 @@ const MOVES: u32 = 200;
 /// Takes the route to a network out, and puts it in as one to the other network. Returns whether
 /// there was one, and none to the other network.
 fn move_on<R: Wait>(rt: &R, control: &Control, from: u32, to: u32) -> bool {
-    let mut keeper = control.lock(rt);
-    if let Some(route) = keeper.remove(u64::from(from))
+    let mut writer = control.lock(rt);
+    if let Some(route) = writer.remove(u64::from(from))
         && let Some(moved) = Route::to(to, route.port)
     {
-        return keeper.insert(moved) == Ok(None) && keeper.len() == 1;
+        return writer.insert(moved) == Ok(None) && writer.len() == 1;
     }
     false
 }
@@ -48,7 +48,7 @@ fn route_is_moved_under_one_lock(rt: HostRuntime) {
     let Ok(opened) = Routes::open::<4, 4, u64>(rt.alloc(), 1, 4_000, 1, 1024, 0) else {
         return;
     };
-    let control = Control::new(opened.keeper);
+    let control = Control::new(opened.writer);
     if let Some(route) = Route::to(1, 7) {
         compare(&rt, "insert", control.insert(&rt, route), Ok(None));
     }

@@ -127,11 +127,11 @@ fn is_as_told<R: Abort + Wait>(rt: &R, control: &Control, history: &History) {
 #[test]
 fn readers_beside_updates_by_two_threads(rt: HostRuntime) {
     // Up to 28 routes.
-    let Ok(opened) = Routes::open(rt.alloc(), 7, 4_000_000, BUCKETS, 32, 0) else {
+    let Ok(opened) = Routes::open(rt.alloc(), 7, 4_000_000, BUCKETS, 28, 0) else {
         return;
     };
     let history = History::new(4, 2);
-    let control = Control::new(opened.keeper);
+    let control = Control::new(opened.writer);
     begin(&rt, &control);
     let spare = Spare {
         seats: opened.seats,

@@ -8,7 +8,7 @@ use crate::compare::compare;
 use crate::map::route::Route;
 use crate::map::{Engine, Routes, Seat};
 use rcu_map::Put::{Insert, Replace, Upsert};
-use rcu_map::{MapKeeper, NotPut, Put};
+use rcu_map::{MapWriter, NotPut, Put};
 use rcu_seq::Fault;
 use std::alloc::Global;
 use std::process::Abort;
@@ -23,13 +23,13 @@ enum Call {
     Exit,
 }
 
-/// A keeper of a map, with the seat of its one processor.
+/// A writer of a map, with the seat of its one processor.
 #[derive(Drop)]
 struct Scene<'a> {
     live: &'a Engine,
-    keeper: MapKeeper<Route, 2>,
+    writer: MapWriter<Route, 2>,
     seat: Seat,
-    ghost keeper_of: { IsWatcherOf live.now keeper },
+    ghost writer_of: { IsWatcherOf live.now writer },
     ghost seat_of: { IsSeatOf live.now seat },
 }
 
@@ -37,7 +37,7 @@ impl<'a> Scene<'a> {
     fn put<R: Wait>(&mut self, rt: &R, how: Put, route: Route) -> Result<Option<Route>, NotPut>
         requires { 0 < route.network }
     {
-        self.keeper
+        self.writer
             .put_or_wait(rt, self.live, &mut self.seat, how, route)
     }
 
@@ -52,7 +52,7 @@ impl<'a> Scene<'a> {
                 }
             }
             Call::Remove(network, wanted) => {
-                let found = self.keeper.remove(u64::from(network));
+                let found = self.writer.remove(u64::from(network));
                 compare(rt, row, found.map(|route| route.port), wanted);
             }
             Call::Enter => compare(rt, row, self.seat.enter(self.live), Ok(1)),
@@ -64,11 +64,11 @@ impl<'a> Scene<'a> {
 /// Makes the calls in their order, up to this last number, on a map of two routes at most, in one
 /// bucket. Compares the routes to the networks 1 to 4 in the end: a port of 0 is none.
 fn makes<R: Abort + Wait>(rt: &R, alloc: Global, last: u64, calls: &[Call], ports: [u32; 4]) {
-    let Ok(mut opened) = Routes::open(alloc, 1, last, 1, 3, 0) else {
+    let Ok(mut opened) = Routes::open(alloc, 1, last, 1, 2, 0) else {
         return;
     };
     let mut scene = Scene {
-        keeper: opened.keeper,
+        writer: opened.writer,
         seat: opened.seats.pop().unwrap(),
         live: &opened.live,
     };
@@ -76,40 +76,42 @@ fn makes<R: Abort + Wait>(rt: &R, alloc: Global, last: u64, calls: &[Call], port
         scene.call(rt, row, *call);
     }
     for (network, port) in (1..=4u64).zip(ports) {
-        let found = scene.keeper.get(network).map(|route| route.port);
+        let found = scene.writer.get(network).map(|route| route.port);
         compare(rt, network, found.unwrap_or(0), port);
     }
 }
 
-/// Each node is live, or some were left: each way to put a route in, where it needs a node and
-/// where it does not.
-static FULL: [Call; 21] = [
+/// A map that is full, and one that is not: each way to put a route in, where it is one too many,
+/// where it needs a node and where it does not.
+static FULL: [Call; 23] = [
     Call::Put(Replace, 1, 1, Ok(None)),
     Call::Put(Insert, 1, 1, Ok(None)),
     Call::Put(Upsert, 2, 2, Ok(None)),
     Call::Put(Insert, 3, 3, Err(NotPut::Full)),
     Call::Put(Insert, 2, 4, Ok(Some(2))),
-    Call::Put(Replace, 2, 4, Err(NotPut::Full)),
-    Call::Put(Upsert, 2, 4, Err(NotPut::Full)),
-    Call::Put(Replace, 3, 4, Ok(None)),
+    Call::Put(Replace, 2, 4, Ok(Some(2))),
+    Call::Put(Upsert, 2, 5, Ok(Some(4))),
+    Call::Put(Insert, 3, 6, Err(NotPut::Full)),
+    Call::Put(Upsert, 3, 6, Err(NotPut::Full)),
+    Call::Put(Replace, 3, 6, Ok(None)),
     Call::Remove(1, Some(1)),
-    Call::Put(Insert, 2, 5, Ok(Some(2))),
-    Call::Put(Replace, 1, 5, Ok(None)),
+    Call::Put(Insert, 2, 6, Ok(Some(5))),
+    Call::Put(Replace, 1, 6, Ok(None)),
     Call::Put(Insert, 3, 6, Ok(None)),
     Call::Put(Insert, 4, 7, Err(NotPut::Full)),
-    Call::Remove(2, Some(2)),
+    Call::Remove(2, Some(5)),
     Call::Put(Replace, 3, 8, Ok(Some(6))),
     Call::Put(Upsert, 3, 9, Ok(Some(8))),
     Call::Put(Upsert, 1, 10, Ok(None)),
-    Call::Put(Replace, 3, 11, Err(NotPut::Full)),
-    Call::Put(Upsert, 4, 11, Err(NotPut::Full)),
+    Call::Put(Replace, 3, 11, Ok(Some(9))),
+    Call::Put(Upsert, 4, 12, Err(NotPut::Full)),
     Call::Remove(1, Some(10)),
-    Call::Put(Insert, 4, 12, Ok(None)),
+    Call::Put(Insert, 4, 13, Ok(None)),
 ];
 
 #[test]
-fn entries_wait_where_a_node_was_left(rt: HostRuntime) {
-    makes(&rt, rt.alloc(), 4_000, &FULL, [0, 0, 9, 12]);
+fn entries_wait_if_they_are_not_one_too_many(rt: HostRuntime) {
+    makes(&rt, rt.alloc(), 4_000, &FULL, [0, 0, 11, 13]);
 }
 
 /// In a section no call is made, whether a node is free or not.
@@ -134,22 +136,26 @@ fn no_entry_waits_in_a_section(rt: HostRuntime) {
 }
 
 /// A grace period passes, and then no other one: what needs a node is refused from then on.
-static LAST_NUMBER: [Call; 12] = [
+static LAST_NUMBER: [Call; 16] = [
     Call::Put(Insert, 1, 1, Ok(None)),
     Call::Put(Insert, 2, 2, Ok(None)),
-    Call::Remove(1, Some(1)),
-    Call::Put(Insert, 3, 3, Ok(None)),
+    Call::Put(Replace, 1, 3, Ok(Some(1))),
+    Call::Remove(1, Some(3)),
+    Call::Put(Insert, 3, 4, Ok(None)),
     Call::Remove(2, Some(2)),
-    Call::Put(Insert, 4, 4, Err(NotPut::Fault(Fault::Exhausted))),
-    Call::Put(Replace, 3, 4, Err(NotPut::Fault(Fault::Exhausted))),
-    Call::Put(Upsert, 3, 4, Err(NotPut::Fault(Fault::Exhausted))),
-    Call::Put(Insert, 3, 4, Ok(Some(3))),
-    Call::Put(Replace, 4, 4, Ok(None)),
-    Call::Put(Insert, 4, 4, Err(NotPut::Fault(Fault::Exhausted))),
+    Call::Put(Insert, 4, 5, Ok(None)),
+    Call::Put(Replace, 3, 6, Err(NotPut::Fault(Fault::Exhausted))),
+    Call::Put(Upsert, 3, 6, Err(NotPut::Fault(Fault::Exhausted))),
+    Call::Put(Insert, 3, 6, Ok(Some(4))),
+    Call::Put(Insert, 1, 6, Err(NotPut::Full)),
+    Call::Put(Replace, 1, 6, Ok(None)),
+    Call::Remove(4, Some(5)),
+    Call::Put(Insert, 4, 6, Err(NotPut::Fault(Fault::Exhausted))),
+    Call::Put(Upsert, 4, 6, Err(NotPut::Fault(Fault::Exhausted))),
     Call::Remove(4, None),
 ];
 
 #[test]
 fn entries_wait_up_to_the_last_number(rt: HostRuntime) {
-    makes(&rt, rt.alloc(), 4, &LAST_NUMBER, [0, 0, 3, 0]);
+    makes(&rt, rt.alloc(), 4, &LAST_NUMBER, [0, 0, 4, 0]);
 }

@@ -1,13 +1,13 @@
-//! A chain with its keeper: what a call asks for is tested first, by what the keeper knows.
+//! A chain with its writer: what a call asks for is tested first, by what the writer knows.
 ghost use Rattle.std.specs.Prelude.{◌≡◌, ◌<◌, ℕ, IfOk, IfSome, IsTrue, replicate, slice_index};
 ghost use Rattle.rcu_graph.specs.Graph.{word_to};
-ghost use Rattle.rcu_graph.specs.Keeper.{IsKeeperOf, IsReady};
+ghost use Rattle.rcu_graph.specs.Writer.{IsReady, IsWriterOf};
 ghost use Rattle.rcu_graph.specs.Nodes.{IsTarget, node_at, nodes_in, state_at};
 ghost use Rattle.rcu_graph.specs.Planned.{plan_of};
 ghost use Rattle.rcu_graph.specs.Steps.{IsClaimed};
 
 use crate::nodes::{Chain, Sorted};
-use rcu_graph::{Full, GraphWatcher, Keeper, Plan};
+use rcu_graph::{Full, GraphWatcher, Plan, Writer};
 use std::alloc::{AllocError, Global};
 
 /// A root, and three nodes with a key and a value.
@@ -21,43 +21,43 @@ pub(crate) const PLAN: Plan = Plan {
 
 /// Who keeps the chain.
 #[derive(Drop)]
-pub(crate) struct ChainKeeper {
-    pub(crate) keeper: Keeper<Sorted>,
-    ghost sized: { keeper.view.client.plan ≡ plan_of 1 1 2 4 0 },
+pub(crate) struct ChainWriter {
+    pub(crate) writer: Writer<Sorted>,
+    ghost sized: { writer.view.client.plan ≡ plan_of 1 1 2 4 0 },
 }
 
-impl ChainKeeper {
+impl ChainWriter {
     pub(crate) fn new(
         alloc: Global,
         chain: &Chain,
         own: GraphWatcher<Sorted>,
     ) -> Result<Self, AllocError>
         requires sized { chain.now.plan ≡ plan_of 1 1 2 4 0 }
-        requires keeper { IsKeeperOf chain.now own }
+        requires writer { IsWriterOf chain.now own }
         requires first { IsClaimed (λ _. replicate 2 0) 1 1 2 4 own.view.client.known }
     {
-        let keeper = Keeper::new(alloc, chain, own)?;
-        Ok(ChainKeeper { keeper })
+        let writer = Writer::new(alloc, chain, own)?;
+        Ok(ChainWriter { writer })
     }
 
     /// Whether a node's link may lead there: nowhere, or to a live node of a greater key.
     fn may_lead(&self, from: usize, to: Option<usize>) -> bool
         requires { from < 4 }
         ensures { IsTrue result → IsTarget (λ from to. slice_index from 0 < slice_index to 0)
-            (node_at (nodes_in self.now.keeper.view.client.known) from).words
-            (nodes_in self.now.keeper.view.client.known) (word_to to) }
+            (node_at (nodes_in self.now.writer.view.client.known) from).words
+            (nodes_in self.now.writer.view.client.known) (word_to to) }
     {
-        self.keeper.tends();
+        self.writer.tends();
         let Some(node) = to else {
             return true;
         };
         if node >= 4 {
             return false;
         }
-        if !self.keeper.is_live(node) {
+        if !self.writer.is_live(node) {
             return false;
         }
-        self.keeper.word(from, 0) < self.keeper.word(node, 0)
+        self.writer.word(from, 0) < self.writer.word(node, 0)
     }
 
     /// Whether a node may be published.
@@ -65,9 +65,9 @@ impl ChainKeeper {
         requires { node < 4 }
         ensures { IsTrue result → IsReady (λ _. Unit {0})
             (λ _ from to. slice_index from 0 < slice_index to 0) 1
-            (nodes_in self.now.keeper.view.client.known) node }
+            (nodes_in self.now.writer.view.client.known) node }
     {
-        self.keeper.is_free(node) && self.may_lead(node, self.keeper.link_of(node, 0))
+        self.writer.is_free(node) && self.may_lead(node, self.writer.link_of(node, 0))
     }
 
     /// Fills a free node, which leads to another one or nowhere.
@@ -75,8 +75,8 @@ impl ChainKeeper {
         requires { IfSome to (λ node. node < 4) }
         ensures { IfOk result (λ node. node < 4) }
     {
-        let node = self.keeper.free_node()?;
-        self.keeper.fill(node, words, &[to]);
+        let node = self.writer.free_node()?;
+        self.writer.fill(node, words, &[to]);
         Ok(node)
     }
 
@@ -85,16 +85,16 @@ impl ChainKeeper {
         requires from { from < 4 }
         requires to { to < 4 }
     {
-        if !self.keeper.is_live(from) {
+        if !self.writer.is_live(from) {
             return false;
         }
         if !self.is_ready(to) {
             return false;
         }
-        if self.keeper.word(from, 0) >= self.keeper.word(to, 0) {
+        if self.writer.word(from, 0) >= self.writer.word(to, 0) {
             return false;
         }
-        self.keeper.publish(from, 0, to);
+        self.writer.publish(from, 0, to);
         true
     }
 
@@ -102,9 +102,9 @@ impl ChainKeeper {
     pub(crate) fn link(&mut self, from: usize, to: Option<usize>) -> bool
         requires { from < 4 }
     {
-        let may = self.keeper.is_live(from) && self.may_lead(from, to);
+        let may = self.writer.is_live(from) && self.may_lead(from, to);
         if may {
-            self.keeper.link(from, 0, to);
+            self.writer.link(from, 0, to);
         }
         may
     }
@@ -113,15 +113,15 @@ impl ChainKeeper {
     pub(crate) fn unlink(&mut self, from: usize) -> bool
         requires { from < 4 }
     {
-        let may = self.keeper.is_live(from);
+        let may = self.writer.is_live(from);
         if may {
-            self.keeper.unlink(from, 0);
+            self.writer.unlink(from, 0);
         }
         may
     }
 
     /// Looks at the number.
-    pub(crate) fn age(&mut self) -> u64 {
-        self.keeper.age()
+    pub(crate) fn reclaim(&mut self) -> u64 {
+        self.writer.reclaim()
     }
 }

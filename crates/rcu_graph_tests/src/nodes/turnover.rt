@@ -1,4 +1,4 @@
-//! Two readers search a chain on threads of their own while its keeper publishes and unlinks many
+//! Two readers search a chain on threads of their own while its writer publishes and unlinks many
 //! entries through three nodes: what a section found stays as it is, and none sees an entry older
 //! than one before.
 ghost use Rattle.std.specs.Prelude.{◌≡◌};
@@ -9,7 +9,7 @@ ghost use Rattle.rcu_graph.specs.Planned.{of_plan, plan_of};
 ghost use Rattle.rcu_graph.specs.declared.known.Known.TheVariants.{Idle};
 
 use crate::compare::compare;
-use crate::nodes::chain::{ChainKeeper, PLAN};
+use crate::nodes::chain::{ChainWriter, PLAN};
 use crate::nodes::{Chain, Engine, Seat};
 use crate::seats::{next_online, next_seat};
 use rcu_seq::Cookie;
@@ -108,11 +108,11 @@ impl<'a> Reader<'a> {
     }
 }
 
-/// The keeper, who drives the engine too, with the seat of processor 0.
+/// The writer, who drives the engine too, with the seat of processor 0.
 #[derive(Drop)]
 struct Updater<'a> {
     live: &'a Engine,
-    kept: ChainKeeper,
+    kept: ChainWriter,
     seat: Seat,
     ghost seat_of: { IsSeatOf live.now seat },
 }
@@ -120,13 +120,13 @@ struct Updater<'a> {
 impl<'a> Updater<'a> {
     /// Moves a grace period on, and looks which nodes are free.
     fn drive<R: Wait>(&mut self, rt: &R) {
-        let number = self.kept.age().saturating_add(4);
+        let number = self.kept.reclaim().saturating_add(4);
         let _ = self.live.drive_for(rt, Cookie { epoch: 0, number });
         let _ = self.seat.quiesce(self.live);
     }
 
     /// Publishes an entry in place of the one before, as soon as a node is free. Returns whether
-    /// the keeper let it.
+    /// the writer let it.
     fn publish<R: Wait>(&mut self, rt: &R, value: u64) -> bool {
         for _ in rt.forever() {
             if let Ok(node) = self.kept.fill_free(&[KEY, value], None) {
@@ -137,7 +137,7 @@ impl<'a> Updater<'a> {
         false
     }
 
-    /// Publishes an entry, and unlinks each fourth one again. Returns whether the keeper let it.
+    /// Publishes an entry, and unlinks each fourth one again. Returns whether the writer let it.
     fn turn_over<R: Wait>(&mut self, rt: &R, value: u64) -> bool {
         let is_published = self.publish(rt, value);
         if value % 4 == 0 {
@@ -156,7 +156,7 @@ impl<'a> Updater<'a> {
     }
 }
 
-/// Runs two readers beside the keeper. Where no thread can be made for the keeper, it runs here
+/// Runs two readers beside the writer. Where no thread can be made for the writer, it runs here
 /// last, since it waits for readers, and they for nobody.
 fn run_beside<R: Threads + Wait + Sync>(
     rt: &R,
@@ -190,10 +190,10 @@ fn readers_beside_a_turnover_of_nodes(rt: HostRuntime) {
         newest: 0,
     };
     let seat = next_seat(&rt, live, &mut seats);
-    let Ok(kept) = ChainKeeper::new(rt.alloc(), chain, own) else {
+    let Ok(kept) = ChainWriter::new(rt.alloc(), chain, own) else {
         return;
     };
     let updater = Updater { live, kept, seat };
     let right = run_beside(&rt, updater, a, b);
-    compare(&rt, "keeper and readers", right, (true, (true, true)));
+    compare(&rt, "writer and readers", right, (true, (true, true)));
 }

@@ -9,7 +9,7 @@ use super::{Exits, Pair, Rule, finds, joins, opens};
 use crate::compare::compare;
 use crate::map::route::Route;
 use rcu_live::{Live, Within};
-use rcu_map::{Map, MapKeeper, MapSeat, Put};
+use rcu_map::{Map, MapSeat, MapWriter, Put};
 use std::process::Abort;
 use std::sync::Wait;
 
@@ -17,10 +17,10 @@ use std::sync::Wait;
 const REMOVALS: u32 = 100;
 
 /// Puts a route in where its network has none.
-fn puts<R: Abort, P: Within<Rule>>(rt: &R, keeper: &mut MapKeeper<Route, 2, P>, row: (u32, u32)) {
+fn puts<R: Abort, P: Within<Rule>>(rt: &R, writer: &mut MapWriter<Route, 2, P>, row: (u32, u32)) {
     let (network, port) = row;
     if let Some(route) = Route::to(network, port) {
-        compare(rt, row, keeper.insert(route), Ok(None));
+        compare(rt, row, writer.insert(route), Ok(None));
     }
 }
 
@@ -61,7 +61,7 @@ fn lists<R: Abort, P: Within<Rule>>(
 #[test]
 fn a_section_reads_a_map_behind_another(rt: HostRuntime) {
     let alloc = rt.alloc();
-    let Ok(plan) = Map::<Route, 2>::sized(1, 4, 0) else {
+    let Ok(plan) = Map::<Route, 2>::sized(1, 2, 0) else {
         return;
     };
     let Some(plans) = Pair::plan(plan, plan) else {
@@ -69,11 +69,11 @@ fn a_section_reads_a_map_behind_another(rt: HostRuntime) {
     };
     let (live, mut seats, _, mut own) = opens(&rt, alloc, plans);
     let (exits, watcher): (Exits, _) = joins(&rt, live.words(), &mut own, plans);
-    let Ok(mut keeper) = MapKeeper::new(alloc, &exits, watcher) else {
+    let Ok(mut writer) = MapWriter::new(alloc, &exits, watcher) else {
         return;
     };
-    puts(&rt, &mut keeper, (7, 20));
-    puts(&rt, &mut keeper, (2, 30));
+    puts(&rt, &mut writer, (7, 20));
+    puts(&rt, &mut writer, (2, 30));
     if let Some(mut seat) = seats.pop() {
         compare(&rt, "enter", seat.enter(&live), Ok(1));
         finds(&rt, &exits, &mut seat, (7, Some(20)));
@@ -84,13 +84,13 @@ fn a_section_reads_a_map_behind_another(rt: HostRuntime) {
     }
 }
 
-/// The keeper of a map, wherever that stands in the engine, and the seat of the one processor.
+/// The writer of a map, wherever that stands in the engine, and the seat of the one processor.
 #[derive(Drop)]
 struct Scene<'a, P: Within<Rule>> {
     live: &'a Live<4, 4, u64, P::Whole>,
-    keeper: MapKeeper<Route, 2, P>,
+    writer: MapWriter<Route, 2, P>,
     seat: MapSeat<Route, 2, P>,
-    ghost of_map: { AreOf (engine_part P.own_plan P.begins live.now) keeper
+    ghost of_map: { AreOf (engine_part P.own_plan P.begins live.now) writer
         (seat_part P.lens seat) },
 }
 
@@ -101,16 +101,16 @@ impl<'a, P: Within<Rule>> Scene<'a, P> {
         requires { 0 < route.network }
     {
         let put = self
-            .keeper
+            .writer
             .put_or_wait(rt, self.live, &mut self.seat, Put::Insert, route);
-        put == Ok(None) && self.keeper.remove(route.network) == Some(route)
+        put == Ok(None) && self.writer.remove(route.network) == Some(route)
     }
 }
 
 #[test]
 fn a_map_behind_another_waits_for_a_node(rt: HostRuntime) {
     let alloc = rt.alloc();
-    let Ok(plan) = Map::<Route, 2>::sized(1, 4, 0) else {
+    let Ok(plan) = Map::<Route, 2>::sized(1, 2, 0) else {
         return;
     };
     let Some(plans) = Pair::plan(plan, plan) else {
@@ -118,11 +118,11 @@ fn a_map_behind_another_waits_for_a_node(rt: HostRuntime) {
     };
     let (live, mut seats, _, mut own) = opens(&rt, alloc, plans);
     let (exits, watcher): (Exits, _) = joins(&rt, live.words(), &mut own, plans);
-    let (Ok(keeper), Some(seat)) = (MapKeeper::new(alloc, &exits, watcher), seats.pop()) else {
+    let (Ok(writer), Some(seat)) = (MapWriter::new(alloc, &exits, watcher), seats.pop()) else {
         return;
     };
     let live = &live;
-    let mut scene = Scene { live, keeper, seat };
+    let mut scene = Scene { live, writer, seat };
     let mut done = 0u32;
     for number in 1..=REMOVALS {
         if let Some(route) = Route::to(number, number)

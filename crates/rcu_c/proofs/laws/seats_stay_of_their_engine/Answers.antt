@@ -7,6 +7,6 @@ returns-clause-map c = λ seat rcu now is same b. subst (BelongsTo seat) (sym is
     (record {
       words = record { table = b.words.table; cpus = b.words.cpus };
       map = record { table = b.map.table ∙ sym same.table; plan = b.map.plan ∙ sym same.plan };
-      wishes = b.wishes;
+      requests = b.requests;
       taken = b.taken;
     })

@@ -1,21 +1,25 @@
-use Rattle.std.proofs.Common.{ℕ, ap, map, sym, ◌∙◌}
+use Rattle.std.proofs.Common.{◌≡◌, ℕ, Some, ap, map, sym, ◌∙◌}
 use Rattle.std.proofs.lemmas.Result.{err_from_is_err_and}
 use Rattle.std.specs.List.{range_with_len}
+use Rattle.atomic_table.specs.Seated.{TableId}
 use Rattle.rcu_live.specs.CpuSeat.{at_first}
 use Rattle.rcu_live.specs.Watcher.{watcher_at_first}
 use Rattle.rcu_live.specs.Words.{base_of}
-use Rattle.rcu_graph.specs.Opening.{keeper_at_first}
+use Rattle.rcu_graph.specs.Opening.{writer_at_first}
 use Rattle.rcu_graph.specs.Planned.{of_plan}
 use Rattle.rcu_graph.specs.declared.known.Known.TheVariants.{Idle}
 use Rattle.rcu_graph.specs.declared.plan.Plan.{Plan}
 use Rattle.rcu_map.specs.Keys.{root_words}
+use Rattle.rcu_request.specs.Requests.{Requesting}
+use Rattle.rcu_c.specs.Seats.{Shared, seat_at_first}
+use Rattle.rcu_c.specs.declared.identity.Identity.{Identity}
 use Rattle.rcu_c.specs.MapSizes.{plan_of_sizes}
 use Rattle.rcu_c.proofs.Opened.{opened}
-use Rattle.rcu_c.proofs.Openings.{refused_told, unfit_told}
+use Rattle.rcu_c.proofs.Openings.{accepted_told, refused_told, unfit_told}
 use Rattle.rcu_c.proofs.making.make_engine.Goals as goal
 
-pub make_seats-requires : goal.make_seats-requires
-make_seats-requires c =
+pub make_places-requires : goal.make_places-requires
+make_places-requires c =
     let dealt = c.in_ok-live.ensures.dealt in
     let o = c.in_ok-live.field-0.map in
     let idle = of_plan o.plan Idle in
@@ -47,14 +51,38 @@ returns-in_err-live-clause-fault c =
     c.in_ok-plan.ensures.plan c.in_ok-plan.ensures.some c.in_ok-plan.ensures.wide
     c.open_planned.ensures.bad_sizes c.open_planned.ensures.fault _ c.in_err-live.was)
 
+pub returns-clause-fault : goal.returns-clause-fault
+returns-clause-fault c =
+    accepted_told c.args.sizes c.args.cpus c.args.last c.in_ok-plan.plan c.open_planned.result
+    c.in_ok-plan.ensures.plan c.in_ok-plan.ensures.some c.in_ok-plan.ensures.wide
+    c.open_planned.ensures.bad_sizes c.open_planned.ensures.fault _ c.in_ok-live.was
+
 pub returns-clause-state : goal.returns-clause-state
 returns-clause-state c =
     let e = c.in_ok-live.ensures in
     let planned = c.in_ok-plan.ensures.plan in
     let o = c.in_ok-live.field-0.map in
+    let kept = c.new-seats.ensures in
+    let same : c.new-seats.result.shared.identity ≡ c.args.identity =
+    ap (λ (s : Shared). s.identity) kept.shared in
+    let words : c.in-Ok.requester.words ≡ c.in-Ok.requests.words =
+    ap (λ (w : Requesting). w.words) c.in-Ok.ensures.thread in
     opened c.args.identity o (plan_of_sizes c.args.sizes) c.args.cpus c.args.last
-    c.in_ok-live.field-0.live c.in-Ok-make_seats.seats.items _ c.in_ok-live.field-0.keeper
-    c.new.result c.new.ensures e.dealt.size.count (e.plan ∙ planned) e.engine
-    c.in-Ok-make_seats.ensures c.in-Ok.ensures
+    c.in_ok-live.field-0.live c.new-seats.result.seats c.in-Ok.requests c.in_ok-live.field-0.writer
+    c.new.result
+    (c.new.ensures
+    ∙ ap (λ (i : Identity). record {
+      engine = c.in_ok-live.field-0.live;
+      seats = c.new-seats.result.seats;
+      requests = c.in-Ok.requests;
+      identity = i;
+      map = c.in_ok-live.field-0.writer;
+    }) same)
+    e.dealt.size.count (e.plan ∙ planned) e.engine
+    (kept.seats
+    ∙ ap (λ (w : TableId).
+    map (λ cpu. Some (seat_at_first c.args.identity o.table w o.plan o.cpus cpu))
+    (range_with_len 0 o.cpus)) words)
+    c.in-Ok.ensures.driver
     (e.own
-    ∙ ap (λ (p : Plan). keeper_at_first (root_words p.words) o.table c.args.cpus p) planned)
+    ∙ ap (λ (p : Plan). writer_at_first (root_words p.words) o.table c.args.cpus p) planned)

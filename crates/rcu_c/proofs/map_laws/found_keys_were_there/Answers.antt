@@ -8,7 +8,7 @@ use Rattle.rcu_c.proofs.MapLaws.{node_told}
 use Rattle.rcu_c.proofs.map_laws.found_keys_were_there.Goals as goal
 
 pub returns : goal.returns
-returns c = λ plan opened key keeper id from done last moments now run before after room entry some
+returns c = λ plan opened key writer id from done last moments now run before after room entry some
     one width up early kept made walks between keyed.
     let got = between.got in
     let is = got.got up in
@@ -16,7 +16,7 @@ returns c = λ plan opened key keeper id from done last moments now run before a
     (let sized = between.sized in omega (arith, sized, width)) got.is_told keyed in
     let Searches : Plan → Known → Known → Option ℕ → Type 0 =
     λ p was known n. IsSearched (bucket_of p.roots p.seed key) key was n known in
-    c.keys_found_over_a_run_were_there.ensures plan opened key keeper id from done last node.0
+    c.keys_found_over_a_run_were_there.ensures plan opened key writer id from done last node.0
     moments now run some one width up early kept made walks
     (subst (λ (p : Plan). Searches p (moments from).section (moments (from + done)).section
     (Some node.0)) between.planned

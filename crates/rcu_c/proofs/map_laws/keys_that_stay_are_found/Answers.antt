@@ -8,14 +8,14 @@ use Rattle.rcu_c.proofs.MapLaws.{told_of_key}
 use Rattle.rcu_c.proofs.map_laws.keys_that_stay_are_found.Goals as goal
 
 pub returns : goal.returns
-returns c = λ plan opened key keeper id from done last moments now run before after room entry some
+returns c = λ plan opened key writer id from done last moments now run before after room entry some
     one width up early kept made has walks between.
     let got = between.got in
     let is = got.got up in
     let Searches : Plan → Known → Known → Type 0 =
     λ p was known. IsSearched (bucket_of p.roots p.seed key) key was is.node known in
     told_of_key key (known_of after) is.node got.found room entry is.told got.is_told
-    (c.keys_that_stay_are_found_over_a_run.ensures plan opened key keeper id from done last moments
+    (c.keys_that_stay_are_found_over_a_run.ensures plan opened key writer id from done last moments
     now run is.node some one width up early kept made has walks
     (subst (λ (p : Plan). Searches p (moments from).section (moments (from + done)).section)
     between.planned

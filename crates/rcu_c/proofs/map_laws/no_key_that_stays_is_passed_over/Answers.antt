@@ -9,7 +9,7 @@ use Rattle.rcu_c.proofs.MapLaws.{told_next}
 use Rattle.rcu_c.proofs.map_laws.no_key_that_stays_is_passed_over.Goals as goal
 
 pub returns : goal.returns
-returns c = λ plan opened key stays keeper id from done last moments now run before after room entry
+returns c = λ plan opened key stays writer id from done last moments now run before after room entry
     some one width up early kept made has walks behind between.
     let went = between.next in
     let Goes : Plan → Known → Known → Type 0 =
@@ -21,5 +21,5 @@ returns c = λ plan opened key stays keeper id from done last moments now run be
     in
     told_next plan.roots plan.seed key stays (moments from).section (moments (from + done)).section
     went.found room entry went.is_told goes
-    (c.no_words_of_a_key_that_stays_are_passed_over.ensures plan opened key stays keeper id from
+    (c.no_words_of_a_key_that_stays_are_passed_over.ensures plan opened key stays writer id from
     done last moments now run went.found some one width up early kept made has walks behind goes)

@@ -8,9 +8,9 @@ use Rattle.rcu_c.proofs.small_runs.a_barrier_covers_the_value_before_it.Goals as
 -- the test after these calls may be made, and says done
 pub returns : goal.returns
 unfolding listed
-returns c = λ identity table wishes plan last value.
+returns c = λ identity table requests plan last value.
     c.barrier_covers_earlier_callbacks.ensures
-    (opened_at_first identity table wishes plan 1 last).engine
+    (opened_at_first identity table requests plan 1 last).engine
     (Run 0 1 ∷ Tend 0 ∷ Drive true (λ _. idle_word) ∷ Tend 0 ∷ Visit 0 ∷ BarrierBegin
     ∷ Queue 0 value ∷ [])
     1 (search rules) (search rules) refl (omega arith) (omega arith)

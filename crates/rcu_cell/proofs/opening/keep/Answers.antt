@@ -17,6 +17,6 @@ unreachable-requires g c =
     some_free p.links p.words p.nodes p.roots (λ _. g.F.Version.first)
     (omega (arith, root, several))
     (subst AreAllUsed
-    (ap (λ (w : Watching Planned). nodes_in w.view.client.known) c.in_ok-keeper.ensures
+    (ap (λ (w : Watching Planned). nodes_in w.view.client.known) c.in_ok-writer.ensures
     ∙ ap nodes_in c.requires.nodes)
     c.in_default.ensures.full)

@@ -1,6 +1,6 @@
 use Rattle.rcu_graph.proofs.SmallMoments.{small_chain, small_kept_on, small_nodes_at}
 use Rattle.rcu_graph.proofs.SmallMoments.{small_not_back, small_not_before, small_not_chain}
-use Rattle.rcu_graph.proofs.SmallMoments.{small_not_keeper, small_not_later, small_not_on}
+use Rattle.rcu_graph.proofs.SmallMoments.{small_not_later, small_not_on, small_not_writer}
 use Rattle.rcu_graph.proofs.SmallMoments.{small_open}
 use Rattle.rcu_graph.proofs.definition_laws.a_section_goes_on_over_a_run.Goals as goal
 
@@ -25,8 +25,8 @@ returns-clause-not_back c = small_not_back
 pub returns-clause-not_on_chain : goal.returns-clause-not_on_chain
 returns-clause-not_on_chain c = small_not_on
 
-pub returns-clause-not_keeper : goal.returns-clause-not_keeper
-returns-clause-not_keeper c = small_not_keeper
+pub returns-clause-not_writer : goal.returns-clause-not_writer
+returns-clause-not_writer c = small_not_writer
 
 pub returns-clause-not_later : goal.returns-clause-not_later
 returns-clause-not_later c = small_not_later

@@ -1,10 +1,10 @@
-//! Who makes the calls of a script: a map's keeper, or the same behind a lock.
+//! Who makes the calls of a script: a map's writer, or the same behind a lock.
 ghost use Rattle.std.specs.Prelude.{◌<◌};
 
 use crate::map::Control;
 use crate::map::route::Route;
 use rcu_graph::Full;
-use rcu_map::{MapKeeper, Put};
+use rcu_map::{MapWriter, Put};
 use std::sync::Wait;
 
 /// Who changes a map, and knows what it has.
@@ -14,9 +14,21 @@ pub(crate) trait Caller {
     fn put<R: Wait>(&mut self, rt: &R, how: Put, route: Route) -> Result<Option<Route>, Full>
         requires { 0 < route.network };
 
+    fn compare_replace<R: Wait>(
+        &mut self,
+        rt: &R,
+        read: Route,
+        route: Route,
+    ) -> Result<Option<Route>, Full>
+        requires read { 0 < read.network }
+        requires route { 0 < route.network };
+
     fn remove<R: Wait>(&mut self, rt: &R, network: u64) -> Option<Route>;
 
-    fn age<R: Wait>(&mut self, rt: &R) -> u64;
+    fn compare_remove<R: Wait>(&mut self, rt: &R, read: Route) -> Option<Route>
+        requires { 0 < read.network };
+
+    fn reclaim<R: Wait>(&mut self, rt: &R) -> u64;
 
     fn get<R: Wait>(&self, rt: &R, network: u64) -> Option<Route>;
 
@@ -25,43 +37,56 @@ pub(crate) trait Caller {
     fn len<R: Wait>(&self, rt: &R) -> usize;
 }
 
-/// A map's keeper.
+/// A map's writer.
 #[derive(Drop)]
 pub(crate) struct Alone {
-    pub(crate) keeper: MapKeeper<Route, 2>,
+    pub(crate) writer: MapWriter<Route, 2>,
 }
 
 impl Caller for Alone {
     fn put<R: Wait>(&mut self, _rt: &R, how: Put, route: Route) -> Result<Option<Route>, Full> {
         match how {
-            Put::Insert => self.keeper.insert(route),
-            Put::Replace => self.keeper.replace(route),
-            Put::Upsert => self.keeper.upsert(route),
+            Put::Insert => self.writer.insert(route),
+            Put::Replace => self.writer.replace(route),
+            Put::Upsert => self.writer.upsert(route),
         }
     }
 
-    fn remove<R: Wait>(&mut self, _rt: &R, network: u64) -> Option<Route> {
-        self.keeper.remove(network)
+    fn compare_replace<R: Wait>(
+        &mut self,
+        _rt: &R,
+        read: Route,
+        route: Route,
+    ) -> Result<Option<Route>, Full> {
+        self.writer.compare_replace(read, route)
     }
 
-    fn age<R: Wait>(&mut self, _rt: &R) -> u64 {
-        self.keeper.age()
+    fn remove<R: Wait>(&mut self, _rt: &R, network: u64) -> Option<Route> {
+        self.writer.remove(network)
+    }
+
+    fn compare_remove<R: Wait>(&mut self, _rt: &R, read: Route) -> Option<Route> {
+        self.writer.compare_remove(read)
+    }
+
+    fn reclaim<R: Wait>(&mut self, _rt: &R) -> u64 {
+        self.writer.reclaim()
     }
 
     fn get<R: Wait>(&self, _rt: &R, network: u64) -> Option<Route> {
-        self.keeper.get(network)
+        self.writer.get(network)
     }
 
     fn contains<R: Wait>(&self, _rt: &R, network: u64) -> bool {
-        self.keeper.contains(network)
+        self.writer.contains(network)
     }
 
     fn len<R: Wait>(&self, _rt: &R) -> usize {
-        self.keeper.len()
+        self.writer.len()
     }
 }
 
-/// A map's keeper behind a lock.
+/// A map's writer behind a lock.
 #[derive(Drop)]
 pub(crate) struct Shared {
     pub(crate) updater: Control,
@@ -76,12 +101,25 @@ impl Caller for Shared {
         }
     }
 
+    fn compare_replace<R: Wait>(
+        &mut self,
+        rt: &R,
+        read: Route,
+        route: Route,
+    ) -> Result<Option<Route>, Full> {
+        self.updater.compare_replace(rt, read, route)
+    }
+
     fn remove<R: Wait>(&mut self, rt: &R, network: u64) -> Option<Route> {
         self.updater.remove(rt, network)
     }
 
-    fn age<R: Wait>(&mut self, rt: &R) -> u64 {
-        self.updater.age(rt)
+    fn compare_remove<R: Wait>(&mut self, rt: &R, read: Route) -> Option<Route> {
+        self.updater.compare_remove(rt, read)
+    }
+
+    fn reclaim<R: Wait>(&mut self, rt: &R) -> u64 {
+        self.updater.reclaim(rt)
     }
 
     fn get<R: Wait>(&self, rt: &R, network: u64) -> Option<Route> {

@@ -30,12 +30,12 @@ pub(crate) struct Admin<'a> {
 }
 
 impl<'a> Admin<'a> {
-    /// All nodes are used: waits for a grace period, so that what was left before makes room.
+    /// All nodes are used: waits for a grace period, so that what was unlinked before makes room.
     fn make_room<R: Abort + Wait>(&mut self, rt: &R) {
-        let before = self.control.age(rt);
+        let before = self.control.reclaim(rt);
         let waited = self.live.synchronize(rt, &mut self.seat, &mut self.watcher);
         compare(rt, "synchronize", waited, Ok(()));
-        let after = self.control.age(rt);
+        let after = self.control.reclaim(rt);
         assert!(rt; before.saturating_add(4) <= after, "{before} and {after}");
     }
 

@@ -8,7 +8,7 @@ use crate::compare::compare;
 use crate::map::route::Route;
 use crate::map::{Engine, Routes, Seat};
 use crate::seats::{next_online, next_seat};
-use rcu_map::{MapKeeper, NotPut, Put, Updater};
+use rcu_map::{MapWriter, NotPut, Put, Updater};
 use std::sync::Wait;
 use std::thread;
 use std::thread::Threads;
@@ -64,9 +64,9 @@ impl<'a> Reader<'a> {
 #[derive(Drop)]
 struct Control<'a> {
     live: &'a Engine,
-    keeper: MapKeeper<Route, 2>,
+    writer: MapWriter<Route, 2>,
     seat: Seat,
-    ghost keeper_of: { IsWatcherOf live.now keeper },
+    ghost writer_of: { IsWatcherOf live.now writer },
     ghost seat_of: { IsSeatOf live.now seat },
 }
 
@@ -77,16 +77,16 @@ impl<'a> Control<'a> {
         requires route { 0 < route.network }
     {
         let put = self
-            .keeper
+            .writer
             .put_or_wait(rt, self.live, &mut self.seat, Put::Insert, first);
         let replaced = self
-            .keeper
+            .writer
             .put_or_wait(rt, self.live, &mut self.seat, Put::Replace, route);
         put == Ok(None) && replaced == Ok(Some(first))
     }
 
     fn take_out(&mut self, network: u32) {
-        self.keeper.remove(u64::from(network));
+        self.writer.remove(u64::from(network));
     }
 
     /// Puts a route to each network in, replaces it, and takes the one before it out. Returns how
@@ -118,15 +118,15 @@ fn run_beside<R: Threads + Wait + Sync>(
 #[test]
 fn routes_move_on_through_three_nodes(rt: HostRuntime) {
     // Two routes at most, in one bucket.
-    let Ok(opened) = Routes::open(rt.alloc(), 2, 4_000_000, 1, 4, 0) else {
+    let Ok(opened) = Routes::open(rt.alloc(), 2, 4_000_000, 1, 2, 0) else {
         return;
     };
-    let (mut seats, keeper) = (opened.seats, opened.keeper);
+    let (mut seats, writer) = (opened.seats, opened.writer);
     let (live, map) = (&opened.live, &opened.map);
     let seat = next_online(&rt, live, &mut seats);
     let reader = Reader { live, map, seat };
     let seat = next_seat(&rt, live, &mut seats);
-    let control = Control { live, keeper, seat };
+    let control = Control { live, writer, seat };
     let found = run_beside(&rt, control, reader);
     compare(&rt, "changes and reads", found, (CHANGES, READS));
 }
@@ -194,10 +194,10 @@ fn run_both<R: Threads + Wait + Sync>(rt: &R, one: Worker<'_>, other: Worker<'_>
 /// Processor 0 never goes offline. No thread has it here: it is idle, and nobody waits for it.
 #[test]
 fn two_threads_share_three_nodes(rt: HostRuntime) {
-    let Ok(opened) = Routes::open(rt.alloc(), 3, 4_000_000, 1, 4, 0) else {
+    let Ok(opened) = Routes::open(rt.alloc(), 3, 4_000_000, 1, 2, 0) else {
         return;
     };
-    let (mut seats, updater) = (opened.seats, Updater::new(opened.keeper));
+    let (mut seats, updater) = (opened.seats, Updater::new(opened.writer));
     let live = &opened.live;
     let one = Worker {
         live,

@@ -14,13 +14,13 @@ of_node holds decode key known (Some i) entry is = (i, refl, is)
 of_node holds decode key known None entry is = absurd is
 
 pub returns : goal.returns
-returns g c = λ plan opened key keeper seat from done last moments now run entry some one width up
+returns g c = λ plan opened key writer seat from done last moments now run entry some one width up
     early kept made walks got.
     let f = of_node g.E.Invariant.holds g.E.Value.decode key (moments (from + done)).section
     got.node entry got.told in
     let found = f.2 in (
       found.words,
-      c.words_found_over_a_run_were_there.ensures plan opened key keeper seat from done last f.0
+      c.words_found_over_a_run_were_there.ensures plan opened key writer seat from done last f.0
           moments now run found.words some one width up early kept made walks
           (subst (λ (n : Option ℕ). IsSearched (bucket_of plan.roots plan.seed key) key
           (moments from).section n (moments (from + done)).section) f.1 got.searched)

@@ -8,19 +8,19 @@ use Rattle.rcu_map.proofs.Beside.{at_first, is_chain, part, part_had, part_on}
 use Rattle.rcu_map.proofs.laws.keys_found_over_a_run_were_there.Goals as goal
 
 pub returns : goal.returns
-returns g c = λ plan opened key keeper seat from done last node moments now run some one width up
+returns g c = λ plan opened key writer seat from done last node moments now run some one width up
     early kept made walks search.
     let wide : 1 < plan.words = omega (arith, width) in
     let start = bucket_of plan.roots plan.seed key in
     let was = c.keys_found_over_a_run_were_linked.ensures plan (is_of plan.roots plan.seed start)
-    start key keeper seat opened done node (since from moments)
-    (is_chain g.E.Invariant.holds plan opened key keeper last moments some one wide up kept)
-    (part g.E.Invariant.holds plan opened key keeper last moments some one wide up kept from done
+    start key writer seat opened done node (since from moments)
+    (is_chain g.E.Invariant.holds plan opened key writer last moments some one wide up kept)
+    (part g.E.Invariant.holds plan opened key writer last moments some one wide up kept from done
     early now run made)
     walks
-    (part_on g.E.Invariant.holds plan opened key keeper last moments some one wide up kept from done
+    (part_on g.E.Invariant.holds plan opened key writer last moments some one wide up kept from done
     early now run made)
     (at_first (λ (m : Moment). IsSearched start key m.section (Some node)
     (since from moments done).section) moments from search) in
-    part_had g.E.Invariant.holds plan opened key keeper last moments some one wide up kept from done
+    part_had g.E.Invariant.holds plan opened key writer last moments some one wide up kept from done
     early now run made was.0 was.1 was.2

@@ -13,21 +13,21 @@ use Rattle.rcu_map.proofs.Listings.{not_missed}
 use Rattle.rcu_map.proofs.laws.no_words_of_a_key_that_stays_are_passed_over.Goals as goal
 
 pub returns : goal.returns
-returns g c = λ plan opened key stays keeper seat from done last moments now run next some one width
+returns g c = λ plan opened key stays writer seat from done last moments now run next some one width
     up early kept made has walks behind is_next.
     let wide : 1 < plan.words = omega (arith, width) in
     let start = bucket_of plan.roots plan.seed stays in
-    let short = part g.E.Invariant.holds plan opened stays keeper last moments some one wide up kept
+    let short = part g.E.Invariant.holds plan opened stays writer last moments some one wide up kept
     from done early now run made in
-    let by = c.hops_are_made_by_their_run.ensures plan keeper seat opened done (since from moments)
+    let by = c.hops_are_made_by_their_run.ensures plan writer seat opened done (since from moments)
     short walks in
-    let history = c.runs_are_histories.ensures plan (is_of plan.roots plan.seed start) start keeper
+    let history = c.runs_are_histories.ensures plan (is_of plan.roots plan.seed start) start writer
     seat opened done (since from moments)
-    (is_chain g.E.Invariant.holds plan opened stays keeper last moments some one wide up kept) short
+    (is_chain g.E.Invariant.holds plan opened stays writer last moments some one wide up kept) short
     walks
-    (part_on g.E.Invariant.holds plan opened stays keeper last moments some one wide up kept from
+    (part_on g.E.Invariant.holds plan opened stays writer last moments some one wide up kept from
     done early now run made) in
-    let linked = part_linked g.E.Invariant.holds plan opened stays keeper last moments some one wide
+    let linked = part_linked g.E.Invariant.holds plan opened stays writer last moments some one wide
     up kept from done early now run made has in
     next_up_to plan.roots plan.seed key stays up (bucket_inside plan.roots plan.seed stays some)
     behind g.E.Invariant.holds (moments from).section (moments (from + done)).section next

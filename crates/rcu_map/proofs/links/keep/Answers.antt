@@ -8,20 +8,20 @@ use Rattle.rcu_map.proofs.links.keep.Goals as goal
 
 pub returns : goal.returns
 returns g c =
-    let keeper : Watching Planned = c.in_ok-keeper.keeper in
-    let planned = ap (λ (w : Watching Planned). w.view.client.plan) c.in_ok-keeper.ensures
-    ∙ c.requires.keeper.watches.planned in
+    let writer : Watching Planned = c.in_ok-writer.writer in
+    let planned = ap (λ (w : Watching Planned). w.view.client.plan) c.in_ok-writer.ensures
+    ∙ c.requires.writer.watches.planned in
     record {
-      same = c.in_ok-keeper.ensures;
+      same = c.in_ok-writer.ensures;
       kept = record {
         few = c.tends.ensures.few ∙ ap (λ (p : Plan). p.nodes) planned;
         tended =
             subst (λ (links : ℕ). AreTended (g.F.Shape.fits c.args.graph.now.plan)
             (g.F.Shape.joins c.args.graph.now.plan) c.args.graph.now.plan.roots links
-            (nodes_in keeper.view.client.known))
+            (nodes_in writer.view.client.known))
             c.requires.one
             (subst (λ (p : Plan). AreTended (g.F.Shape.fits p) (g.F.Shape.joins p) p.roots p.links
-            (nodes_in keeper.view.client.known))
+            (nodes_in writer.view.client.known))
             planned c.tends.ensures.tended);
       };
     }

@@ -15,7 +15,7 @@ use Rattle.rcu_graph.proofs.counted_nodes.CountedNodes.count_links_of.Goals as g
 pub loop-link-init : goal.loop-link-init
 loop-link-init g c = record {
   nodes = refl;
-  leaving = refl;
+  unlinking = refl;
   many = c.requires.many;
   counts = λ k low. omega arith;
 }
@@ -93,7 +93,7 @@ loop-link-preserved g c =
     λ k is. let a = c.requires.inside l 0 here k (sym word_is ∙ is) in omega (arith, a, i.many) in
     record {
       nodes = c.count.ensures.nodes ∙ i.nodes;
-      leaving = c.count.ensures.leaving ∙ i.leaving;
+      unlinking = c.count.ensures.unlinking ∙ i.unlinking;
       many =
           ap (λ (x : List ℕ). length x) c.count.ensures.counts
           ∙ (Rattle.rcu_graph.proofs.Tending.as_many_up old word ∙ i.many);
@@ -112,8 +112,8 @@ loop-link-preserved g c =
 pub returns-clause-nodes : goal.returns-clause-nodes
 returns-clause-nodes g c = c.loop-link.invariant.nodes
 
-pub returns-clause-leaving : goal.returns-clause-leaving
-returns-clause-leaving g c = c.loop-link.invariant.leaving
+pub returns-clause-unlinking : goal.returns-clause-unlinking
+returns-clause-unlinking g c = c.loop-link.invariant.unlinking
 
 pub returns-clause-many : goal.returns-clause-many
 returns-clause-many g c = c.loop-link.invariant.many

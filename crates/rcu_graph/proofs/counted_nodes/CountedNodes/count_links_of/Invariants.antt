@@ -7,7 +7,7 @@ use Rattle.rcu_graph.proofs.counted_nodes.CountedNodes.count_links_of.Given as g
 abbrev pub invariant-loop-link : goal.invariant-loop-link
 invariant-loop-link g l = record {
   nodes : l.self.nodes ≡ l.initial.self.nodes;
-  leaving : l.self.leaving ≡ l.initial.self.leaving;
+  unlinking : l.self.unlinking ≡ l.initial.self.unlinking;
   many : length l.self.counts.items ≡ l.graph.plan.nodes;
   counts : (k : ℕ)
       → k < l.graph.plan.nodes

@@ -4,7 +4,7 @@ use Rattle.std.proofs.lemmas.Grind.{get_or_after_one}
 use Rattle.std.proofs.lemmas.List.{get_or_default}
 use Rattle.rcu_seq.specs.Numbers.{Number}
 use Rattle.rcu_graph.specs.Cycle.{IsCycle, StandsAt, is_over, state_in}
-use Rattle.rcu_graph.specs.Nodes.{aged_state, is_free}
+use Rattle.rcu_graph.specs.Nodes.{is_free, reclaimed_state}
 use Rattle.rcu_graph.specs.declared.node_state.NodeState.{NodeState}
 use Rattle.rcu_graph.specs.declared.node_state.NodeState.TheVariants.{Free, Retired}
 use Rattle.rcu_graph.proofs.Cycles.{cycle_freed, is_retired, room}
@@ -47,10 +47,10 @@ module _ (c : goal.After-self-3-1) where
   read : c.index.result.now ≡ state_in states node
   read = c.index.ensures ∙ get_or_default states node c.index.result.now Free low
 
-  is_over_now : is_free (aged_state c.args.number c.args.number (state_in states node)) ≡ true
+  is_over_now : is_free (reclaimed_state c.args.number c.args.number (state_in states node)) ≡ true
   is_over_now = subst (λ (s : NodeState).
-      is_free (aged_state c.args.number c.args.number s) ≡ true) read
-      (sym (c.is_free.ensures ∙ ap is_free c.aged.ensures) ∙ c.if-not-is_free.false)
+      is_free (reclaimed_state c.args.number c.args.number s) ≡ true) read
+      (sym (c.is_free.ensures ∙ ap is_free c.reclaimed.ensures) ∙ c.if-not-is_free.false)
 
   over : (at : Number)
       × (state_in states node ≡ Retired at)

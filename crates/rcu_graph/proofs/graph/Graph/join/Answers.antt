@@ -6,7 +6,7 @@ use Rattle.rcu_live.specs.SeveralLaws.{begins_behind}
 use Rattle.rcu_live.specs.Watcher.{IsWatcherOf, Watching, after_word_step}
 use Rattle.rcu_graph.specs.Nodes.{first_nodes, first_place}
 use Rattle.rcu_graph.specs.Planned.{knowing, of_plan}
-use Rattle.rcu_graph.specs.declared.known.Known.TheVariants.{Keeper, Owner}
+use Rattle.rcu_graph.specs.declared.known.Known.TheVariants.{Owner, Writer}
 use Rattle.rcu_graph.specs.declared.plan.Plan.{Plan}
 use Rattle.rcu_graph.proofs.Joins.{joined_as, joins}
 use Rattle.rcu_graph.proofs.graph.Graph.join.Goals as goal
@@ -57,12 +57,12 @@ invariant_of-graph g c =
       roots = subst (λ (p : Plan). p.roots ≤ p.nodes) is sized.inside;
     }
 
-pub returns-clause-keeper : goal.returns-clause-keeper
-returns-clause-keeper g c =
+pub returns-clause-writer : goal.returns-clause-writer
+returns-clause-writer g c =
     let clone = c.in_ok-try_clone.ensures in
     let plan = ap (λ (o : Object g.row.P-Whole-Plan.Denot). o.plan) clone ∙ c.requires.planned in
     joins g.P.Within.lens _ _ _ _ g.met.P.Within.is_lens g.P.Within.own_plan g.P.Within.begins
-    (arc_value c.in_ok-try_clone.field-0) c.args.own.now c.hand_over-keeper.result
+    (arc_value c.in_ok-try_clone.field-0) c.args.own.now c.hand_over-writer.result
     c.claim.new.seat (g.F.Shape.first _)
     (subst (λ (o : Object g.row.P-Whole-Plan.Denot).
     IsWatcherOf (engine_part g.P.Within.own_plan g.P.Within.begins o)
@@ -70,22 +70,22 @@ returns-clause-keeper g c =
     (sym clone) c.requires.of_engine)
     (c.requires.first ∙ ap (λ (q : g.row.P-Whole-Plan.Denot). of_plan (g.P.Within.own_plan q) Owner)
     (sym plan))
-    c.hand_over-keeper.ensures.new c.claim.ensures
+    c.hand_over-writer.ensures.new c.claim.ensures
 
 pub returns-clause-new : goal.returns-clause-new
 returns-clause-new g c =
     let clone = c.in_ok-try_clone.ensures in
     let plan = ap (λ (o : Object g.row.P-Whole-Plan.Denot). o.plan) clone ∙ c.requires.planned in
     joined_as g.P.Within.lens _ _ _ _ g.met.P.Within.is_lens g.P.Within.own_plan g.P.Within.begins
-    c.args.own.now c.hand_over-keeper.result c.claim.new.seat
+    c.args.own.now c.hand_over-writer.result c.claim.new.seat
     (g.F.Shape.first (g.P.Within.own_plan c.args.plan)) (g.P.Within.own_plan c.args.plan)
-    c.requires.first c.hand_over-keeper.ensures.new
+    c.requires.first c.hand_over-writer.ensures.new
     (subst (λ (q : g.row.P-Whole-Plan.Denot).
     let p : Plan = g.P.Within.own_plan q in
-    c.claim.new.seat ≡ after_word_step c.hand_over-keeper.result
-    (g.P.Within.lens.set c.hand_over-keeper.result.view.client
-    (knowing (g.P.Within.lens.get c.hand_over-keeper.result.view.client)
-    (Keeper 0 (first_nodes p.links p.words (g.F.Shape.first p) p.roots p.nodes) []))))
+    c.claim.new.seat ≡ after_word_step c.hand_over-writer.result
+    (g.P.Within.lens.set c.hand_over-writer.result.view.client
+    (knowing (g.P.Within.lens.get c.hand_over-writer.result.view.client)
+    (Writer 0 (first_nodes p.links p.words (g.F.Shape.first p) p.roots p.nodes) []))))
     plan c.claim.ensures)
 
 pub returns-clause-claimed : goal.returns-clause-claimed
@@ -95,13 +95,13 @@ returns-clause-claimed g c =
     let first = g.F.Shape.first (g.P.Within.own_plan c.args.plan) in
     ap (λ (w : Watching g.row.P-Whole-Known.Denot). g.P.Within.lens.get w.view.client)
     (joined_as g.P.Within.lens _ _ _ _ g.met.P.Within.is_lens g.P.Within.own_plan
-    g.P.Within.begins c.args.own.now c.hand_over-keeper.result c.claim.new.seat first
-    (g.P.Within.own_plan c.args.plan) c.requires.first c.hand_over-keeper.ensures.new
+    g.P.Within.begins c.args.own.now c.hand_over-writer.result c.claim.new.seat first
+    (g.P.Within.own_plan c.args.plan) c.requires.first c.hand_over-writer.ensures.new
     (subst (λ (q : g.row.P-Whole-Plan.Denot).
     let p : Plan = g.P.Within.own_plan q in
-    c.claim.new.seat ≡ after_word_step c.hand_over-keeper.result
-    (g.P.Within.lens.set c.hand_over-keeper.result.view.client
-    (knowing (g.P.Within.lens.get c.hand_over-keeper.result.view.client)
-    (Keeper 0 (first_nodes p.links p.words (g.F.Shape.first p) p.roots p.nodes) []))))
+    c.claim.new.seat ≡ after_word_step c.hand_over-writer.result
+    (g.P.Within.lens.set c.hand_over-writer.result.view.client
+    (knowing (g.P.Within.lens.get c.hand_over-writer.result.view.client)
+    (Writer 0 (first_nodes p.links p.words (g.F.Shape.first p) p.roots p.nodes) []))))
     plan c.claim.ensures))
     ∙ g.met.P.Within.is_lens.got _ _

@@ -10,16 +10,16 @@ pub store-requires-clause-allowed : goal.store-requires-clause-allowed
 store-requires-clause-allowed g c =
     link_allowed g.F.Shape.fits g.F.Shape.joins g.F.Shape.first _ _
     (g.P.Within.lens.get c.args.seat.now.view.client)
-    c.args.self.now.plan c.requires.keeper.watches.planned c.args.node c.args.link
+    c.args.self.now.plan c.requires.writer.watches.planned c.args.node c.args.link
     c.place-place.result c.args.value
-    c.requires.keeper.keeps (omega (arith, c.requires.keeper.few, c.requires.node)) c.requires.link
+    c.requires.writer.keeps (omega (arith, c.requires.writer.few, c.requires.node)) c.requires.link
     c.requires.live
     c.requires.target c.place-place.ensures.place
 
-pub returns-clause-keeper : goal.returns-clause-keeper
-returns-clause-keeper g c =
+pub returns-clause-writer : goal.returns-clause-writer
+returns-clause-writer g c =
     let e = c.store.ensures.part in
-    let k = c.requires.keeper in
+    let k = c.requires.writer in
     keeps_on _ _ _ _ _ _ e.state e.told.0
     (told_at (λ (p : Plan). IsLinked p.roots p.links p.words) c.place-place.result
     (g.P.Within.lens.get c.args.seat.now.view.client) c.args.value

@@ -11,17 +11,17 @@ pub store-requires-clause-allowed : goal.store-requires-clause-allowed
 store-requires-clause-allowed g c =
     publish_allowed g.F.Shape.fits g.F.Shape.joins g.F.Shape.first _ _
     (g.P.Within.lens.get c.args.seat.now.view.client)
-    c.args.self.now.plan c.requires.keeper.watches.planned c.args.from c.args.link c.args.to
+    c.args.self.now.plan c.requires.writer.watches.planned c.args.from c.args.link c.args.to
     c.place-place.result _
-    c.requires.keeper.keeps (omega (arith, c.requires.keeper.few, c.requires.from))
-    (omega (arith, c.requires.keeper.few, c.requires.to))
+    c.requires.writer.keeps (omega (arith, c.requires.writer.few, c.requires.from))
+    (omega (arith, c.requires.writer.few, c.requires.to))
     c.requires.link c.requires.live c.requires.ready c.requires.joined c.place-place.ensures.place
     (omega arith)
 
-pub returns-clause-keeper : goal.returns-clause-keeper
-returns-clause-keeper g c =
+pub returns-clause-writer : goal.returns-clause-writer
+returns-clause-writer g c =
     let e = c.store.ensures.part in
-    let k = c.requires.keeper in
+    let k = c.requires.writer in
     keeps_on _ _ _ _ _ _ e.state e.told.0
     (told_at (λ (p : Plan). IsPublished p.roots p.links p.words) c.place-place.result
     (g.P.Within.lens.get c.args.seat.now.view.client) _
@@ -36,5 +36,5 @@ returns-clause-state g c =
     let e = c.store.ensures.part in
     led_to (watcher_part g.P.Within.lens c.args.seat.now)
     (watcher_part g.P.Within.lens c.store.new.seat) c.args.self.now.plan _ c.args.from c.args.link
-    c.args.to _ e.state c.requires.keeper.watches.planned e.told c.requires.link
+    c.args.to _ e.state c.requires.writer.watches.planned e.told c.requires.link
     c.place-place.ensures.place (omega arith)

@@ -13,9 +13,9 @@ store-requires-clause-allowed g c =
     in
     write_allowed g.F.Shape.fits g.F.Shape.joins g.F.Shape.first _ _
     (g.P.Within.lens.get c.args.seat.now.view.client)
-    c.args.self.now.plan c.requires.keeper.watches.planned c.args.node c.args.word
+    c.args.self.now.plan c.requires.writer.watches.planned c.args.node c.args.word
     c.place-place.result c.args.value
-    c.requires.keeper.keeps (omega (arith, c.requires.keeper.few, c.requires.node))
+    c.requires.writer.keeps (omega (arith, c.requires.writer.few, c.requires.node))
     c.requires.free c.requires.word
     (subst (λ (p : Plan). c.place-place.result
     ≡ place_of c.args.self.now.plan.roots c.args.self.now.plan.links c.args.self.now.plan.words
@@ -23,10 +23,10 @@ store-requires-clause-allowed g c =
     (p.links + c.args.word))
     (sym is) c.place-place.ensures.place)
 
-pub returns-clause-keeper : goal.returns-clause-keeper
-returns-clause-keeper g c =
+pub returns-clause-writer : goal.returns-clause-writer
+returns-clause-writer g c =
     let e = c.store.ensures.part in
-    let k = c.requires.keeper in
+    let k = c.requires.writer in
     let is = same_plan c.args.self.now _ c.self.inside.plan
     c.self.view_is c.self.invariant.planned in
     keeps_on _ _ _ _ _ _ e.state e.told.0

@@ -1,6 +1,6 @@
 use Rattle.std.proofs.Common.{◌≡◌, map}
 use Rattle.rcu_graph.specs.Graph.{word_to}
-use Rattle.rcu_graph.specs.Keeper.{after_step}
+use Rattle.rcu_graph.specs.Writer.{after_step}
 use Rattle.rcu_graph.specs.Mirror.{with_links_to}
 use Rattle.rcu_graph.specs.Nodes.{nodes_in, renewed}
 use Rattle.rcu_graph.proofs.known_nodes.KnownNodes.fill_links.Given as goal

@@ -1,5 +1,5 @@
 use Rattle.std.proofs.Common.{◌≡◌}
-use Rattle.rcu_graph.specs.Keeper.{after_step}
+use Rattle.rcu_graph.specs.Writer.{after_step}
 use Rattle.rcu_graph.specs.Mirror.{with_words_to}
 use Rattle.rcu_graph.specs.Nodes.{nodes_in, renewed}
 use Rattle.rcu_graph.proofs.known_nodes.KnownNodes.fill_words.Given as goal

@@ -2,7 +2,7 @@ use Rattle.std.proofs.Common.{◌≡◌, ◌∙◌, ap, subst, sym}
 use Rattle.rcu_live.specs.InPart.{watcher_part}
 use Rattle.rcu_live.specs.Watcher.{Watching}
 use Rattle.rcu_graph.specs.Graph.{IsWatcherOf}
-use Rattle.rcu_graph.specs.Keeper.{IsKeeperOf}
+use Rattle.rcu_graph.specs.Writer.{IsWriterOf}
 use Rattle.rcu_graph.specs.Nodes.{IsTarget, node_at, nodes_in, state_at}
 use Rattle.rcu_graph.specs.declared.known.Planned.{Planned}
 use Rattle.rcu_graph.specs.declared.node_state.NodeState.TheVariants.{Live}
@@ -16,7 +16,7 @@ link-requires g c =
     let k = c.self.invariant in
     let watches = subst (λ (w : Watching Planned). IsWatcherOf c.args.graph.now w) (sym is)
     c.requires.graph in
-    let keeper : IsKeeperOf c.args.graph.now seat = record {
+    let writer : IsWriterOf c.args.graph.now seat = record {
       watches = watches;
       role = k.role;
       keeps = k.keeps;
@@ -31,7 +31,7 @@ link-requires g c =
     c.args.value)
     (sym is) c.requires.target in
     record {
-      keeper = keeper;
+      writer = writer;
       node = c.requires.node;
       link = c.requires.link;
       live = live;

@@ -4,12 +4,12 @@ use Rattle.std.proofs.Math.Nat.{le-max_left, max-le}
 use lib.ListN.{length-map}
 use Rattle.rcu_live.specs.Watcher.{Watching}
 use Rattle.rcu_graph.specs.Mirror.{AreBy}
-use Rattle.rcu_graph.specs.Nodes.{aged, aged_node, latest_in, nodes_in}
+use Rattle.rcu_graph.specs.Nodes.{latest_in, nodes_in, reclaimed, reclaimed_node}
 use Rattle.rcu_graph.specs.declared.known.Known.{Known}
 use Rattle.rcu_graph.specs.declared.known.Planned.{Planned}
 use Rattle.rcu_graph.specs.declared.known.Node.{Node}
 use Rattle.rcu_graph.specs.declared.plan.Plan.{Plan}
-use Rattle.rcu_graph.proofs.Standings.{by_aged}
+use Rattle.rcu_graph.proofs.Standings.{by_reclaimed}
 use Rattle.rcu_graph.proofs.known_nodes.KnownNodes.look.Goals as goal
 
 pub invariant_of-self : goal.invariant_of-self
@@ -31,20 +31,20 @@ invariant_of-self g c =
     ap (λ (w : Watching Planned). w.view.seen) e.state in
     record {
       planned = ap (λ (w : Watching Planned). w.view.client.plan) e.state
-          ∙ (k.planned ∙ sym c.age.ensures.plan);
-      role = e.keeper.role;
-      keeps = e.keeper.keeps;
+          ∙ (k.planned ∙ sym c.reclaim.ensures.plan);
+      role = e.writer.role;
+      keeps = e.writer.keeps;
       few =
           ap (λ (w : Watching Planned). length (nodes_in w.view.client.known)) e.state
-          ∙ (length-map (nodes_in was) (aged_node n (max n (latest_in was)))
-          ∙ (k.few ∙ ap (λ (q : Plan). q.nodes) (sym c.age.ensures.plan)));
+          ∙ (length-map (nodes_in was) (reclaimed_node n (max n (latest_in was)))
+          ∙ (k.few ∙ ap (λ (q : Plan). q.nodes) (sym c.reclaim.ensures.plan)));
       late = omega (arith, latest, now);
       same =
           ap (λ (w : Watching Planned). nodes_in w.view.client.known) e.state
-          ∙ (ap (λ (m : ℕ). aged n m (nodes_in was)) same
-          ∙ (ap (λ (l : List Node). aged n n l) k.same ∙ sym c.age.ensures.nodes));
+          ∙ (ap (λ (m : ℕ). reclaimed n m (nodes_in was)) same
+          ∙ (ap (λ (l : List Node). reclaimed n n l) k.same ∙ sym c.reclaim.ensures.nodes));
       by =
-          subst (λ (m : ℕ). AreBy m c.age.new.self.nodes) (sym latest)
-          (subst (λ (l : List Node). AreBy n l) (sym c.age.ensures.nodes)
-          (by_aged (latest_in was) n c.self.inside.mirror.nodes low k.by));
+          subst (λ (m : ℕ). AreBy m c.reclaim.new.self.nodes) (sym latest)
+          (subst (λ (l : List Node). AreBy n l) (sym c.reclaim.ensures.nodes)
+          (by_reclaimed (latest_in was) n c.self.inside.mirror.nodes low k.by));
     }

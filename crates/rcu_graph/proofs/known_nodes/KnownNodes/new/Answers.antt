@@ -11,7 +11,7 @@ pub invariant_of-result : goal.invariant_of-result
 invariant_of-result g c =
     let made = c.in_ok-mirror.mirror in
     let e = c.in_ok-mirror.ensures in
-    let k = c.requires.keeper in
+    let k = c.requires.writer in
     let p : Plan = c.args.graph.now.plan in
     let planned = e.plan ∙ c.plan.ensures.plan in
     let is = e.nodes

@@ -5,8 +5,8 @@ use Rattle.rcu_graph.specs.declared.plan.Plan.{Plan}
 use Rattle.rcu_graph.proofs.Keeping.{keeps_first}
 use Rattle.rcu_graph.proofs.opening.Graph+F.open_unlocked.Goals as goal
 
-pub returns-clause-keeper : goal.returns-clause-keeper
-returns-clause-keeper g c =
+pub returns-clause-writer : goal.returns-clause-writer
+returns-clause-writer g c =
     let shared : Object Plan = arc_value c.in_ok-board.field-0.board in
     let opened = c.in_ok-board.ensures.opened in
     keeps_first c.args.plan (base_of c.args.cpus) (g.F.Shape.first shared.plan) shared

@@ -10,9 +10,9 @@ returns-clause-bad_sizes g c =
     let planned = c.in_ok-plan.ensures in (
       λ is has. c.open_planned.ensures.bad_sizes.0 is
           (subst IsSized (sym planned.plan)
-          (is_sized c.args.buckets g.row.W c.args.nodes seed has)),
+          (is_sized c.args.buckets g.row.W c.args.entries seed has)),
       λ none. c.open_planned.ensures.bad_sizes.1
-          (λ sized. none (has_sizes c.args.buckets g.row.W c.args.nodes seed planned.some
+          (λ sized. none (has_sizes c.args.buckets g.row.W c.args.entries seed planned.some
           planned.wide (subst IsSized planned.plan sized))),
     )
 
@@ -20,4 +20,4 @@ pub returns-clause-fault : goal.returns-clause-fault
 returns-clause-fault g c = λ has.
     c.open_planned.ensures.fault
     (subst IsSized (sym c.in_ok-plan.ensures.plan)
-    (is_sized c.args.buckets g.row.W c.args.nodes (multiplier_of c.args.seed) has))
+    (is_sized c.args.buckets g.row.W c.args.entries (multiplier_of c.args.seed) has))

@@ -1,0 +1,58 @@
+use Rattle.std.proofs.Common.{◌≡◌, ◌<◌, ◌∙◌, ap}
+use Rattle.rcu_live.specs.Watcher.{Watching}
+use Rattle.rcu_graph.specs.Writer.{IsReady, after_store}
+use Rattle.rcu_graph.specs.Nodes.{node_at, nodes_in, state_at}
+use Rattle.rcu_graph.specs.Tended.{AreCollected, AreLed, published}
+use Rattle.rcu_graph.specs.declared.known.Planned.{Planned}
+use Rattle.rcu_graph.specs.declared.node_state.NodeState.TheVariants.{Live}
+use Rattle.rcu_graph.specs.declared.plan.Plan.{Plan}
+use Rattle.rcu_graph.proofs.Owned.{of_graph, of_seat}
+use Rattle.rcu_graph.proofs.writer.Writer.publish.Goals as goal
+
+pub publish-requires : goal.publish-requires
+publish-requires g c =
+    let go = of_graph c.self.inside.graph c.self.inside.counted.nodes c.args.self.now c.self.view_is
+    c.self.invariant.watches in
+    record {
+      watches = c.self.invariant.watches;
+      counted = c.self.invariant.counted;
+      from_inside = go (λ (p : Plan) (w : Watching Planned). c.args.from < p.nodes) c.requires.from;
+      to_inside = go (λ (p : Plan) (w : Watching Planned). c.args.to < p.nodes) c.requires.to;
+      link_inside = go (λ (p : Plan) (w : Watching Planned). c.args.link < p.links) c.requires.link;
+      live = go (λ (p : Plan) (w : Watching Planned).
+          state_at (nodes_in w.view.client.known) c.args.from ≡ Live)
+          c.requires.live;
+      ready = go (λ (p : Plan) (w : Watching Planned).
+          IsReady (g.F.Shape.fits p) (g.F.Shape.joins p) p.links (nodes_in w.view.client.known)
+          c.args.to)
+          c.requires.ready;
+      joined = go (λ (p : Plan) (w : Watching Planned). g.F.Shape.joins p c.args.link
+          (node_at (nodes_in w.view.client.known) c.args.from).words
+          (node_at (nodes_in w.view.client.known) c.args.to).words)
+          c.requires.joined;
+    }
+
+pub returns-clause-state : goal.returns-clause-state
+returns-clause-state g c =
+    c.publish.ensures.state
+    ∙ ap (λ (w : Watching Planned). after_store w
+    (published (nodes_in w.view.client.known) c.args.from c.args.link c.args.to)
+    (nodes_in c.publish.new.self.nodes.view.client.known))
+    c.self.view_is
+
+pub returns-clause-led : goal.returns-clause-led
+returns-clause-led g c =
+    of_seat c.self.inside.graph c.self.inside.counted.nodes c.args.self.now c.self.view_is
+    c.self.invariant.watches
+    (λ (p : Plan) (w : Watching Planned). AreLed (g.F.Shape.joins p) p.links
+    (published (nodes_in w.view.client.known) c.args.from c.args.link c.args.to))
+    c.publish.ensures.led
+
+pub returns-clause-collected : goal.returns-clause-collected
+returns-clause-collected g c =
+    of_seat c.self.inside.graph c.self.inside.counted.nodes c.args.self.now c.self.view_is
+    c.self.invariant.watches
+    (λ (p : Plan) (w : Watching Planned). AreCollected p.roots p.links
+    (published (nodes_in w.view.client.known) c.args.from c.args.link c.args.to)
+    (nodes_in c.publish.new.self.nodes.view.client.known))
+    c.publish.ensures.collected

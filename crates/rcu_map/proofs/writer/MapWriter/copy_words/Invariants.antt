@@ -1,0 +1,12 @@
+use Rattle.std.proofs.Common.{◌≡◌, ◌<◌, ℕ, length}
+use Rattle.std.specs.Prelude.{slice_index}
+use Rattle.rcu_graph.specs.Nodes.{node_at, nodes_in}
+use Rattle.rcu_map.proofs.writer.MapWriter.copy_words.Given as goal
+
+abbrev pub invariant-loop-word : goal.invariant-loop-word
+invariant-loop-word g l = record {
+  size : length l.entry ≡ length l.initial.entry;
+  told : (j : ℕ) → j < l.word
+      → slice_index l.entry j ≡ slice_index (node_at (nodes_in l.nodes.view.client.known)
+      l.node).words j;
+}

@@ -1,6 +1,0 @@
-use Rattle.std.proofs.Common.{arith}
-use Rattle.rcu_wish.proofs.Steps.{arrives}
-use Rattle.rcu_wish.proofs.wish_words.WishWords.deal.Goals as goal
-
-pub load_new_seat-seat-requires : goal.load_new_seat-seat-requires
-load_new_seat-seat-requires c = (omega (arith, c.self.invariant), arrives _)

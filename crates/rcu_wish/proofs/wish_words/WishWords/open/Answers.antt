@@ -1,6 +1,0 @@
-use Rattle.std.proofs.Common.{rules, ◌∙◌}
-use Rattle.rcu_wish.proofs.Steps.{starts}
-use Rattle.rcu_wish.proofs.wish_words.WishWords.open.Goals as goal
-
-pub new-requires-2 : goal.new-requires-2
-new-requires-2 c = starts _ _ (c.as_slice.ensures.value ∙ c.in_ok-words.ensures) (search rules)
