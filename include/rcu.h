@@ -148,7 +148,7 @@ enum rcu_collected {
 
 /* What a visit did. */
 enum rcu_visited {
-    RCU_VISIT_MARKED = 0, /* it put a marker behind the processor's list */
+    RCU_VISIT_MARKED = 0, /* the barrier put a marker behind the processor's list */
     RCU_VISIT_EMPTY = 1,  /* the processor's list was empty */
     RCU_VISIT_ALREADY = 2 /* the barrier had visited the processor already */
 };

@@ -146,7 +146,7 @@ pub const RCU_COLLECTED_LAST: u32 = 3;
 pub const RCU_COLLECTED_REPEAT: u32 = 4;
 
 // What a visit did.
-/// It put a marker behind the processor's list.
+/// The barrier put a marker behind the processor's list.
 pub const RCU_VISIT_MARKED: u32 = 0;
 /// The processor's list was empty.
 pub const RCU_VISIT_EMPTY: u32 = 1;

@@ -1,4 +1,4 @@
--- A callback stays what it was at its queueing.
+-- A callback stays as it was queued.
 use Rattle.std.proofs.Common.{◌≡◌, ℕ, zero, suc, ◌+◌, ◌≤◌, Bool, true, false, List, [], ◌∷◌, Some}
 use Rattle.std.proofs.Common.{refl, sym, subst, arith, cond, ne_eqb, eq-eqb, set, get_or, length}
 use Rattle.std.specs.Prelude.{slice_get, replicate, ◌==◌}
@@ -44,7 +44,7 @@ module _ {X : Type 0} where
   none_of P (suc n) zero = tt
   none_of P (suc n) (suc c) = none_of P n c
 
-  -- a call keeps what holds of each callback, where it holds of one that is queued
+  -- a call keeps a property of each callback, if a callback that is queued has it
   pub each_step : (P : Queued X → Type 0) (all : AllLists X) (call : Call X)
       → ((cpu : ℕ) (at : _) (value : X) → call ≡ Queue cpu at value
       → P (record { ord = all.queued + 1; at = at; value = value }))
@@ -75,7 +75,7 @@ module _ {X : Type 0} where
   each_step P all Renumber new a =
       λ c. rw (renumbered_at all.lists c) (each-remarked P mark_renumbered (list_of all c) (a c))
 
-  -- the callback was queued, and is what it was then
+  -- the callback was queued, and is as it was then
   record AsQueued (first : AllLists X) (calls : List (Call X)) (call : Queued X) : Type 0 where
     pub was : call.ord ≤ (lists_after first calls).queued
     pub found : queued_as call.ord first calls ≡ Some call

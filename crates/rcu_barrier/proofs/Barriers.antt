@@ -1,5 +1,5 @@
--- While a barrier runs, each callback from before its begin has a marker behind it where its list
--- was visited.
+-- While a barrier runs, each callback from before its begin has a marker behind it if its list was
+-- visited.
 use Rattle.std.proofs.Common.{◌≡◌, ◌≢◌, ℕ, zero, suc, ◌+◌, ◌<◌, ◌≤◌, Bool, true, false, not, List}
 use Rattle.std.proofs.Common.{[], ◌∷◌, ◌++◌, refl, sym, ap, ◌∙◌, arith, cond, eqb, length, set}
 use Rattle.std.proofs.Common.{get_or}
@@ -72,7 +72,7 @@ module _ {X : Type 0} where
     pub before_le : b ≤ all.queued
     pub sized : length all.visited ≡ length all.lists
 
-  -- one list changes, and keeps covered what was
+  -- one list changes, and covered callbacks stay covered
   relisted : (b cpu queued : ℕ) (all : AllLists X) (xs : List (Item X)) → b ≤ queued
       → (Covered b (list_of all cpu) → Covered b xs) → Barrier b all
       → Barrier b (record (with_list all cpu xs) { queued = queued })

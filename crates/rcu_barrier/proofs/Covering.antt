@@ -73,7 +73,7 @@ module _ {X : Type 0} where
   covered-leaving b true false xs e f = covered-entrained b xs
   covered-leaving b false v xs e f = absurd (cc)
 
-  -- where no marker is left, no such callback is
+  -- if no marker is left, no such callback is
   pub none_left : (b j : ℕ) (xs : List (Item X)) → Covered b xs → markers xs ≡ 0 → j ≤ b
       → lies j xs ≡ 0
   none_left b j [] p e l = refl

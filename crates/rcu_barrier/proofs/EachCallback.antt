@@ -18,7 +18,7 @@ at_set P (x ∷ xs) (suc i) (suc c) y d none same other =
     at_set P xs i c y d none (λ e. same (omega (arith, e))) (λ n. other (λ e. n (omega (arith, e))))
 
 module _ {X : Type 0} where
-  -- one of the lists, once the numbers start anew
+  -- one of the lists, after a renumbering
   pub renumbered_at : (lists : List (List (Item X))) (c : ℕ)
       → get_or (map after_renumber lists) c [] ≡ after_renumber (get_or lists c [])
   renumbered_at [] c = refl

@@ -79,7 +79,7 @@ pub tend_is : {X : Type 0} (number : ℕ) (xs : List (Item X)) → number % 4 �
     after_accelerate (after_advance xs number) (snapshot number) ≡ after_tend xs number
 tend_is number xs state fours = rw (two_none number xs state fours) (given_all number xs)
 
--- an advance keeps what is so of each number
+-- an advance keeps a property of each number
 advanced : {X : Type 0} (P : Number → Type 0) (number : ℕ) (xs : List (Item X)) → All P (numbers xs)
     → All P (numbers (after_advance xs number))
 advanced P number xs each =

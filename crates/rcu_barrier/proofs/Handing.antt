@@ -184,7 +184,7 @@ module _ {X : Type 0} where
             (outer ∙ inner ∙ ap (λ b. cond b new (list_of all c)) (ne_eqb 0 c e)) f
       ]
 
-  -- no call changes how many lists there are
+  -- no call changes the number of lists
   visited_length : (all : AllLists X) (xs : List (List (Item X))) (flags : List Bool) (b : Bool)
       → length xs ≡ length all.lists
       → length (cond b all (record all { lists = xs; visited = flags })).lists ≡ length all.lists
@@ -341,7 +341,7 @@ module _ {X : Type 0} where
         };
       }
 
-  -- both tends, and what came in between
+  -- both tends, and the calls between them
   none_waits : (first : AllLists X) (later earlier : List (Call X)) (c n m j : ℕ)
       → IsNew first
       → IsRun first (Tend c m ∷ later ++ Tend c n ∷ earlier)

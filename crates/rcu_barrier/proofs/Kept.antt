@@ -1,4 +1,4 @@
--- What is kept where one list changes, and where one moves to the first.
+-- The invariant is kept if one list changes, and if one moves to the first.
 use Rattle.std.proofs.Common.{◌≡◌, ◌≢◌, get_or-set_other, ℕ, ◌+◌, ◌<◌, ◌≤◌, Bool, true, false, not}
 use Rattle.std.proofs.Common.{◌&&◌, ◌∙◌, List, [], length, set, get_or, refl, ap, sym, subst, arith}
 use Rattle.std.specs.Prelude.{◌%◌, ◌^◌, ◌∷◌, if◌then◌else◌, replicate}
@@ -17,14 +17,14 @@ pub list_is : {X : Type 0} (lists : List (List (Item X))) (cpu : ℕ) (old : Lis
     → cpu < length lists → old ≡ get_or lists cpu old → old ≡ get_or lists cpu []
 list_is lists cpu old within read = read ∙ get_or_default lists cpu old [] within
 
--- where a visit is owed, a barrier runs, and the processor is unvisited
+-- if a visit is owed, a barrier runs, and the processor is unvisited
 pub owed_parts : (running visited : Bool) → (running && not visited) ≡ true
     → (running ≡ true) × (visited ≡ false)
 owed_parts true false owed = (refl, refl)
 owed_parts true true owed = cc
 owed_parts false visited owed = cc
 
--- what is kept at first
+-- the invariant holds at first
 pub kept_first : (X : Type 0) (cpus most : ℕ) (lists : List (List (Item X))) (flags : List Bool)
     → 1 ≤ cpus
     → cpus ≤ 4096
@@ -96,7 +96,7 @@ relisted all m n queued cpu old xs flags count kept inside read sized now fewer 
       },
     )
 
--- a list that leaves gets a marker where a visit is owed and it is not empty
+-- a list that leaves gets a marker if a visit is owed and it is not empty
 markers_leaving : {X : Type 0} (xs : List (Item X)) (owed : Bool) →
     markers (as_it_leaves xs owed) ≡ markers xs + (if owed && not (is_empty xs) then 1 else 0)
 markers_leaving xs false = omega arith
@@ -109,7 +109,7 @@ marked_within true true = omega arith
 marked_within true false = omega arith
 marked_within false empty = omega arith
 
--- a list moves to the first one, with a marker behind it where a visit is owed
+-- a list moves to the first one, with a marker behind it if a visit is owed
 pub moved_kept : {X : Type 0} (all : AllLists X) (m n cpu : ℕ) (owed : Bool) (flags : List Bool)
     → m ≡ markers_in all.lists
     → IsSound all

@@ -1,5 +1,5 @@
--- For callers: what each callback of a run's lists waits for is at most a number, if the number of
--- now is that of each tend.
+-- For callers: each callback of a run's lists waits for at most a number, if each tend was at the
+-- number of its time.
 use Rattle.std.proofs.Common.{ℕ, ◌+◌, ◌≤◌, Bool, true, false, List, [], ◌∷◌}
 use Rattle.std.proofs.Common.{cond, eqb, set, get_or}
 use Rattle.std.specs.Prelude.{All}
@@ -19,7 +19,7 @@ use Rattle.rcu_barrier.proofs.EachCallback.{at_set}
 use Rattle.rcu_barrier.proofs.Maturing.{MarkedBy, each_leaving, marked_tended, unmarked_by}
 
 module _ {X : Type 0} where
-  -- what each callback of a list waits for is at most a number, if its numbers are
+  -- each callback of a list waits for at most a number, if its numbers are at most that
   pub marked_from : (n : ℕ) (xs : List (Item X)) → IsAtMost n xs → All (MarkedBy n) xs
   marked_from n [] a = All-nil (MarkedBy n)
   marked_from n (Marker ∷ xs) a = All-cons (MarkedBy n) Marker xs tt (marked_from n xs a)
@@ -38,7 +38,7 @@ module _ {X : Type 0} where
   marked_set n lists d c xs each others =
       at_set (All (MarkedBy n)) lists d c xs [] (All-nil (MarkedBy n)) (λ _. each) (λ _. others)
 
-  -- what each callback of each list waits for is at most a number
+  -- each callback of each list waits for at most a number
   abbrev pub AreMarked : ℕ → AllLists X → Type 0
   AreMarked n all = (c : ℕ) → All (MarkedBy n) (list_of all c)
 

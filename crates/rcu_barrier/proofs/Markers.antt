@@ -21,7 +21,7 @@ markers_none X (suc n) = markers_none X n
 abbrev count_one : Bool → ℕ
 count_one flag = if not flag then 1 else 0
 
--- one that is visited is unvisited no more
+-- a visited processor is no longer unvisited
 pub unvisited_set : (flags : List Bool) (cpu : ℕ)
     → cpu < length flags → get_or flags cpu false ≡ false
     → unvisited (set flags cpu true) + 1 ≡ unvisited flags
@@ -30,12 +30,12 @@ unvisited_set flags cpu within off =
     let before : count_one (get_or flags cpu false) ≡ 1 = ap count_one off in
     omega (arith, change, before)
 
--- where each is visited, none is unvisited
+-- if each is visited, none is unvisited
 pub unvisited_all : (n : ℕ) → unvisited (replicate n true) ≡ 0
 unvisited_all zero = refl
 unvisited_all (suc n) = unvisited_all n
 
--- where none is visited, each is unvisited
+-- if none is visited, each is unvisited
 pub unvisited_none : (n : ℕ) → unvisited (replicate n false) ≡ n
 unvisited_none zero = refl
 unvisited_none (suc n) =

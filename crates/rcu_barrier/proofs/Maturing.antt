@@ -14,7 +14,7 @@ use Rattle.rcu_cblist.proofs.SegListLemmas.{each_entrained}
 use Rattle.rcu_barrier.specs.Tending.{mark_after_tend, after_tend}
 use Rattle.rcu_barrier.proofs.Places.{lies, lies-append, lies-parts, lies-remarked}
 
--- what a callback waits for is at most a number, if it waits for one
+-- a callback waits for at most a number, if it waits
 abbrev pub IsMarkedBy : ℕ → Mark → Type 0
 IsMarkedBy n Unmarked = Unit {0}
 IsMarkedBy n (Until k) = k ≤ n
@@ -37,13 +37,13 @@ given_soon v n k true l = tt
 given_soon v n k false l = l
 
 module _ {X : Type 0} where
-  -- where each item has a property, and a marker too, each has it as the list leaves
+  -- if each item has a property, and a marker too, each has it as the list leaves
   pub each_leaving : (P : Item X → Type 0) (wanted : Bool) (xs : List (Item X)) → P Marker
       → All P xs → All P (as_it_leaves xs wanted)
   each_leaving P false xs marker each = each
   each_leaving P true xs marker each = each_entrained P xs marker each
 
-  -- what an item waits for is at most a number
+  -- an item waits for at most a number
   abbrev pub MarkedBy : ℕ → Item X → Type 0
   MarkedBy n (Of call mark) = IsMarkedBy n mark
   MarkedBy n Marker = Unit {0}

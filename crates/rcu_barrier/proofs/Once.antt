@@ -97,7 +97,7 @@ module _ {X : Type 0} where
   tested_queued all true = refl
   tested_queued all false = refl
 
-  -- handed out n times, with those in the lists once where it was queued, and else never
+  -- handed out n times; with the copies in the lists, once if it was queued, and else never
   pub record Once (j n : ℕ) (all : AllLists X) : Type 0 where
     pub once : n + listed j all.lists ≤ 1
     pub there : 0 < j → j ≤ all.queued → n + listed j all.lists ≡ 1

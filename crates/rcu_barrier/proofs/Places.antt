@@ -1,4 +1,4 @@
--- For callers: how often the callback of a place lies in a list.
+-- For callers: how often the callback of a place is in a list.
 use Rattle.std.proofs.Common.{◌≡◌, ℕ, zero, suc, ◌+◌, Bool, true, false, List, [], ◌∷◌, ◌++◌, refl}
 use Rattle.std.proofs.Common.{ap, ◌∙◌, arith, cond, eqb, map}
 use Rattle.std.proofs.lemmas.List.Sums.{sum_by-cons}
@@ -33,7 +33,7 @@ module _ {X : Type 0} where
   lies-remarked j f (Of call mark ∷ xs) =
       ap (λ n. cond (eqb call.ord j) 1 0 + n) (lies-remarked j f xs)
 
-  -- what a take hands out and what it leaves
+  -- the callbacks that a take hands out, and those that it leaves
   pub lies-cut : (j m : ℕ) (xs : List (Item X))
       → copies j (take_answer xs m) + lies j (after_take xs m) ≡ lies j xs
   lies-cut j zero [] = refl
@@ -47,7 +47,7 @@ module _ {X : Type 0} where
       let c = sum_by-cons (λ (q : Queued X). cond (eqb q.ord j) 1 0) call (take_answer xs m) in
       omega (arith, i, c)
 
-  -- what stands in the done part and behind it
+  -- the callbacks in the done part and behind it
   pub lies-parts : (j : ℕ) (xs : List (Item X)) → lies j (front xs) + lies j (behind xs) ≡ lies j xs
   lies-parts j [] = refl
   lies-parts j (Marker ∷ xs) = lies-parts j xs

@@ -25,7 +25,7 @@ popped_count {X} xs call n is = at (slice_get (take_answer xs 1) 0) (ap (option_
     at (Some call) is = cc
 
 module _ {X : Type 0} (all : AllLists X) (cpu a : ℕ) where
-  -- what a run leaves of the list, which is empty where there is no such processor
+  -- the list after a run, which is empty if the processor does not exist
   pub list_left : list_of (lists_after_run all cpu a) cpu ≡ after_take (list_of all cpu) a
   list_left = by_order (order cpu (length all.lists))
     where
@@ -41,7 +41,7 @@ module _ {X : Type 0} (all : AllLists X) (cpu a : ℕ) where
           ∙ (get_or_past all.lists cpu [] past
           ∙ ap (λ xs. after_take xs a) (sym (get_or_past all.lists cpu [] past)))
 
-  -- two runs leave what one of both numbers together would
+  -- two runs leave what one run of both limits together leaves
   pub runs_both : (b : ℕ)
       → lists_after_run all cpu (a + b) ≡ lists_after_run (lists_after_run all cpu a) cpu b
   runs_both b =

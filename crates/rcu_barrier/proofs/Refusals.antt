@@ -1,4 +1,4 @@
--- What a refusal says of its cause, for callers.
+-- The cause of a refusal, for callers.
 use Rattle.std.proofs.Common.{◌≡◌, ℕ, ◌==◌, Bool, true, false, [], ◌∷◌, length, refl, ap}
 use Rattle.std.proofs.Common.{◌∙◌, arith}
 use Rattle.std.specs.Prelude.{◌&&◌, not, nat_lt, Some, if◌then◌else◌}
@@ -43,7 +43,7 @@ is_not true is = absurd cc
 is_not false is = refl
 
 module _ {X : Type 0} (lists : ListsWithRooms X) (cpu : ℕ) (met : Fault) where
-  -- the fault of a queueing that was refused
+  -- the fault of a queue call that was refused
   pub queue_met : queue_refusal lists cpu ≡ Some met → met ≡ queue_fault lists.all
   queue_met is =
       two_causes (lists.all.queued == lists.all.most) (not (has_room_in lists cpu 1))
@@ -60,7 +60,7 @@ module _ {X : Type 0} (lists : ListsWithRooms X) (cpu : ℕ) (met : Fault) where
       turned true = refl
       turned false = refl
 
-  -- where a barrier runs it would put a marker
+  -- if a barrier runs, it would put a marker
   pub visit_marks : visit_refusal lists cpu ≡ Some met → lists.all.running ≡ true →
       visit_answer lists.all cpu ≡ visit.Marked
   visit_marks is runs =

@@ -1,4 +1,4 @@
--- Lists whose numbers start anew, one after another.
+-- Lists that are renumbered, one after another.
 use Rattle.std.proofs.Common.{◌≡◌, ℕ, zero, suc, ◌+◌, ◌<◌, ◌≤◌, List, [], ◌∷◌, length, map, set}
 use Rattle.std.proofs.Common.{get_or, refl, ap, sym, ◌∙◌, subst, arith}
 use Rattle.std.specs.Prelude.{All, ◌%◌}
@@ -84,7 +84,7 @@ module _ {X : Type 0} where
       subst (All (λ n. n % 4 ≡ 0)) (sym (numbers_renumbered xs)) (All-nil (λ n. n % 4 ≡ 0)))
       lists fours)
 
-  -- what is kept stays
+  -- the invariant is kept
   pub kept-renumbered : (all : AllLists X) (m : ℕ) (lists : List (List (Item X)))
       → (m ≡ markers_in all.lists) × IsSound all → lists ≡ map after_renumber all.lists
       → (m ≡ markers_in lists) × IsSound (record all { lists = lists })

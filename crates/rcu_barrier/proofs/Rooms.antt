@@ -1,4 +1,4 @@
--- Lists and their items: what a change of one list with room changes in the list of the items.
+-- Lists and their items: the effect of a change of one list with room on the list of the items.
 use Rattle.std.proofs.Common.{◌≡◌, ℕ, zero, suc, ◌+◌, ◌-◌, ◌<◌, ◌≤◌, Bool, List, [], ◌∷◌, ◌++◌}
 use Rattle.std.proofs.Common.{length, set, get_or, take, drop, ap, sym, subst, ◌∙◌, arith}
 use Rattle.std.proofs.lemmas.List.{get_or-map, get_or-set_same, get_or_default, length-map, map-set}
@@ -19,7 +19,7 @@ module _ {X : Type 0} where
   abbrev pub with_rooms : AllLists X → List ℕ → ListsWithRooms X
   with_rooms all rooms = record { all = all; rooms = rooms }
 
-  -- what contracts see is the same where the lists are and the rooms are
+  -- what contracts see is the same if the lists and the rooms are
   pub both_same : (all now : AllLists X) (rooms rooms_now : List ℕ) → all ≡ now → rooms ≡ rooms_now
       → with_rooms all rooms ≡ with_rooms now rooms_now
   both_same all now rooms rooms_now lists same =
@@ -95,7 +95,7 @@ module _ {X : Type 0} where
       let now = room_now lists cpu new inside in
       omega (arith, was, now, less)
 
-  -- where one list is another, only its room may be another one
+  -- if one list is another, only its room may differ
   pub other_rooms : (lists : List (Segmented X)) (cpu : ℕ) (new : Segmented X)
       → cpu < length (items_in lists)
       → rooms_in (set lists cpu new)
@@ -104,7 +104,7 @@ module _ {X : Type 0} where
       map-set room_in lists cpu new
       ∙ ap (λ room. set (rooms_in lists) cpu room) (sym (room_now lists cpu new inside))
 
-  -- one list is what a change makes of it
+  -- one list is changed
   pub changed_items : (change : List (Item X) → List (Item X)) (lists : List (Segmented X))
       (cpu : ℕ) (old new : Segmented X)
       → cpu < length (items_in lists)
@@ -240,12 +240,12 @@ module _ {X : Type 0} where
             same;
       }
 
-  -- there are as many lists where there are as many rooms
+  -- there are as many lists if there are as many rooms
   pub long_rooms : (lists new : List (Segmented X))
       → length (rooms_in new) ≡ length (rooms_in lists) → length new ≡ length lists
   long_rooms lists new same = sym (length-map new room_in) ∙ (same ∙ length-map lists room_in)
 
-  -- what is kept where one list changes, and perhaps visits and the count of queued callbacks
+  -- the invariant is kept if one list changes, and perhaps visits and the count of queued callbacks
   pub relisted_in : (lists : List (Segmented X)) (visited flags : List Bool) (running : Bool)
       (before m n queued most cpu : ℕ)
       (old new : Segmented X) → m ≡ markers_in (items_in lists) →

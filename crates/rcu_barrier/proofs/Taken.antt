@@ -1,4 +1,4 @@
--- Lists of which one hands out callbacks: what is kept, and what contracts see.
+-- Lists of which one hands out callbacks: their invariant, and what contracts see.
 use Rattle.std.proofs.Common.{◌≡◌, ℕ, ◌-◌, ◌<◌, ◌≤◌, Bool, List, [], length, set, get_or, refl, ap}
 use Rattle.std.proofs.Common.{sym, subst, arith}
 use Rattle.rcu_cblist.specs.SegList.{Item, Segmented, after_take, markers, markers_passed, on_items}
@@ -15,7 +15,7 @@ module _ {X : Type 0} (lists : List (Segmented X)) (visited : List Bool) (runnin
     (queued most cpu few : ℕ) (old new : Segmented X) (inside : cpu < length (items_in lists))
     (read : old ≡ get_or lists cpu old)
     (left : new ≡ on_items (λ xs. after_take xs few) old) where
-  -- what contracts see of the lists that these are the items of
+  -- what contracts see of lists with these items
   abbrev all_of : List (List (Item X)) → AllLists X
   all_of items = record {
     lists = items;
@@ -29,7 +29,7 @@ module _ {X : Type 0} (lists : List (Segmented X)) (visited : List Bool) (runnin
   abbrev shown : List (Segmented X) → ListsWithRooms X
   shown ls = with_rooms (all_of (items_in ls)) (rooms_in ls)
 
-  -- they are as after a run of so many
+  -- they are as after a run of this number
   pub taken_view :
       shown (set lists cpu new) ≡ on_all (λ all. lists_after_run all cpu few) (shown lists)
   taken_view =
@@ -47,7 +47,7 @@ module _ {X : Type 0} (lists : List (Segmented X)) (visited : List Bool) (runnin
       let passes = markers_untaken few old.items in
       omega arith
 
-  -- what is kept stays
+  -- the invariant is kept
   pub taken_kept : (m passed : ℕ) → m ≡ markers_in (items_in lists) →
       IsSound (all_of (items_in lists)) →
       passed ≡ markers_passed old.items few →

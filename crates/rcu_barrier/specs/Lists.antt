@@ -1,4 +1,4 @@
--- All processors' lists, and the barrier over them: what each call leaves, and what it answers.
+-- All processors' lists, and the barrier over them: the state after each call, and its answer.
 use Rattle.std.specs.Prelude.{ℕ, ◌≡◌, ◌≤◌, ◌+◌, ◌^◌, ◌==◌, ◌&&◌, Bool, true, false, nat_le, not}
 use Rattle.std.specs.Prelude.{if◌then◌else◌, Option, List, [], ◌∷◌, ◌++◌, All, count_by, length}
 use Rattle.std.specs.Prelude.{map, replicate, slice_index_or, slice_set, sum_by}
@@ -26,13 +26,13 @@ pub record AllLists (X : Type 0) : Type 0 where
   pub queued : ℕ
   pub most : ℕ
 
--- what contracts see of all lists: what they say, and for how many items each list has room before
--- it grows
+-- what contracts see of all lists: their value, and for how many items each list has room before it
+-- grows
 pub record ListsWithRooms (X : Type 0) : Type 0 where
   pub all : AllLists X
   pub rooms : List ℕ
 
--- how many callbacks may be queued where an opening does not say
+-- how many callbacks may be queued, unless an opening sets another limit
 abbrev pub most_queued : ℕ
 most_queued = 1000000
 
@@ -40,7 +40,7 @@ most_queued = 1000000
 abbrev pub unvisited : List Bool → ℕ
 unvisited flags = count_by not flags
 
--- at most the room at this place is another one, which is no smaller
+-- only the room at this place may differ, and it is no smaller
 pub record RoomsGrow (old : List ℕ) (place : ℕ) (new : List ℕ) : Type 0 where
   pub own : slice_index_or old place 0 ≤ slice_index_or new place 0
   pub others : new ≡ slice_set old place (slice_index_or new place 0)
@@ -62,12 +62,12 @@ module _ {X : Type 0} where
   abbrev pub AllFours : List (List (Item X)) → Type 0
   AllFours lists = All AreFours lists
 
-  -- the list at this place, empty where there is none
+  -- the list at this place, empty if there is none
   abbrev pub list_at : List (List (Item X)) → ℕ → List (Item X)
   list_at lists place = slice_index_or lists place []
 
-  -- where the lists have these items and these rooms, there is room in the list at this place for
-  -- so many items more
+  -- if the lists have these items and these rooms, the list at this place has room for this number
+  -- of further items
   abbrev pub has_room_at : List (List (Item X)) → List ℕ → ℕ → ℕ → Bool
   has_room_at lists rooms place more =
       nat_le (length (list_at lists place) + more) (slice_index_or rooms place 0)
@@ -82,7 +82,7 @@ module _ {X : Type 0} where
     most = most;
   }
 
-  -- how many processors there are
+  -- the number of processors
   abbrev pub cpus_of : AllLists X → ℕ
   cpus_of all = length all.lists
 
@@ -90,11 +90,11 @@ module _ {X : Type 0} where
   abbrev pub list_of : AllLists X → ℕ → List (Item X)
   list_of all cpu = list_at all.lists cpu
 
-  -- with the lists changed, and as much room in each
+  -- with the lists changed, and the room of each unchanged
   abbrev pub on_all : (AllLists X → AllLists X) → ListsWithRooms X → ListsWithRooms X
   on_all change lists = record lists { all = change lists.all }
 
-  -- there is room in the processor's list for so many items more
+  -- the processor's list has room for this number of further items
   abbrev pub has_room_in : ListsWithRooms X → ℕ → ℕ → Bool
   has_room_in lists cpu more = has_room_at lists.all.lists lists.rooms cpu more
 
@@ -106,12 +106,12 @@ module _ {X : Type 0} where
   abbrev pub KeepsOtherRooms : ListsWithRooms X → ℕ → ListsWithRooms X → Type 0
   KeepsOtherRooms old cpu new = new.rooms ≡ slice_set old.rooms cpu (room_of new cpu)
 
-  -- at most the processor's list has another room, which is no smaller
+  -- only the processor's list may have another room, which is no smaller
   pub record Grows (old : ListsWithRooms X) (cpu : ℕ) (new : ListsWithRooms X) : Type 0 where
     pub own : room_of old cpu ≤ room_of new cpu
     pub others : KeepsOtherRooms old cpu new
 
-  -- at most the processor's list has another room, which is no larger; an empty list has none
+  -- only the processor's list may have another room, which is no larger; an empty list has none
   pub record Shrinks (old : ListsWithRooms X) (cpu : ℕ) (new : ListsWithRooms X) : Type 0 where
     pub own : room_of new cpu ≤ room_of old cpu
     pub empty : list_of old.all cpu ≡ [] → room_of new cpu ≡ 0
@@ -125,18 +125,18 @@ module _ {X : Type 0} where
   abbrev pub with_list : AllLists X → ℕ → List (Item X) → AllLists X
   with_list all cpu xs = record all { lists = slice_set all.lists cpu xs }
 
-  -- why a callback is not queued: as many were queued as may be, or memory was refused
+  -- why a callback is not queued: the limit is reached, or memory was refused
   abbrev pub queue_fault : AllLists X → Fault
   queue_fault all = if all.queued == all.most then fault.CallbacksFull else fault.NoMemory
 
-  -- why it may be refused: as many were queued as may be, or there is no room for it
+  -- why it may be refused: the limit is reached, or the list has no room for it
   abbrev pub queue_refusal : ListsWithRooms X → ℕ → Option Fault
   queue_refusal lists cpu =
       first_fault ((lists.all.queued == lists.all.most, fault.CallbacksFull)
       ∷ (not (has_room_in lists cpu 1), fault.NoMemory) ∷ [])
 
-  -- a callback that is queued has this place among all that were: it is the next one, and within
-  -- what may be queued, which is at most 2^62
+  -- a queued callback has this place among all queued ones: it is the next one, and within the
+  -- limit, which is at most 2^62
   pub record IsNext (all : AllLists X) (place : ℕ) : Type 0 where
     pub count : place ≡ all.queued + 1
     pub few : place ≤ all.most
@@ -154,11 +154,11 @@ module _ {X : Type 0} where
   abbrev pub lists_after_tend : AllLists X → ℕ → Number → AllLists X
   lists_after_tend all cpu number = with_list all cpu (after_tend (list_of all cpu) number)
 
-  -- the numbers start anew: what waits in any list has none, and the barrier goes on
+  -- a renumbering: waiting callbacks of any list have no number, and the barrier goes on
   abbrev pub lists_after_renumber : AllLists X → AllLists X
   lists_after_renumber all = record all { lists = map after_renumber all.lists }
 
-  -- what a take of at most so many callbacks leaves of the processor's list
+  -- the processor's list after a take of at most this number of callbacks
   abbrev pub lists_after_run : AllLists X → ℕ → ℕ → AllLists X
   lists_after_run all cpu most = with_list all cpu (after_take (list_of all cpu) most)
 
@@ -170,12 +170,12 @@ module _ {X : Type 0} where
   abbrev pub owes_visit : AllLists X → ℕ → Bool
   owes_visit all cpu = all.running && not (is_visited all cpu)
 
-  -- the processor's list as it leaves, with a marker behind it where a visit is owed
+  -- the processor's list as it leaves, with a marker behind it if a visit is owed
   abbrev pub leaving_list : AllLists X → ℕ → List (Item X)
   leaving_list all cpu = as_it_leaves (list_of all cpu) (owes_visit all cpu)
 
-  -- why a list may not move: it has items, for which, with the marker where a visit is owed,
-  -- processor 0's has no room
+  -- why a list may not move: it has items, and processor 0's list has no room for them and for the
+  -- marker, if a visit is owed
   abbrev pub migrate_refusal : ListsWithRooms X → ℕ → Option Fault
   migrate_refusal lists cpu =
       first_fault ((
@@ -184,7 +184,7 @@ module _ {X : Type 0} where
         fault.NoMemory,
       ) ∷ [])
 
-  -- the lists once the one at a place moved to the first, with a marker behind it where a visit is
+  -- the lists once the one at a place moved to the first, with a marker behind it if a visit is
   -- owed
   abbrev pub lists_after_move : List (List (Item X)) → ℕ → Bool → List (List (Item X))
   lists_after_move lists from owed =
@@ -192,7 +192,7 @@ module _ {X : Type 0} where
       (slice_set lists 0 (after_migrate (list_at lists 0) (as_it_leaves (list_at lists from) owed)))
       from []
 
-  -- the processor is visited where that is owed, and its list moved to processor 0
+  -- the processor is visited if a visit is owed, and its list moved to processor 0
   abbrev pub lists_after_migrate : AllLists X → ℕ → AllLists X
   lists_after_migrate all cpu = record all {
     lists = lists_after_move all.lists cpu (owes_visit all cpu);
@@ -210,7 +210,8 @@ module _ {X : Type 0} where
     running = true;
   }
 
-  -- a visit of a processor: where it is unvisited, a marker behind its list, if that is not empty
+  -- a visit to a processor: if it is unvisited and its list is not empty, a marker goes behind its
+  -- list
   abbrev pub lists_after_visit : AllLists X → ℕ → AllLists X
   lists_after_visit all cpu =
       if is_visited all cpu
@@ -227,13 +228,13 @@ module _ {X : Type 0} where
   abbrev pub is_marking : AllLists X → ℕ → Bool
   is_marking all cpu = not (is_visited all cpu) && not (is_empty (list_of all cpu))
 
-  -- why it may be refused: no barrier runs, or there is no room for the marker that it puts
+  -- why it may be refused: no barrier runs, or the list has no room for the marker that it puts
   abbrev pub visit_refusal : ListsWithRooms X → ℕ → Option Fault
   visit_refusal lists cpu =
       first_fault ((not lists.all.running, fault.NoBarrier)
       ∷ (is_marking lists.all cpu && not (has_room_in lists cpu 1), fault.NoMemory) ∷ [])
 
-  -- what a visit answers
+  -- the answer of a visit
   abbrev pub visit_answer : AllLists X → ℕ → Visit
   visit_answer all cpu =
       if is_visited all cpu then visit.Already
@@ -243,23 +244,23 @@ module _ {X : Type 0} where
   abbrev pub barrier_test_refusal : AllLists X → Option Fault
   barrier_test_refusal all = first_fault ((not all.running, fault.NoBarrier) ∷ [])
 
-  -- what the barrier waits for: markers, and unvisited processors
+  -- the number of markers and unvisited processors that the barrier waits for
   abbrev pub barrier_left : AllLists X → ℕ
   barrier_left all = markers_in all.lists + unvisited all.visited
 
-  -- a test ends the barrier where it waits for nothing
+  -- a test ends the barrier if it waits for nothing
   abbrev pub lists_after_barrier_test : AllLists X → AllLists X
   lists_after_barrier_test all =
       if barrier_left all == 0 then record all { running = false } else all
 
-  -- what a test answers
+  -- the answer of a test
   abbrev pub barrier_test_answer : AllLists X → BarrierState
   barrier_test_answer all =
       if barrier_left all == 0 then state.Done else state.Waits (barrier_left all)
 
-  -- what always holds: 1 to 4,096 processors, each with a flag; a barrier waits for at most one
-  -- thing a processor, and for nothing while none runs, so that no marker is left then; from 1 to
-  -- 2^62 callbacks may be queued, and no more were; numbers are multiples of 4
+  -- the invariant: 1 to 4,096 processors, each with a flag; a barrier waits for at most one marker
+  -- or visit for each processor, and for nothing while none runs, so that no marker is left then;
+  -- from 1 to 2^62 callbacks may be queued, and no more were; numbers are multiples of 4
   pub record IsSound (all : AllLists X) : Type 0 where
     pub some : 1 ≤ cpus_of all
     pub few : cpus_of all ≤ 4096

@@ -1,5 +1,5 @@
--- Runs of calls on all lists, whoever makes them, one at a time: what they leave, and what is
--- handed out. The newest call stands first.
+-- Runs of calls on all lists, by any callers, one at a time: the lists after them, and the
+-- callbacks that were handed out. The newest call comes first.
 use Rattle.std.specs.Prelude.{ℕ, ◌+◌, ◌≡◌, ◌<◌, ◌==◌, Bool, true, false, if◌then◌else◌, List, []}
 use Rattle.std.specs.Prelude.{◌∷◌, Option, Some, None, count_by, sum_by}
 use Rattle.rcu_seq.specs.Numbers.{Number}
@@ -11,9 +11,9 @@ use Rattle.rcu_barrier.specs.Lists.{lists_after_barrier_test, lists_after_migrat
 use Rattle.rcu_barrier.specs.Lists.{lists_after_queue, lists_after_renumber, lists_after_run}
 use Rattle.rcu_barrier.specs.Lists.{lists_after_tend, lists_after_visit}
 
--- a call that was accepted: a callback is queued on a processor at a tag; a processor's list is
--- tended at a number; at most so many of its callbacks are handed out; it moves to processor 0; a
--- barrier begins, visits a processor, is tested; the numbers start anew
+-- an accepted call: a callback is queued on a processor at a tag; a processor's list is tended at a
+-- number; at most this number of its callbacks are handed out; it moves to processor 0; a barrier
+-- begins, visits a processor, is tested; the counter is renumbered
 pub data Call (X : Type 0) : Type 0 where
   Queue : ℕ → Tag → X → Call X
   Tend : ℕ → Number → Call X
@@ -33,7 +33,7 @@ module _ {X : Type 0} where
   abbrev pub IsNew : AllLists X → Type 0
   IsNew all = all ≡ at_first (cpus_of all) all.most
 
-  -- the call may be made: it names a processor; processor 0's list does not move; no barrier begins
+  -- the call is allowed: it names a processor; processor 0's list does not move; no barrier begins
   -- while one runs, and a visit and a test are of one that runs
   abbrev pub MayCall : AllLists X → Call X → Type 0
   MayCall all (Queue cpu at value) = cpu < cpus_of all
@@ -45,7 +45,7 @@ module _ {X : Type 0} where
   MayCall all BarrierTest = all.running ≡ true
   MayCall all Renumber = Unit {0}
 
-  -- what a call leaves
+  -- the lists after a call
   abbrev pub after_call : AllLists X → Call X → AllLists X
   after_call all (Queue cpu at value) = lists_after_queue all cpu at value
   after_call all (Tend cpu number) = lists_after_tend all cpu number
@@ -56,12 +56,12 @@ module _ {X : Type 0} where
   after_call all BarrierTest = lists_after_barrier_test all
   after_call all Renumber = lists_after_renumber all
 
-  -- what a run leaves of the lists that it began with
+  -- the lists after a run that began with these
   abbrev pub lists_after : AllLists X → List (Call X) → AllLists X
   lists_after first [] = first
   lists_after first (call ∷ calls) = after_call (lists_after first calls) call
 
-  -- each call of the run might be made where it was made
+  -- each call of the run was allowed when it was made
   abbrev pub IsRun : AllLists X → List (Call X) → Type 0
   IsRun first [] = Unit {0}
   IsRun first (call ∷ calls) = MayCall (lists_after first calls) call × IsRun first calls
@@ -74,12 +74,12 @@ module _ {X : Type 0} where
       + times_handed_out place first calls
   times_handed_out place first (_ ∷ calls) = times_handed_out place first calls
 
-  -- how often it lies in the lists
+  -- how often it is in the lists
   abbrev pub times_listed : ℕ → AllLists X → ℕ
   times_listed place all = sum_by (λ xs. copies place (callbacks xs)) all.lists
 
-  -- where the callback of this place is after a run: how often it was handed out, and how often it
-  -- lies in the lists
+  -- the whereabouts of the callback of this place after a run: how often it was handed out, and how
+  -- often it is in the lists
   abbrev pub whereabouts : ℕ → AllLists X → List (Call X) → ℕ × ℕ
   whereabouts place first calls =
       (times_handed_out place first calls, times_listed place (lists_after first calls))

@@ -1,11 +1,11 @@
--- What a tend leaves of one processor's list, and which numbers a callback may wait for.
+-- One processor's list after a tend, and the numbers that a callback may wait for.
 use Rattle.std.specs.Prelude.{ℕ, ◌≡◌, ◌<◌, ◌≤◌, ◌%◌, List, length, map, All}
 use Rattle.rcu_seq.specs.Numbers.{Number, snapshot}
 use Rattle.rcu_cblist.specs.SegList.{Item, Mark, behind, callbacks, front, mark_advanced}
 use Rattle.rcu_cblist.specs.SegList.{mark_given, numbers, remarked}
 
--- the mark after a tend: a number at most the given one becomes done, and where there was none it
--- is the snapshot
+-- the mark after a tend: a number at most the given one becomes done, and a callback without a mark
+-- gets the snapshot
 abbrev pub mark_after_tend : Number → Mark → Mark
 mark_after_tend number mark = mark_given (snapshot number) (mark_advanced number mark)
 
@@ -25,7 +25,7 @@ module _ {X : Type 0} where
   abbrev pub AreFours : List (Item X) → Type 0
   AreFours xs = All (λ n. n % 4 ≡ 0) (numbers xs)
 
-  -- what a tend answers: how many callbacks are done and how many wait then
+  -- the answer of a tend: how many callbacks are done and how many wait afterwards
   abbrev pub tend_answer : List (Item X) → Number → ℕ × ℕ
   tend_answer xs number = (
     length (callbacks (front (after_tend xs number))),

@@ -1,4 +1,4 @@
-//! What the words of a run say, on small runs.
+//! Laws that pin the definitions of runs, on small runs.
 ghost use Rattle.std.specs.Prelude.{◌≡◌, ◌<◌, ◌==◌, ◌+◌, ◌++◌, ◌⊎◌, [], ◌∷◌, ℕ, All, Bool, List};
 ghost use Rattle.std.specs.Prelude.{None, Some, true, false, if◌then◌else◌};
 ghost use Rattle.std.specs.List.{list_any};
@@ -13,8 +13,8 @@ ghost use Rattle.rcu_barrier.specs.Runs.{begins_barrier, whereabouts};
 ghost use Rattle.rcu_barrier.specs.Settled.{unsettles};
 ghost use Rattle.rcu_barrier.specs.declared.lists.BarrierState.{BarrierState};
 
-/// A callback is handed out once: it was queued, tended at number 0, tended at 4, and run. It came
-/// as it was queued, and no list has it then.
+/// A callback is handed out once: it is queued, tended at number 0, tended at 4, and run. It comes
+/// out as it was queued, and then no list has it.
 pub fn a_run_hands_its_callback_out<T: Drop>()
     ensures run { (most : ℕ) (at : Tag) (value : T) → IsRun (at_first 2 most) (Call.Run 0 1
         ∷ Call.Tend 0 4 ∷ Call.Tend 0 0 ∷ Call.Queue 0 at value ∷ []) }
@@ -25,7 +25,7 @@ pub fn a_run_hands_its_callback_out<T: Drop>()
         ≡ (if 1 == place then Some (record { ord = 1; at = at; value = value }) else None) }
 {}
 
-/// A callback that waits is not handed out: tended at number 0 and then at 1, it lies in its list.
+/// A waiting callback is not handed out: tended at number 0 and then at 1, it stays in its list.
 pub fn a_callback_that_waits_stays_listed<T: Drop>()
     ensures { (most : ℕ) (at : Tag) (value : T) → whereabouts 1 (at_first 2 most)
         (Call.Run 0 1 ∷ Call.Tend 0 1 ∷ Call.Tend 0 0 ∷ Call.Queue 0 at value ∷ []) ≡ (0, 1) }
@@ -40,8 +40,8 @@ pub fn a_moved_callback_is_of_processor_0<T: Drop>()
         ∷ Call.Queue 1 at value ∷ []) ≡ (if cpu == 0 then 1 else 0) }
 {}
 
-/// Each copy counts. A run adds what it hands out to what was handed out before it; a callback that
-/// lies twice is listed twice.
+/// Each copy counts. A run adds the callbacks that it hands out to those handed out before; a
+/// callback that is twice in a list is listed twice.
 pub fn each_copy_is_counted<T: Drop>()
     ensures run { (first : AllLists T) (calls : List (Call T)) (place cpu most : ℕ) →
         times_handed_out place first (Call.Run cpu most ∷ calls) ≡ copies place (take_answer
@@ -55,8 +55,8 @@ pub fn each_copy_is_counted<T: Drop>()
     }) ≡ 2 }
 {}
 
-/// Where the numbers start anew, a callback that waited has none, so that the next tend marks it
-/// anew. One that is done stays so.
+/// After a renumbering a waiting callback has no number, so the next tend marks it again. A done
+/// one stays done.
 pub fn a_renumbering_takes_the_numbers<T: Drop>()
     ensures run { (most : ℕ) (at : Tag) (value : T) → IsRun (at_first 2 most) (Call.Renumber
         ∷ Call.Tend 0 0 ∷ Call.Queue 0 at value ∷ []) }
@@ -68,9 +68,9 @@ pub fn a_renumbering_takes_the_numbers<T: Drop>()
         ∷ Call.Queue 0 at value ∷ []) ≡ 1 }
 {}
 
-/// A barrier waits for the callback that was queued before it, and for none that comes later: one
-/// behind its marker is not counted. What was queued is counted anew at each begin, and no later
-/// call changes that.
+/// A barrier waits for the callback that was queued before it, and not for a later one: a callback
+/// behind its marker is not counted. Each begin counts the queued callbacks again, and no later
+/// call changes that count.
 pub fn a_barrier_waits_for_what_was_before_it<T: Drop>()
     ensures run { (most : ℕ) (at : Tag) (value : T) → IsRun (at_first 2 most) (Call.BarrierTest
         ∷ Call.Queue 0 at value ∷ Call.Visit 1 ∷ Call.Visit 0 ∷ Call.BarrierBegin ∷ Call.Tend 0 4
@@ -85,8 +85,8 @@ pub fn a_barrier_waits_for_what_was_before_it<T: Drop>()
         ≡ (if ran then BarrierState.Done else BarrierState.Waits 1) }
 {}
 
-/// A run has no call of a processor that there is not, no migration of processor 0, no second
-/// barrier beside one, and no visit or test of a barrier that does not run.
+/// A run has no call for a processor that does not exist, no migration of processor 0, no second
+/// barrier during one, and no visit or test while no barrier runs.
 pub fn a_run_has_only_calls_that_may_be_made<T: Drop>()
     ensures { (most : ℕ) (at : Tag) (value : T) → All
         (λ calls. IsRun (at_first 2 most) calls → ⊥) ((Call.Queue 2 at value ∷ [])
@@ -94,10 +94,10 @@ pub fn a_run_has_only_calls_that_may_be_made<T: Drop>()
         ∷ (Call.Visit 0 ∷ []) ∷ (Call.BarrierTest ∷ []) ∷ []) }
 {}
 
-/// Nothing is a run, and a run goes on by each call that may be made, which is said here: a call of
-/// a processor that there is, a migration of another one than 0, the begin of a barrier where none
-/// runs, a visit or a test of one that runs, and a renumbering at any time. The calls before the
-/// newest one of a run are a run.
+/// The empty list is a run. A run can be continued by each allowed call: a call for an existing
+/// processor, a migration of a processor other than 0, the begin of a barrier if none runs, a visit
+/// or a test of a running one, and a renumbering at any time. The calls before the newest one of a
+/// run are a run.
 pub fn a_run_is_made_call_by_call<T: Drop>()
     ensures none { (first : AllLists T) → IsRun first [] }
     ensures queue { (first : AllLists T) (calls : List (Call T)) (cpu : ℕ) (at : Tag) (value : T) →
@@ -135,8 +135,9 @@ pub fn a_list_is_unsettled_by_two_calls<T: Drop>()
         (call ≡ Call.Migrate cpu) ⊎ (call ≡ Call.Renumber) }
 {}
 
-/// Two tends finish a callback, each of them counts, and so does the number of the second: after
-/// one tend the callback waits, and so it does if the grace period that it waits for has not ended.
+/// Two tends finish a callback. Each of them counts, and so does the number of the second: after
+/// one tend the callback waits, and it still waits if the grace period that it waits for has not
+/// ended.
 pub fn a_callback_waits_until_a_second_tend<T: Drop>()
     ensures second { (most : ℕ) (at : Tag) (value : T) → copies 1 (callbacks (behind (list_of
         (lists_after (at_first 2 most) (Call.Tend 0 4 ∷ Call.Tend 0 0 ∷ Call.Queue 0 at value ∷ []))
@@ -149,7 +150,7 @@ pub fn a_callback_waits_until_a_second_tend<T: Drop>()
         0))) ≡ 1 }
 {}
 
-/// Lists are new before any call, and are not once a callback was queued.
+/// Lists are new before any call, and not after a callback was queued.
 pub fn lists_are_new_until_a_queueing<T: Drop>()
     ensures new { (cpus most : ℕ) → IsNew {X = T} (at_first cpus most) }
     ensures used { (most : ℕ) (at : Tag) (value : T) →

@@ -1,4 +1,4 @@
-//! What the definitions say of tends.
+//! Laws of tends.
 ghost use Rattle.std.specs.Prelude.{◌≡◌, ◌≢◌, ◌≤◌, ◌+◌, ◌%◌, ◌==◌, ◌||◌, ℕ, All, List, Some, true};
 ghost use Rattle.std.specs.Prelude.{slice_get};
 ghost use Rattle.rcu_seq.specs.Numbers.{Number};
@@ -14,7 +14,7 @@ pub fn tend_marks_each_callback<T: Drop>()
         → slice_get (after_tend xs number) place ≢ Some (Of call Unmarked) }
 {}
 
-/// A tend is an advance to the number and an acceleration with its snapshot: it never meets two
+/// A tend is an advance to the number and an acceleration with its snapshot: it never finds two
 /// numbers below the snapshot.
 pub fn tend_is_advance_and_accelerate<T: Drop>()
     ensures { (number : Number) (xs : List (Item T)) → number % 4 ≤ 1 → AreFours xs
@@ -28,7 +28,7 @@ pub fn advance_leaves_numbers_that_may_wait<T: Drop>()
         → All (MayWait number) (numbers (after_advance xs number)) }
 {}
 
-/// These are at most two: the snapshot, and 4 below it.
+/// At most two numbers qualify: the snapshot, and 4 below it.
 pub fn two_numbers_may_wait()
     ensures { (number n : Number) → number % 4 ≤ 1 → MayWait number n
         → (n == snapshot number || n + 4 == snapshot number) ≡ true }

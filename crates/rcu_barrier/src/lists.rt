@@ -25,13 +25,13 @@ use rcu_seq::{Fault, Tag};
 use std::alloc::Global;
 use std::marker::Model;
 
-/// How many callbacks may be queued where an opening does not say.
+/// How many callbacks may be queued, unless an opening sets another limit.
 pub const MOST_QUEUED: u64 = 1_000_000;
 
-/// What a visit of a processor did.
+/// The result of a visit to a processor.
 #[derive(Clone, Copy, Debug, PartialEq, Eq)]
 pub enum Visit {
-    /// It put a marker behind the processor's list.
+    /// The barrier put a marker behind the processor's list.
     Marked,
     /// The processor's list was empty.
     Empty,
@@ -39,23 +39,24 @@ pub enum Visit {
     Already,
 }
 
-/// What a test of a barrier returns.
+/// The result of a test of a barrier.
 #[derive(Clone, Copy, Debug, PartialEq, Eq)]
 pub enum BarrierState {
-    /// No marker is left and each processor was visited: the barrier is over.
+    /// No marker is left, and each processor was visited: the barrier is done.
     Done,
-    /// So many markers and unvisited processors are left, from 1 to the number of processors.
+    /// The number of markers and unvisited processors that are left, from 1 to the number of
+    /// processors.
     Waits(u64),
 }
 
 /// A list of callbacks for each processor, and a barrier over them (Linux's `rcu_barrier`, without
 /// waiting).
 ///
-/// Contracts see the lists, which processors the barrier visited, whether one runs, how many
-/// callbacks were queued, and how many may be; and beside these, for how many items each list has
-/// room. A refused call leaves all but room as it was, and no allocation is made where there is
-/// room. A list keeps the most room that it ever had, until [`Lists::shrink`]. `cpu < cpus` is a
-/// condition of each call.
+/// Contracts see the lists, which processors the barrier visited, whether a barrier runs, how many
+/// callbacks were queued, and how many may be; and also for how many items each list has room. A
+/// refused call leaves everything but the room as it was, and a call that finds room allocates
+/// nothing. A list keeps the most room that it ever had, until [`Lists::shrink`]. Each call
+/// requires `cpu < cpus`.
 #[derive(Drop)]
 pub struct Lists<T: Drop> {
     /// The list of each processor.
@@ -100,8 +101,8 @@ impl<T: Drop> Model for Lists<T> {
 }
 
 impl<T: Drop> Lists<T> {
-    /// Empty lists of `cpus` processors, from 1 to 4,096. No barrier runs, and 1,000,000 callbacks
-    /// may be queued. Costs a step a processor.
+    /// Returns empty lists of `cpus` processors, from 1 to 4,096. No barrier runs, and 1,000,000
+    /// callbacks may be queued. Costs a step for each processor.
     ///
     /// Fault: `NoMemory` (16).
     pub fn new(alloc: Global, cpus: u32) -> Result<Self, Fault>
@@ -112,7 +113,8 @@ impl<T: Drop> Lists<T> {
         Lists::with_most(alloc, cpus, MOST_QUEUED)
     }
 
-    /// Empty lists, as [`Lists::new`], in which `most` callbacks may be queued, from 1 to 2^62.
+    /// Returns empty lists, as [`Lists::new`] does, but allows `most` callbacks to be queued, from
+    /// 1 to 2^62.
     ///
     /// Fault: `NoMemory` (16).
     pub fn with_most(alloc: Global, cpus: u32, most: u64) -> Result<Self, Fault>
@@ -133,11 +135,11 @@ impl<T: Drop> Lists<T> {
         })
     }
 
-    /// Queues a callback on a processor at a tag, and returns how many were queued, which is its
-    /// place among them. Costs as [`SegList::queue`].
+    /// Queues a callback on a processor at a tag. Returns how many callbacks were queued so far,
+    /// which is its place among them. Costs the same as [`SegList::queue`].
     ///
-    /// Faults, with the value: `CallbacksFull` (15) where as many were queued as may be; `NoMemory`
-    /// (16), only where the list has no room for it.
+    /// Faults, with the value: `CallbacksFull` (15) if as many were queued as the opening allows;
+    /// `NoMemory` (16), only if the list has no room for it.
     pub fn queue(&mut self, cpu: u32, at: Tag, value: T) -> Result<u64, Refused<T>>
         requires { cpu < cpus_of self.old.all }
         ensures fault { IfErr result (HandsBack (queue_refusal self.old cpu) value) }
@@ -166,10 +168,10 @@ impl<T: Drop> Lists<T> {
         Ok(ord)
     }
 
-    /// Makes each callback of a processor done whose number is at most this one, and gives the
-    /// number's snapshot to each that has none (Linux's `rcu_advance_cbs`). Returns how many
-    /// callbacks are done and how many wait then. The number is `4k` or `4k + 1` and at most 2^62;
-    /// no callback carries one above its snapshot.
+    /// Advances and accelerates a processor's callbacks: makes each callback done whose number is
+    /// at most this one, and gives the number's snapshot to each that has no number (Linux's
+    /// `rcu_advance_cbs`). Returns how many callbacks are done and how many wait. The number is
+    /// `4k` or `4k + 1` and at most 2^62; no callback carries one above its snapshot.
     pub fn tend(&mut self, cpu: u32, number: u64) -> (u64, u64)
         requires cpu { cpu < cpus_of self.old.all }
         requires number { (number % 4 ≤ 1) × (number ≤ 2 ^ 62) }
@@ -183,9 +185,8 @@ impl<T: Drop> Lists<T> {
         (list.done_count(), list.waiting_count())
     }
 
-    /// Takes the number from each callback that waits, in all lists, as the numbers start anew in
-    /// the next epoch. Done callbacks and markers stay, and a barrier goes on. Costs a step a
-    /// processor.
+    /// Takes the number from each waiting callback, in all lists, for a renumbering. Done callbacks
+    /// and markers stay, and a barrier goes on. Costs a step for each processor.
     pub fn renumber(&mut self)
         ensures { self.new ≡ on_all lists_after_renumber self.old }
     {
@@ -193,10 +194,10 @@ impl<T: Drop> Lists<T> {
     }
 
     /// Takes the first callbacks of a processor's done part, at most `max` (Linux's
-    /// `rcu_do_batch`). The markers before the first callback that is left are dropped. Costs a
-    /// step for each of both.
+    /// `rcu_do_batch`), and drops the markers before the first callback that is left. Costs a step
+    /// for each callback and marker.
     ///
-    /// Fault `NoMemory` (16), only where it has a callback to hand out.
+    /// Fault `NoMemory` (16), only if there is a callback to hand out.
     pub fn run(&mut self, cpu: u32, max: u64) -> Result<Vec<Queued<T>>, Fault>
         requires { cpu < cpus_of self.old.all }
         ensures fault { IfErr result (λ fault. run_refusal self.old.all cpu max ≡ Some fault) }
@@ -212,7 +213,7 @@ impl<T: Drop> Lists<T> {
         Ok(calls)
     }
 
-    /// How many callbacks the processor's done part has. Its list never begins with a marker.
+    /// Returns how many callbacks the processor's done part has. A list never begins with a marker.
     pub fn done_count(&self, cpu: u32) -> u64
         requires { cpu < cpus_of self.now.all }
         ensures count { result ≡ length (callbacks (front (list_of self.now.all cpu))) }
@@ -221,8 +222,8 @@ impl<T: Drop> Lists<T> {
         self.lists[cpu as usize].done_count()
     }
 
-    /// Takes the first callback of a processor's done part, as [`Lists::run`] of one, and costs as
-    /// that, but no memory.
+    /// Takes the first callback of a processor's done part, as [`Lists::run`] with `max` 1 does, at
+    /// the same cost, but without memory.
     pub fn pop_done(&mut self, cpu: u32) -> Option<Queued<T>>
         requires { cpu < cpus_of self.old.all }
         ensures call { result ≡ slice_get (take_answer (list_of self.old.all cpu) 1) 0 }
@@ -233,12 +234,11 @@ impl<T: Drop> Lists<T> {
         Some(call)
     }
 
-    /// Moves the list of another processor than 0 to processor 0's (Linux's
-    /// `rcutree_migrate_callbacks`), and returns how many callbacks moved. While a barrier runs, an
-    /// unvisited processor is visited first. Costs as [`SegList::migrate_into`].
+    /// Moves the list of a processor other than 0 to processor 0's (Linux's
+    /// `rcutree_migrate_callbacks`). Returns how many callbacks moved. If a barrier runs that did
+    /// not visit the processor, it visits it first. Costs the same as [`SegList::migrate_into`].
     ///
-    /// Fault `NoMemory` (16), only where the list is not empty, and processor 0's has no room for
-    /// it.
+    /// Fault `NoMemory` (16), only if the list is not empty, and processor 0's has no room for it.
     pub fn migrate(&mut self, cpu: u32) -> Result<u64, Fault>
         requires { (0 < cpu) × (cpu < cpus_of self.old.all) }
         ensures fault { IfErr result (λ fault. migrate_refusal self.old cpu ≡ Some fault) }
@@ -257,7 +257,7 @@ impl<T: Drop> Lists<T> {
         Ok(moved)
     }
 
-    /// Whether a barrier runs that did not visit the processor.
+    /// Returns whether a barrier runs that did not visit the processor.
     fn owes_visit(&self, cpu: u32) -> bool
         requires { cpu < cpus_of self.now.all }
         ensures { result ≡ owes_visit self.now.all cpu }
@@ -265,8 +265,8 @@ impl<T: Drop> Lists<T> {
         self.running && !self.visits.contains(cpu)
     }
 
-    /// Begins a barrier: each processor is unvisited, whether online or not. Costs a step for
-    /// every 64 processors.
+    /// Begins a barrier: each processor is unvisited, online or not. Costs a step for every 64
+    /// processors.
     ///
     /// Fault `BarrierBusy` (13): one runs.
     pub fn barrier_begin(&mut self) -> Result<(), Fault>
@@ -282,11 +282,11 @@ impl<T: Drop> Lists<T> {
         Ok(())
     }
 
-    /// The barrier visits a processor: where it is unvisited, a marker goes behind its list, if
-    /// that is not empty. Costs as [`SegList::entrain`].
+    /// Lets the barrier visit a processor. If it is unvisited and its list is not empty, the
+    /// barrier puts a marker behind its list. Costs the same as [`SegList::entrain`].
     ///
-    /// Faults: `NoBarrier` (14) where none runs; `NoMemory` (16), only where it would put a marker,
-    /// for which there is no room.
+    /// Faults: `NoBarrier` (14) if none runs; `NoMemory` (16), only if it would put a marker for
+    /// which the list has no room.
     pub fn visit(&mut self, cpu: u32) -> Result<Visit, Fault>
         requires { cpu < cpus_of self.old.all }
         ensures fault { IfErr result (λ fault. visit_refusal self.old cpu ≡ Some fault) }
@@ -312,8 +312,8 @@ impl<T: Drop> Lists<T> {
         Ok(Visit::Marked)
     }
 
-    /// Whether the barrier is over: no marker is left, and no processor is unvisited. Then none
-    /// runs from now on. Costs no walk over the lists.
+    /// Tests whether the barrier is done: no marker is left, and no processor is unvisited. If so,
+    /// it ends the barrier. It walks over no list.
     ///
     /// Fault `NoBarrier` (14): none runs.
     pub fn barrier_test(&mut self) -> Result<BarrierState, Fault>
@@ -333,7 +333,7 @@ impl<T: Drop> Lists<T> {
         Ok(BarrierState::Done)
     }
 
-    /// How many processors there are, from 1 to 4,096.
+    /// Returns the number of processors, from 1 to 4,096.
     pub fn cpus(&self) -> u32
         ensures value { result ≡ cpus_of self.now.all }
         ensures kept { IsSound self.now.all }
@@ -341,7 +341,7 @@ impl<T: Drop> Lists<T> {
         self.lists.len() as u32
     }
 
-    /// How many callbacks were queued, at most as many as may be.
+    /// Returns how many callbacks were queued, at most as many as the opening allows.
     pub fn queued(&self) -> u64
         ensures value { result ≡ self.now.all.queued }
         ensures few { result ≤ self.now.all.most }
@@ -349,7 +349,7 @@ impl<T: Drop> Lists<T> {
         self.queued
     }
 
-    /// How many callbacks may be queued since opening, from 1 to 2^62.
+    /// Returns how many callbacks may be queued since the opening, from 1 to 2^62.
     pub fn most(&self) -> u64
         ensures value { result ≡ self.now.all.most }
         ensures range { (1 ≤ result) × (result ≤ 2 ^ 62) }
@@ -357,8 +357,8 @@ impl<T: Drop> Lists<T> {
         self.most
     }
 
-    /// Gives back the memory that a processor's list does not need, as [`SegList::shrink`], and
-    /// costs as that.
+    /// Frees the memory that a processor's list does not need, as [`SegList::shrink`] does, at the
+    /// same cost.
     pub fn shrink(&mut self, cpu: u32)
         requires { cpu < cpus_of self.old.all }
         ensures state { self.new.all ≡ self.old.all }
@@ -368,7 +368,8 @@ impl<T: Drop> Lists<T> {
         list.shrink();
     }
 
-    /// For how many items a processor's list has room before it grows: never fewer than it has.
+    /// Returns for how many items a processor's list has room before it grows: never fewer than it
+    /// has.
     pub fn room(&self, cpu: u32) -> u64
         requires { cpu < cpus_of self.now.all }
         ensures value { result ≡ room_of self.now cpu }
@@ -377,14 +378,14 @@ impl<T: Drop> Lists<T> {
         self.lists[cpu as usize].room()
     }
 
-    /// Whether a barrier runs.
+    /// Returns whether a barrier runs.
     pub fn is_running(&self) -> bool
         ensures { result ≡ self.now.all.running }
     {
         self.running
     }
 
-    /// Whether the barrier visited the processor.
+    /// Returns whether the barrier visited the processor.
     pub fn is_visited(&self, cpu: u32) -> bool
         requires { cpu < cpus_of self.now.all }
         ensures { result ≡ is_visited self.now.all cpu }
@@ -392,7 +393,7 @@ impl<T: Drop> Lists<T> {
         self.visits.contains(cpu)
     }
 
-    /// Whether the processor's list is empty.
+    /// Returns whether the processor's list is empty.
     pub fn is_empty(&self, cpu: u32) -> bool
         requires { cpu < cpus_of self.now.all }
         ensures { result ≡ is_empty (list_of self.now.all cpu) }
@@ -400,8 +401,8 @@ impl<T: Drop> Lists<T> {
         self.lists[cpu as usize].is_empty()
     }
 
-    /// The greatest number that a waiting callback of the processor carries, none where none
-    /// carries one.
+    /// Returns the greatest number that a waiting callback of the processor carries, none if no
+    /// callback carries one.
     pub fn greatest_waiting(&self, cpu: u32) -> Option<u64>
         requires { cpu < cpus_of self.now.all }
         ensures { result ≡ greatest (numbers (list_of self.now.all cpu)) }

@@ -1,4 +1,4 @@
-//! Lists that are made, and one that moves to the first.
+//! New lists, and the move of one to the first.
 ghost use Rattle.std.specs.Prelude.{◌≡◌, ◌<◌, ◌&&◌, ◌∷◌, [], Some, length, map, not, replicate};
 ghost use Rattle.std.specs.Prelude.{IfOk, IfErr, OnOk, OnErr};
 ghost use Rattle.rcu_seq.specs.Fault.{first_fault};
@@ -10,7 +10,7 @@ use rcu_cblist::SegList;
 use rcu_seq::Fault;
 use std::alloc::Global;
 
-/// So many empty lists.
+/// Returns this number of empty lists.
 ///
 /// Fault: `NoMemory` (16).
 #[tactic(auto, using(std::proofs::lemmas::List::replicate_more))]
@@ -29,7 +29,7 @@ pub(crate) fn empty_lists<T: Drop>(alloc: Global, cpus: u32) -> Result<Vec<SegLi
     Ok(lists)
 }
 
-/// Takes the number from each callback that waits, in each of the lists.
+/// Takes the number from each waiting callback, in each of the lists.
 pub(crate) fn renumber_each<T: Drop>(lists: &mut [SegList<T>])
     ensures items { items_in lists.new ≡ map after_renumber (items_in lists.old) }
     ensures rooms { rooms_in lists.new ≡ rooms_in lists.old }
@@ -39,10 +39,11 @@ pub(crate) fn renumber_each<T: Drop>(lists: &mut [SegList<T>])
     }
 }
 
-/// Moves a list to the first one, with a marker behind it where a visit is owed. Returns how many
+/// Moves a list to the first one, with a marker behind it if a visit is owed. Returns how many
 /// callbacks moved, and whether a marker did.
 ///
-/// Fault `NoMemory` (16), only where the list is not empty, and the first one has no room for it.
+/// Fault `NoMemory` (16), only if the list is not empty, and the first one has no room for its
+/// items.
 pub(crate) fn move_to_first<T: Drop>(
     lists: &mut [SegList<T>],
     from: usize,

@@ -1,4 +1,5 @@
-//! How many steps hand a callback out, over every run of calls on the lists, by any callers.
+//! The steps after which a callback is handed out, in every run of calls on the lists, by any
+//! callers.
 ghost use Rattle.std.specs.Prelude.{◌≡◌, ◌<◌, ◌≤◌, ◌∷◌, ◌++◌, ℕ, List, false, length};
 ghost use Rattle.std.specs.List.{list_any};
 ghost use Rattle.rcu_seq.specs.Numbers.{snapshot};

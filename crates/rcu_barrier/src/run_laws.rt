@@ -1,4 +1,4 @@
-//! What holds of every run of calls on the lists, whoever makes them.
+//! Laws of every run of calls on the lists, by any callers.
 ghost use Rattle.std.specs.Prelude.{◌≡◌, ◌<◌, ◌≤◌, ◌+◌, ◌∷◌, ℕ, List, Some, slice_get};
 ghost use Rattle.rcu_cblist.specs.SegList.{take_answer};
 ghost use Rattle.rcu_cblist.specs.declared.items.Queued.{Queued};
@@ -13,7 +13,7 @@ pub fn no_callback_runs_twice<T: Drop>()
         IsRun first calls → times_handed_out place first calls ≤ 1 }
 {}
 
-/// No callback is lost: each one that was queued was handed out or lies in one list, once.
+/// No callback is lost: each queued callback was handed out once, or is in one list once.
 pub fn no_callback_is_lost<T: Drop>()
     ensures { (first : AllLists T) (calls : List (Call T)) (place : ℕ) → IsNew first →
         IsRun first calls → 0 < place → place ≤ (lists_after first calls).queued →
@@ -29,8 +29,8 @@ pub fn barrier_covers_earlier_callbacks<T: Drop>()
         place ≤ queued_before_barrier first calls → times_handed_out place first calls ≡ 1 }
 {}
 
-/// The callbacks that a run hands out were queued: each has the place, the tag and the value of its
-/// queueing.
+/// The callbacks that a run hands out were queued: each has the place, the tag and the value with
+/// which it was queued.
 pub fn handed_callbacks_were_queued<T: Drop>()
     ensures { (first : AllLists T) (calls : List (Call T)) (cpu most at : ℕ) (handed : Queued T) →
         IsNew first → IsRun first calls →

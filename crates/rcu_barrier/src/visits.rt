@@ -28,7 +28,7 @@ impl Model for Visits {
 }
 
 impl Visits {
-    /// Each processor is visited.
+    /// Returns flags with each processor visited.
     ///
     /// Fault: `NoMemory` (16).
     #[tactic(auto, using(crate::proofs::Markers::unvisited_all))]
@@ -42,7 +42,7 @@ impl Visits {
         Ok(Visits { flags, left: 0 })
     }
 
-    /// Whether the processor is visited.
+    /// Returns whether the processor is visited.
     pub(crate) fn contains(&self, cpu: u32) -> bool
         requires { cpu < length self.now }
         ensures { result ≡ slice_index_or self.now cpu false }
@@ -50,7 +50,7 @@ impl Visits {
         self.flags[cpu as usize]
     }
 
-    /// The processor, which is unvisited, is visited now.
+    /// Marks an unvisited processor as visited.
     #[tactic(auto, using(crate::proofs::Markers::unvisited_set))]
     pub(crate) fn insert(&mut self, cpu: u32)
         requires { (cpu < length self.old) × (slice_index_or self.old cpu false ≡ false) }
@@ -60,7 +60,7 @@ impl Visits {
         self.left -= 1;
     }
 
-    /// No processor is visited.
+    /// Marks each processor as unvisited.
     #[tactic(auto, using(crate::proofs::Markers::unvisited_none))]
     pub(crate) fn clear(&mut self)
         ensures { self.new ≡ replicate (length self.old) false }
@@ -69,7 +69,7 @@ impl Visits {
         self.flags.fill(false);
     }
 
-    /// How many processors are unvisited.
+    /// Returns how many processors are unvisited.
     pub(crate) fn left(&self) -> u64
         ensures { result ≡ unvisited self.now }
     {

@@ -1,4 +1,4 @@
--- Segments: what a migration makes of them.
+-- Segments after a migration.
 use Rattle.std.proofs.Common.{◌≡◌, ◌==◌, ℕ, zero, suc, Bool, true, false, ◌+◌, ◌<◌, ◌≤◌, nat_lt}
 use Rattle.std.proofs.Common.{if◌then◌else◌, List, [], ◌∷◌, ◌++◌, length, map, take, drop, refl, ap}
 use Rattle.std.proofs.Common.{sym, subst, ◌∙◌, append_assoc, length-append, arith}
@@ -21,14 +21,14 @@ use Rattle.rcu_cblist.proofs.Taking.{calls_all}
 use Rattle.rcu_cblist.proofs.Views.{behind_stripped, front_joined}
 
 module _ {X : Type 0} where
-  -- a list that leaves: what goes in front of a target, and what goes behind it
+  -- a list that leaves: the part that goes in front of a target, and the part that goes behind it
   pub record Leaves (leaving : List (Item X)) (P Q : List (Entry X)) : Type 0 where
     pub front_is : front leaving ≡ marked Done P
     pub behind_is : map without_mark (behind leaving) ≡ unmarked Q
     pub front_first : begins_with_marker (unmarked P) ≡ false
     pub behind_first : begins_with_marker (unmarked Q) ≡ false
 
-  -- a list that is cut leaves at the end of what is done
+  -- a list that is cut leaves at the end of its done part
   leaves_cut : (a b d w r : ℕ) (xs : List (Entry X))
       → d ≤ w
       → w ≤ r
@@ -246,7 +246,7 @@ module _ {X : Type 0} where
               (cut_around done'.items wait'.items ready'.items d w r) segments_around;
         }
 
-    -- and seen with both parts around what was seen
+    -- and seen with both parts around the target's items
     pub carried_seen : (leaving : List (Item X)) (d w r : ℕ)
         → Leaves leaving P Q
         → d ≡ done.items + ahead.items

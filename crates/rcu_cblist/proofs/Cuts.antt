@@ -31,21 +31,21 @@ module _ {X : Type 0} where
     pub is_ready : between w r xs ≡ R
     pub is_next : drop r xs ≡ N
 
-  -- what stands before a place, and what stands from it to another one
+  -- the items before a place, and those from it to another one
   pub joins : (i j : ℕ) (xs : List (Entry X)) → i ≤ j → take i xs ++ between i j xs ≡ take j xs
   joins i j xs order =
       ap (λ l. l ++ between i j xs) (sym (take-take i j xs order)) ∙ take-append-drop i (take j xs)
 
-  -- no item stands between a place and itself
+  -- no item is between a place and itself
   pub nothing : (i : ℕ) (xs : List (Entry X)) → between i i xs ≡ []
   nothing i xs = drop_all i (take i xs) (omega (arith, length-take i xs))
 
-  -- how many items stand between two places
+  -- how many items are between two places
   pub length_between : (i j : ℕ) (xs : List (Entry X)) → j ≤ length xs
       → length (between i j xs) ≡ j - i
   length_between i j xs within = omega (arith, length-drop i (take j xs), length-take j xs)
 
-  -- what stands before a place, and the rest
+  -- the items before a place, and the rest
   pub rest_of : (i j : ℕ) (xs : List (Entry X)) → i ≤ j → between i j xs ++ drop j xs ≡ drop i xs
   rest_of i j xs order =
       let both : take i xs ++ (between i j xs ++ drop j xs) ≡ take i xs ++ drop i xs =
@@ -61,7 +61,7 @@ module _ {X : Type 0} where
       ap (λ l. take d xs ++ (between d w xs ++ l)) (rest_of w r xs second) ∙
       (ap (λ l. take d xs ++ l) (rest_of d w xs first) ∙ take-append-drop d xs)
 
-  -- what holds of four lists holds of what is cut
+  -- a property of four lists holds for the segments of a cut
   pub segments_at : (a b : ℕ) (xs D W R N : List (Entry X)) (d w r : ℕ) → Cuts xs D W R N d w r
       → AreSegments a b D W R N →
       AreSegments a b (take d xs) (between d w xs) (between w r xs) (drop r xs)
@@ -77,7 +77,7 @@ module _ {X : Type 0} where
   first_joined [] ys none others = others
   first_joined (x ∷ xs) ys none others = none
 
-  -- a list with an item more at its end, where it has one already
+  -- a list with an item more at its end, if it has one already
   pub first_pushed : (xs : List (Entry X)) (x : Entry X)
       → 0 < length xs → begins_with_marker (unmarked xs) ≡ false
       → begins_with_marker (unmarked (xs ++ x ∷ [])) ≡ false
@@ -129,7 +129,7 @@ module _ {X : Type 0} where
         ∙ ap (λ l. length (callbacks (unmarked l))) (sym (take_all tail.items xs (omega arith)));
   }
 
-  -- a list that lost its numbers is cut behind what is done alone
+  -- a list that lost its numbers is cut behind its done part alone
   pub cut_lost : (xs : List (Entry X)) (d w r : ℕ) → d ≤ w → w ≤ r →
       Cuts xs (take d xs) [] [] (between d w xs ++ (between w r xs ++ drop r xs)) d d d
   cut_lost xs d w r first second = record {
@@ -242,7 +242,7 @@ module _ {X : Type 0} where
             (first_joined (drop ready.items xs) more k.segments.next_first refl));
       }
 
-  -- cut where the third segment takes in the last one
+  -- the cut if the third segment takes in the last one
   pub cut_late : (xs : List (Entry X)) (d w r n : ℕ) → d ≤ w → w ≤ r → r ≤ length xs → n ≡ length xs
       → Cuts xs (take d xs) (between d w xs) (between w r xs ++ drop r xs) [] d w n
   cut_late xs d w r n first second within end =
@@ -265,7 +265,7 @@ module _ {X : Type 0} where
         next_first = refl;
       }
 
-  -- cut where the second segment takes in both behind it
+  -- the cut if the second segment takes in both behind it
   pub cut_early : (xs : List (Entry X)) (d w r n : ℕ) → d ≤ w → w ≤ r → r ≤ length xs
       → n ≡ length xs
       → Cuts xs (take d xs) (between d w xs ++ (between w r xs ++ drop r xs)) [] [] d n n
@@ -326,7 +326,7 @@ module _ {X : Type 0} where
                 calls ∙ (k.calls ∙ ap (λ n. length (callbacks (unmarked (take n ys)))) (sym items));
           }
 
-  -- what stands from a place to the end, with an item more there
+  -- the items from a place to the end, with an item more there
   pub from_pushed : (xs : List (Entry X)) (x : Entry X) (i j n : ℕ)
       → i ≤ j → j ≡ length xs → n ≡ j + 1 → between i n (xs ++ x ∷ []) ≡ between i j xs ++ x ∷ []
   from_pushed xs x i j n order end after =
@@ -335,7 +335,7 @@ module _ {X : Type 0} where
       ∙ (drop-append-le i xs (x ∷ []) (omega arith)
       ∙ ap (λ l. drop i l ++ x ∷ []) (sym (take_all j xs (omega arith))))
 
-  -- what stands between places before the end
+  -- the items between places before the end
   pub to_pushed : (xs : List (Entry X)) (x : Entry X) (i j n : ℕ) → j ≤ length xs → n ≡ j →
       between i n (xs ++ x ∷ []) ≡ between i j xs
   to_pushed xs x i j n within after =

@@ -17,7 +17,7 @@ pub map_split : {X Y : Type 0} (f : X → Y) (xs ys : List X) (x : X) → xs ≡
     → map f xs ≡ f x ∷ map f ys
 map_split f xs ys x whole = ap (map f) whole
 
--- what is left of a list once one item more is gone
+-- the rest of a list once one item more is gone
 pub gone_more : {X : Type 0} (start xs ys : List X) (j k : ℕ)
     → ys ≡ drop 1 xs → xs ≡ drop k start → j ≡ k + 1 → ys ≡ drop j start
 gone_more start xs ys j k next so_far more =
@@ -68,12 +68,12 @@ taken_least most k xs least =
     ap (take k) (callbacks_split xs) ∙ take-append-le k done (callbacks (behind xs)) (omega arith) ∙
     (ap (λ n. take n done) least_too ∙ take_min most done)
 
--- the list from the next callback on is what a take leaves
+-- the list from the next callback on is the list after a take
 pub untaken_least : {X : Type 0} (most k : ℕ) (xs : List (Item X))
     → k ≡ min (length (callbacks (front xs))) most → from_callback k xs ≡ after_take xs most
 untaken_least most k xs least = ap (λ n. from_callback n xs) (least ∙ sym (length_taken most xs))
 
--- a take of as many as it may hand out hands out as much
+-- a take of as many as another one hands out hands out the same
 pub taken_fewer : {X : Type 0} (most k : ℕ) (xs : List (Item X))
     → k ≡ min (length (callbacks (front xs))) most → take_answer xs k ≡ take_answer xs most
 taken_fewer most k xs least =
@@ -89,7 +89,7 @@ callbacks_left n (Marker ∷ xs) = callbacks_left n xs
 callbacks_left zero (Of call mark ∷ xs) = refl
 callbacks_left (suc n) (Of call mark ∷ xs) = callbacks_left n xs
 
--- what a take hands out, and what it leaves
+-- the callbacks that a take hands out, and the list after it
 pub taken_and_left : {X : Type 0} (most : ℕ) (xs : List (Item X)) →
     take_answer xs most ++ callbacks (after_take xs most) ≡ callbacks xs
 taken_and_left most xs =

@@ -19,7 +19,7 @@ use Rattle.rcu_cblist.proofs.Cuts.{length_between, seen_at, segments_at, tail_pa
 use Rattle.rcu_cblist.proofs.Cuts.{whole}
 use Rattle.rcu_cblist.proofs.Views.{stripped}
 
--- where a place goes once a marker is put at the end
+-- the place once a marker is put at the end
 pub passed : (n place after : ℕ) → after ≡ (if place == n then place + 1 else place) → place ≡ n
     → after ≡ n + 1
 passed n place after is end = grind (arith, nat_tests)
@@ -275,7 +275,7 @@ module _ {X : Type 0} where
         m,
       )
 
-  -- where an item is seen, one is kept
+  -- if an item is seen, one is kept
   pub some_kept : (a b d w r : ℕ) (xs : List (Entry X))
       → d ≤ w
       → w ≤ r

@@ -13,13 +13,13 @@ fold_max_bounds n (m ∷ numbers) =
     let rest = fold_max_bounds (max n m) numbers in
     (omega arith, All-cons (λ k. k ≤ fold max (max n m) numbers) m numbers (omega arith) rest.1)
 
--- where there is no greatest number, none is above the snapshot
+-- if there is no greatest number, none is above the snapshot
 pub at_most_none : (snap : Number) (numbers : List Number) → greatest numbers ≡ None
     → All (λ n. n ≤ snap) numbers
 at_most_none snap [] none = All-nil (λ n. n ≤ snap)
 at_most_none snap (n ∷ numbers) none = cc
 
--- where the greatest number is at most the snapshot, each is
+-- if the greatest number is at most the snapshot, each is
 pub at_most_some : (snap most : Number) (numbers : List Number)
     → greatest numbers ≡ Some most → most ≤ snap → All (λ n. n ≤ snap) numbers
 at_most_some snap most [] some within = cc

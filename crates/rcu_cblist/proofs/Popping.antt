@@ -1,4 +1,4 @@
--- Takes one after another: what several hand out, and what they leave.
+-- Takes one after another: the callbacks that several hand out, and the list after them.
 use Rattle.std.proofs.Common.{◌≡◌, ℕ, zero, suc, ◌+◌, ◌<◌, ◌≤◌, false, true, List, [], ◌∷◌, ◌++◌}
 use Rattle.std.proofs.Common.{length, take, drop, min, refl, ap, sym, ◌∙◌, arith, length-drop}
 use Rattle.std.specs.Prelude.{None, Some, option_map, slice_get}
@@ -24,27 +24,27 @@ module _ {X : Type 0} where
   begins_some (Marker ∷ xs) some first = absurd cc
   begins_some (Of call mark ∷ xs) some first = refl
 
-  -- where none is done a take leaves it as it is
+  -- if no callback is done, a take leaves the list as it is
   pub untaken_none : (most : ℕ) (xs : List (Item X)) → begins_with_marker xs ≡ false →
       length (callbacks (front xs)) ≡ 0 → after_take xs most ≡ xs
   untaken_none most xs first none =
       let taken : length (take_answer xs most) ≡ 0 = omega (arith, length_taken most xs) in
       ap (λ n. from_callback n xs) taken ∙ from_first xs first
 
-  -- nor does a take of none change it
+  -- a take of none does not change it either
   pub untaken_first : (xs : List (Item X)) → begins_with_marker xs ≡ false → after_take xs 0 ≡ xs
   untaken_first xs first =
       let taken : length (take_answer xs 0) ≡ 0 = omega (arith, length_taken 0 xs) in
       ap (λ n. from_callback n xs) taken ∙ from_first xs first
 
-  -- a take of one hands out this callback, and passes so many markers
+  -- a take of one hands out this callback, and passes this number of markers
   pub popped : (xs : List (Item X)) (call : Queued X) (n : ℕ) → call ∷ [] ≡ take_answer xs 1 →
       n ≡ markers_passed xs 1 → Some (call, n) ≡ pop_answer xs
   popped xs call n is count =
       ap (λ k. Some (call, k)) count
       ∙ ap (λ l. option_map (λ c. (c, markers_passed xs 1)) (slice_get l 0)) is
 
-  -- it hands out none where none is done
+  -- it hands out none if none is done
   pub popped_none : (xs : List (Item X)) → length (callbacks (front xs)) ≡ 0 → None ≡ pop_answer xs
   popped_none xs none = at (callbacks (front xs)) none
     where
@@ -67,7 +67,7 @@ module _ {X : Type 0} where
       let more : suc (n + m) ≡ suc n + m = omega arith in
       from_both m n xs ∙ ap (λ k. from_callback k (Of call mark ∷ xs)) more
 
-  -- what is done of a list from one of its done callbacks on
+  -- the done part of a list from one of its done callbacks on
   done_from : (n : ℕ) (xs : List (Item X)) → n ≤ length (callbacks (front xs)) →
       callbacks (front (from_callback n xs)) ≡ drop n (callbacks (front xs))
   done_from zero [] few = refl
@@ -78,7 +78,7 @@ module _ {X : Type 0} where
   done_from (suc n) (Of call Unmarked ∷ xs) few = absurd (omega arith)
   done_from (suc n) (Of call (Until k) ∷ xs) few = absurd (omega arith)
 
-  -- what is done of what a take leaves
+  -- the done part of the list after a take
   pub done_left : (most : ℕ) (xs : List (Item X)) →
       callbacks (front (after_take xs most)) ≡ drop most (callbacks (front xs))
   done_left most xs =
@@ -88,14 +88,14 @@ module _ {X : Type 0} where
       done_from (length (take_answer xs most)) xs (omega arith)
       ∙ (ap (λ n. drop n done) least ∙ drop_min most done)
 
-  -- two takes hand out what one of both would
+  -- two takes hand out what one take of both limits does
   pub taken_both : (a b : ℕ) (xs : List (Item X)) →
       take_answer xs (a + b) ≡ take_answer xs a ++ take_answer (after_take xs a) b
   taken_both a b xs =
       take-add a b (callbacks (front xs))
       ∙ ap (λ l. take_answer xs a ++ take b l) (sym (done_left a xs))
 
-  -- and leave what that leaves
+  -- and leave the same list
   pub left_both : (a b : ℕ) (xs : List (Item X))
       → after_take xs (a + b) ≡ after_take (after_take xs a) b
   left_both a b xs =

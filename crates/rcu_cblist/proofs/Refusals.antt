@@ -1,4 +1,4 @@
--- What is known of a list by its items and its room, and of calls that need room.
+-- Facts on a list by its items and its room, and on calls that need room.
 use Rattle.std.proofs.Common.{◌≡◌, ℕ, ◌+◌, ◌<◌, Bool, true, false, List, [], ◌∷◌, length, refl}
 use Rattle.std.proofs.Common.{ap, ◌∙◌, arith}
 use Rattle.std.proofs.lemmas.Bool.Decides.{nat_tests}
@@ -25,7 +25,7 @@ module _ {X : Type 0} where
   pub list_is : (xs ys : List (Item X)) (a b : ℕ) → xs ≡ ys → a ≡ b → list_of xs a ≡ list_of ys b
   list_is xs ys a b items room = ap (λ l. list_of l a) items ∙ ap (λ n. list_of ys n) room
 
-  -- a callback or a marker for which there is no room
+  -- a callback or a marker for which the list has no room
   pub queue_refused : (list : Segmented X) → list.room < length list.items + 1 →
       queue_refusal list ≡ Some NoMemory
   queue_refused list full = rw (too_full (length list.items + 1) list.room full) refl
@@ -51,7 +51,7 @@ module _ {X : Type 0} where
       at false true some full = absurd cc
       at false false some full = refl
 
-  -- a take that is refused memory for what it hands out
+  -- a take that is refused memory for the callbacks that it hands out
   pub take_refused : (xs : List (Item X)) (most : ℕ) → 0 < length (take_answer xs most) →
       take_refusal xs most ≡ Some NoMemory
   take_refused xs most some = rw (above 0 (length (take_answer xs most)) some) refl

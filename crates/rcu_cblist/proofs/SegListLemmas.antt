@@ -1,4 +1,4 @@
--- For callers: what the definitions of lists say of markers, of numbers, and of each item.
+-- For callers: lemmas on the markers, the numbers and the items of lists.
 use Rattle.std.proofs.Common.{◌≡◌, ℕ, zero, suc, ◌+◌, ◌≤◌, Bool, true, false, not, ◌&&◌, ◌||◌, ◌==◌}
 use Rattle.std.proofs.Common.{nat_le, nat_lt, inl, inr, List, [], ◌∷◌, ◌++◌, length, map, refl, ap}
 use Rattle.std.proofs.Common.{sym, subst, ◌∙◌, arith}
@@ -72,7 +72,7 @@ pub unmarked_none : {X : Type 0} (xs : List (Item X)) (marked : Bool)
 unmarked_none [] marked is fails = refl
 unmarked_none (x ∷ xs) marked is fails = let passes = sym fails ∙ is in cc
 
--- the markers of the done part and of what is behind it
+-- the markers of the done part and of the part behind it
 pub markers_parts : {X : Type 0} (xs : List (Item X))
     → markers (front xs) + markers (behind xs) ≡ markers xs
 markers_parts [] = refl
@@ -166,7 +166,7 @@ numbers_given P snap (Of call (Until n) ∷ xs) new each =
     All-cons P n (numbers (map (remarked (mark_given snap)) xs)) (All-head P n (numbers xs) each)
     (numbers_given P snap xs new (All-tail P n (numbers xs) each))
 
--- where each number has a property, each has it from a callback on
+-- if each number has a property, each has it from a callback on
 numbers_from : {X : Type 0} (P : Number → Type 0) (k : ℕ) (xs : List (Item X)) → All P (numbers xs)
     → All P (numbers (from_callback k xs))
 numbers_from P k [] each = each
@@ -190,12 +190,12 @@ other_same snap n ns = itself (has_other snap n ns)
     itself : (rest : Bool) → ((nat_lt n snap && not (n == n)) || rest) ≡ rest
     itself rest = grind (arith, nat_tests)
 
--- nor is one that is not below the snapshot
+-- a number that is not below the snapshot is not another one either
 pub other_above : (snap n k : Number) (ns : List Number) → nat_lt k snap ≡ false →
     has_other snap n (k ∷ ns) ≡ has_other snap n ns
 other_above snap n k ns over = ap (λ below. (below && not (k == n)) || has_other snap n ns) over
 
--- where no number but n is below the snapshot, none below it has another one
+-- if no number but n is below the snapshot, none below it has another one
 pub none_other : (snap n : Number) (all some : List Number)
     → has_other snap n all ≡ false → has_other snap n some ≡ false
     → list_any (λ k. nat_lt k snap && has_other snap k all) some ≡ false
@@ -225,7 +225,7 @@ pub no_two : (snap n : Number) (ns : List Number) → has_other snap n ns ≡ fa
 no_two snap n ns none = none_other snap n ns ns none none
 
 module _ {X : Type 0} (P : Item X → Type 0) where
-  -- where each item has a property, each has it from a callback on
+  -- if each item has a property, each has it from a callback on
   each_from : (k : ℕ) (xs : List (Item X)) → All P xs → All P (from_callback k xs)
   each_from k [] each = each
   each_from k (Marker ∷ xs) each = each_from k xs (All-tail P Marker xs each)
@@ -261,7 +261,7 @@ module _ {X : Type 0} (P : Item X → Type 0) where
   each_entrained [] marker each = each
   each_entrained (x ∷ xs) marker each = All-push P (x ∷ xs) Marker each marker
 
-  -- and after a migration, where an item has it without its mark too
+  -- and after a migration, if an item has it without its mark too
   pub each_moved : (xs ys : List (Item X))
       → ((x : Item X) → P x → P (without_mark x)) → All P xs → All P ys
       → All P (after_migrate ys xs)
@@ -294,7 +294,7 @@ first_from n (Marker ∷ xs) = first_from n xs
 first_from zero (Of call mark ∷ xs) = refl
 first_from (suc n) (Of call mark ∷ xs) = first_from n xs
 
--- nor does what is behind a done part once its marks are gone
+-- the part behind a done part does not either once its marks are gone
 first_behind : {X : Type 0} (xs : List (Item X))
     → begins_with_marker (map without_mark (behind xs)) ≡ false
 first_behind [] = refl
@@ -303,7 +303,7 @@ first_behind (Of call Done ∷ xs) = first_behind xs
 first_behind (Of call Unmarked ∷ xs) = refl
 first_behind (Of call (Until n) ∷ xs) = refl
 
--- nor does a list behind another where neither does
+-- a list behind another does not, if neither does
 first_append : {X : Type 0} (xs ys : List (Item X))
     → begins_with_marker xs ≡ false → begins_with_marker ys ≡ false
     → begins_with_marker (xs ++ ys) ≡ false
@@ -328,7 +328,7 @@ first_moved xs ys none others =
     (first_append (front xs) ys (first_front xs none) others)
     (first_behind xs)
 
--- no callback carries a number once they start anew
+-- no callback carries a number after a renumbering
 pub numbers_renumbered : {X : Type 0} (xs : List (Item X)) → numbers (after_renumber xs) ≡ []
 numbers_renumbered [] = refl
 numbers_renumbered (Marker ∷ xs) = numbers_renumbered xs

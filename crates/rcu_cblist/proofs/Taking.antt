@@ -1,4 +1,4 @@
--- Segments: what a take leaves of them.
+-- Segments after a take.
 use Rattle.std.proofs.Common.{◌≡◌, ℕ, zero, suc, ◌+◌, ◌-◌, ◌<◌, ◌≤◌, Bool, true, false, ◌==◌, inl}
 use Rattle.std.proofs.Common.{inr, ◌⊎◌, List, [], ◌∷◌, ◌++◌, length, map, take, drop, refl, ap, sym}
 use Rattle.std.proofs.Common.{subst, ◌∙◌, length-append, length-take, length-drop, arith}
@@ -22,7 +22,7 @@ use Rattle.rcu_cblist.proofs.SegListLemmas.{first_from, first_remarked, markers_
 use Rattle.rcu_cblist.proofs.Views.{front_joined, marked_remarked, stripped}
 
 module _ {X : Type 0} where
-  -- how many items stand before one of the callbacks
+  -- how many items are before one of the callbacks
   abbrev passed : ℕ → List (Item X) → ℕ
   passed n [] = 0
   passed n (Marker ∷ xs) = suc (passed n xs)
@@ -93,7 +93,7 @@ module _ {X : Type 0} where
         joined a b (take done.items xs) (between done.items wait.items xs)
         (between wait.items ready.items xs) (drop ready.items xs)
 
-    -- without marks, it is what is kept
+    -- without marks, it is the stored list
     pub now_stripped : map without_mark now ≡ unmarked xs
     now_stripped =
         stripped a b (take done.items xs) (between done.items wait.items xs)
@@ -106,11 +106,11 @@ module _ {X : Type 0} where
     pub now_markers : markers now ≡ markers (unmarked xs)
     now_markers = sym (markers_remarked (λ _. Unmarked) now) ∙ ap markers now_stripped
 
-    -- its done part has as many callbacks as stand before the place
+    -- its done part has as many callbacks as are before the place
     pub now_done : length (callbacks (front now)) ≡ done.calls
     now_done = calls_done a b _ _ _ _ k.segments ∙ sym k.done_tail.calls
 
-    -- what stands behind the done part does not begin with a marker
+    -- the part behind the done part does not begin with a marker
     rest_first : begins_with_marker (unmarked (drop done.items xs)) ≡ false
     rest_first =
         subst (λ l. begins_with_marker (unmarked l) ≡ false)
@@ -133,11 +133,12 @@ module _ {X : Type 0} where
     now_first =
         sym (first_remarked (λ _. Unmarked) now) ∙ (ap begins_with_marker now_stripped ∙ kept_first)
 
-    -- once so many callbacks of the done part and the markers before the next one are gone
+    -- after this number of callbacks of the done part, and the markers before the next one, are
+    -- gone
     module _ (most gone : ℕ) (ys : List (Entry X)) (few : most ≤ done.calls)
         (rest : ys ≡ drop gone xs) (sized : gone + length ys ≡ length xs)
         (from : unmarked ys ≡ from_callback most (unmarked xs)) where
-      -- so many callbacks are gone
+      -- this number of callbacks is gone
       fewer : length (callbacks (unmarked ys)) + most ≡ length (callbacks (unmarked xs))
       fewer =
           let parts = calls_joined (take done.items xs) (drop done.items xs) in
@@ -154,7 +155,7 @@ module _ {X : Type 0} where
           let less = fewer in
           omega arith
 
-      -- they all stood in the done part
+      -- they all were in the done part
       pub within_done : gone ≤ done.items
       within_done = by_order (order gone done.items)
         where
@@ -201,7 +202,7 @@ module _ {X : Type 0} where
           let seen = ap (λ l. length (callbacks (unmarked l))) long in
           record { within = omega arith; calls = omega arith }
 
-      -- what stands between places behind them
+      -- the items between places behind them
       between_fallen : (i j : ℕ) → gone ≤ i → gone ≤ j
           → between (i - gone) (j - gone) ys ≡ between i j xs
       between_fallen i j first second =
@@ -249,7 +250,7 @@ module _ {X : Type 0} where
             next_first = h.next_first;
           }
 
-      -- what is kept then is cut as it has to be
+      -- the rest is cut as it has to be
       pub taken_tails : (done' wait' ready' : Tail) (calls' : ℕ)
           → done'.items ≡ done.items - gone
           → done'.calls ≡ done.calls - most
@@ -275,7 +276,7 @@ module _ {X : Type 0} where
             segments = rw (d, w, r) (segments_at a b ys _ _ _ _ _ _ _ cut_taken segments_taken);
           }
 
-      -- and seen as what a take leaves
+      -- and seen as the list after a take
       pub taken_seen : (d w r : ℕ)
           → d ≡ done.items - gone
           → w ≡ wait.items - gone
@@ -352,7 +353,7 @@ module _ {X : Type 0} where
   counted_done s =
       sym (now_done s.wait_number s.ready_number s.items.items s.done s.wait s.ready s.calls s.cut)
 
-  -- as many items are seen as are kept
+  -- as many items are seen as are stored
   pub seen_length : (s : Segments X) → length (seen s) ≡ length s.items.items
   seen_length s =
       sym (length-map (seen s) without_mark)
@@ -360,7 +361,7 @@ module _ {X : Type 0} where
       (now_stripped s.wait_number s.ready_number s.items.items s.done s.wait s.ready s.calls s.cut)
       ∙ length-map s.items.items (item_of Unmarked))
 
-  -- none is seen where none is kept
+  -- none is seen if none is stored
   pub seen_empty : (s : Segments X) (n : ℕ) → n ≡ length s.items.items
       → (n == 0) ≡ is_empty (seen s)
   seen_empty s n sized = at (seen s) (sized ∙ sym (seen_length s))
@@ -378,7 +379,7 @@ module _ {X : Type 0} where
   pub some_is : (xs : List (Item X)) → is_empty xs ≡ false → xs ≡ [] → ⊥
   some_is xs some none = let is : false ≡ true = sym some ∙ ap is_empty none in absurd cc
 
-  -- a list that leaves has a marker more where that is wanted and it is not empty
+  -- a list that leaves has a marker more if one is wanted and it is not empty
   pub leaving_length : (xs : List (Item X)) (wanted : Bool) → is_empty xs ≡ false →
       length (as_it_leaves xs wanted) ≡ length xs + bool_byte wanted
   leaving_length xs false some = omega arith

@@ -1,4 +1,4 @@
--- Segments: the list of their items, and what the calls make of it.
+-- Segments: the list of their items, before and after the calls.
 use Rattle.std.proofs.Common.{◌≡◌, ◌==◌, ℕ, Bool, true, false, not, ◌<◌, ◌≤◌, max, nat_lt, nat_le}
 use Rattle.std.proofs.Common.{◌&&◌, ◌||◌, if◌then◌else◌, inl, inr, Some, None, List, [], ◌∷◌, ◌++◌}
 use Rattle.std.proofs.Common.{length, map, drop, refl, ap, sym, subst, ◌∙◌, append_assoc, arith}
@@ -33,7 +33,7 @@ unreached v n most = ap (λ test. if test then Done else Until n) is
     is : nat_le n v ≡ false
     is = grind (arith, nat_tests)
 
--- what a test of a place and a number tells
+-- the result of a test of a place and a number
 pub test_true : (i j m n : ℕ) (test : Bool) → test ≡ (nat_lt i j && nat_le m n) → test ≡ true
     → (i < j) × (m ≤ n)
 test_true i j m n test is passes = (grind (arith, nat_tests), grind (arith, nat_tests))
@@ -50,7 +50,7 @@ pub below_false : (i j m n : ℕ) (test : Bool)
     → test ≡ (nat_lt i j && nat_lt m n) → test ≡ false → i < j → n ≤ m
 below_false i j m n test is fails some = grind (arith, nat_tests)
 
--- where each number below the snapshot is this one, none differs
+-- if each number below the snapshot is this one, none differs
 no_other : (snap n : Number) (ns : List Number) → All (λ k. k < snap → k ≡ n) ns
     → has_other snap n ns ≡ false
 no_other snap n [] each = refl
@@ -122,7 +122,7 @@ module _ {X : Type 0} where
   marked_same m n [] same = refl
   marked_same m n (x ∷ xs) same = ap (λ k. marked k (x ∷ xs)) (same (omega arith))
 
-  -- the two in the middle, under other marks where they have items
+  -- the two in the middle, under other marks if they have items
   pub under_same : (n o n' o' p : Mark) (D W R N : List (Entry X))
       → (0 < length W → n ≡ n') → (0 < length R → o ≡ o')
       → each_under Done n o p D W R N ≡ each_under Done n' o' p D W R N
@@ -177,7 +177,7 @@ module _ {X : Type 0} where
       (first_two Done Done Unmarked D W R N ∙ (first_two Done Unmarked Unmarked (D ++ W) R [] N ∙
       ap (λ l. marked Done l ++ unmarked N) (append_assoc D W R)))))
 
-  -- behind the done part stands a callback that waits, or nothing
+  -- behind the done part comes a callback that waits, or nothing
   waits_behind : (a b : Number) (D W R N : List (Entry X)) → AreSegments a b D W R N →
       (front (marked (Until a) W ++ (marked (Until b) R ++ unmarked N)) ≡ [])
       × (behind (marked (Until a) W ++ (marked (Until b) R ++ unmarked N))
@@ -207,7 +207,7 @@ module _ {X : Type 0} where
       front_done D (marked (Until a) W ++ (marked (Until b) R ++ unmarked N)) ∙
       (ap (λ l. marked Done D ++ l) (waits_behind a b D W R N h).0 ∙ append-nil (marked Done D))
 
-  -- and what is behind it the others
+  -- and the part behind it is the others
   pub behind_joined : (a b : Number) (D W R N : List (Entry X)) → AreSegments a b D W R N →
       behind (joined a b D W R N) ≡ marked (Until a) W ++ (marked (Until b) R ++ unmarked N)
   behind_joined a b D W R N h =
@@ -259,7 +259,7 @@ module _ {X : Type 0} where
       numbers_next (entry.Call call ∷ N) = numbers_next N
       numbers_next (entry.Marker ∷ N) = numbers_next N
 
-  -- where a segment has items its number stands first, and then nothing but it
+  -- if a segment has items, its number comes first, and then nothing but it
   pub numbers_led : (a : Number) (W : List (Entry X))
       → 0 < length W → begins_with_marker (unmarked W) ≡ false
       → numbers (marked (Until a) W) ≡ a ∷ numbers (marked (Until a) (drop 1 W))
@@ -276,7 +276,7 @@ module _ {X : Type 0} where
       (numbers_same P a W (λ some. holds (omega arith)))
   numbers_same P a (entry.Marker ∷ W) holds = numbers_same P a W (λ some. holds (omega arith))
 
-  -- where the numbers are at most the snapshot, those of segments with items are
+  -- if the numbers are at most the snapshot, those of segments with items are
   pub most_wait : (snap a b : Number) (D W R N : List (Entry X)) → AreSegments a b D W R N →
       IsAtMost snap (joined a b D W R N) → 0 < length W → a ≤ snap
   most_wait snap a b D W R N h most some =
@@ -306,7 +306,7 @@ module _ {X : Type 0} where
       All-behind P [] ns each = each
       All-behind P (m ∷ ms) ns each = All-behind P ms ns (All-tail P m (ms ++ ns) each)
 
-  -- where each number below the snapshot is the first one, no two differ
+  -- if each number below the snapshot is the first one, no two differ
   numbers_two : (snap a b : Number) (D W R N : List (Entry X)) → (0 < length W → a < snap → a ≡ a) →
       (0 < length R → b < snap → b ≡ a) → has_two snap (numbers (joined a b D W R N)) ≡ false
   numbers_two snap a b D W R N first second =
@@ -317,7 +317,7 @@ module _ {X : Type 0} where
       (All-append one (numbers (marked (Until a) W)) (numbers (marked (Until b) R))
       (numbers_same one a W first) (numbers_same one b R second))))
 
-  -- where both have items and numbers below it, two do
+  -- if both have items and numbers below it, two differ
   two_found : (snap a b : Number) (D W R N : List (Entry X)) →
       numbers (marked (Until a) W) ≡ a ∷ numbers (marked (Until a) (drop 1 W)) →
       numbers (marked (Until b) R) ≡ b ∷ numbers (marked (Until b) (drop 1 R)) → a < b → b < snap →
@@ -394,7 +394,7 @@ module _ {X : Type 0} where
       ap (λ n. fold max n (numbers (marked (Until a) W))) (omega arith) ∙ fold_same most a W within
   fold_same most a (entry.Marker ∷ W) within = fold_same most a W within
 
-  -- the greatest number where both segments have items, where the first one has, and where none has
+  -- the greatest number if both segments have items, if the first one has, and if none has
   pub greatest_ready : (a b : Number) (D W R N : List (Entry X))
       → AreSegments a b D W R N → 0 < length R → Some b ≡ greatest (numbers (joined a b D W R N))
   greatest_ready a b D W R N h some =

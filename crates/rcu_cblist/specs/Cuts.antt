@@ -1,4 +1,4 @@
--- Where a sequence of items is cut into four segments, and what is kept of that.
+-- The cuts of a sequence of items into four segments, and the invariant of the cuts.
 use Rattle.std.specs.Prelude.{ℕ, ◌<◌, ◌≤◌, ◌≡◌, ◌+◌, ◌-◌, ◌==◌, false, List, length, take, drop}
 use Rattle.std.specs.Prelude.{if◌then◌else◌}
 use Rattle.rcu_seq.specs.Numbers.{Number}
@@ -7,21 +7,21 @@ use Rattle.rcu_cblist.specs.Entries.{unmarked}
 use Rattle.rcu_cblist.specs.declared.items.Entry.{Entry}
 use Rattle.rcu_cblist.specs.declared.tail.Tail.{Tail}
 
--- the place with so much more before it
+-- the place with this much more before it
 abbrev pub risen : Tail → Tail → Tail
 risen tail by = record { items = tail.items + by.items; calls = tail.calls + by.calls }
 
--- the place with so much less before it
+-- the place with this much less before it
 abbrev pub fallen : Tail → Tail → Tail
 fallen tail by = record { items = tail.items - by.items; calls = tail.calls - by.calls }
 
--- so much is before the place
+-- at least this much is before the place
 pub record IsBefore (by tail : Tail) : Type 0 where
   pub items : by.items ≤ tail.items
   pub calls : by.calls ≤ tail.calls
 
--- the place once a marker was put behind so many items: it is behind the marker where it was behind
--- them all
+-- the place once a marker was put behind this number of items: it is behind the marker if it was
+-- behind all of them
 abbrev pub past_marker : Tail → ℕ → Tail
 past_marker tail end =
     record tail { items = if tail.items == end then tail.items + 1 else tail.items }
@@ -31,8 +31,8 @@ module _ {X : Type 0} where
   abbrev pub between : ℕ → ℕ → List (Entry X) → List (Entry X)
   between i j xs = drop i (take j xs)
 
-  -- four segments: the third has items only where the second has, and the lower number is the
-  -- second's; none begins with a marker
+  -- four segments: the third has items only if the second has, and the second's number is the lower
+  -- one; none begins with a marker
   pub record AreSegments (a b : Number) (done wait ready next : List (Entry X)) : Type 0 where
     pub filled : 0 < length ready → 0 < length wait
     pub ascending : 0 < length ready → a < b

@@ -1,4 +1,4 @@
--- What the entries of a list mean.
+-- The meaning of a list's entries.
 use Rattle.std.specs.Prelude.{ℕ, Bool, nat_lt, if◌then◌else◌, List, [], ◌∷◌, ◌++◌, length, map}
 use Rattle.std.specs.Prelude.{take, drop}
 use Rattle.rcu_cblist.specs.SegList.{Item, Mark, Of, Marker, Unmarked}
@@ -19,14 +19,14 @@ module _ {X : Type 0} where
   abbrev pub unmarked : List (Entry X) → List (Item X)
   unmarked xs = marked Unmarked xs
 
-  -- what goes in front of a target where so many items move in front of it and the others behind
-  -- it, with a marker behind the last one where that is wanted
+  -- the entries that go in front of a target, if this number of items moves in front of it and the
+  -- others behind it, with a marker behind the last one if one is wanted
   abbrev pub moved_in_front : List (Entry X) → ℕ → Bool → List (Entry X)
   moved_in_front xs ahead wanted =
       take ahead xs
       ++ (if wanted then (if nat_lt ahead (length xs) then [] else entry.Marker ∷ []) else [])
 
-  -- and what goes behind it
+  -- and the entries that go behind it
   abbrev pub moved_behind : List (Entry X) → ℕ → Bool → List (Entry X)
   moved_behind xs ahead wanted =
       drop ahead xs

@@ -10,13 +10,13 @@ use Rattle.rcu_seq.specs.declared.fault.Fault.{Fault}
 use Rattle.rcu_seq.specs.declared.fault.Fault.TheVariants.{NoMemory}
 use Rattle.rcu_cblist.specs.declared.items.Queued.{Queued}
 
--- what a callback waits for: nothing said yet, a grace-period number, or nothing more
+-- the mark of a callback: it has no number yet, it waits for a grace-period number, or it is done
 pub data Mark : Type 0 where
   Unmarked : Mark
   Until : Number → Mark
   Done : Mark
 
--- a callback with its mark, or a marker, which a barrier leaves behind the callbacks that it waits
+-- a callback with its mark, or a marker, which a barrier puts behind the callbacks that it waits
 -- for
 pub data Item (X : Type 0) : Type 0 where
   Of : Queued X → Mark → Item X
@@ -33,13 +33,13 @@ mark_advanced number (Until n) = if nat_le n number then Done else Until n
 mark_advanced number Unmarked = Unmarked
 mark_advanced number Done = Done
 
--- the mark where an unmarked callback is given a number
+-- the mark after an unmarked callback is given a number
 abbrev pub mark_given : Number → Mark → Mark
 mark_given snap Unmarked = Until snap
 mark_given snap (Until n) = Until n
 mark_given snap Done = Done
 
--- the mark once the numbers start anew: a number means nothing in the next epoch
+-- the mark after a renumbering: a number means nothing in the next epoch
 abbrev pub mark_renumbered : Mark → Mark
 mark_renumbered (Until n) = Unmarked
 mark_renumbered Unmarked = Unmarked
@@ -53,18 +53,18 @@ has_other snap n numbers = list_any (λ k. nat_lt k snap && not (k == n)) number
 abbrev pub has_two : Number → List Number → Bool
 has_two snap numbers = list_any (λ n. nat_lt n snap && has_other snap n numbers) numbers
 
--- the greatest of the numbers, none where there is none
+-- the greatest of the numbers, none if there is none
 abbrev pub greatest : List Number → Option Number
 greatest [] = None
 greatest (n ∷ numbers) = Some (fold max n numbers)
 
 module _ {X : Type 0} where
-  -- the callback of an item, none where it is a marker
+  -- the callback of an item, none if it is a marker
   abbrev pub callback_of : Item X → Option (Queued X)
   callback_of (Of call mark) = Some call
   callback_of Marker = None
 
-  -- the number that an item carries, none where it carries none
+  -- the number that an item carries, none if it carries none
   abbrev pub number_carried : Item X → Option Number
   number_carried (Of call (Until n)) = Some n
   number_carried (Of call Unmarked) = None
@@ -91,7 +91,7 @@ module _ {X : Type 0} where
   abbrev pub numbers : List (Item X) → List Number
   numbers xs = filter_map number_carried xs
 
-  -- how many markers there are
+  -- the number of markers
   abbrev pub markers : List (Item X) → ℕ
   markers xs = count_by is_marker xs
 
@@ -104,7 +104,7 @@ module _ {X : Type 0} where
   abbrev pub on_items : (List (Item X) → List (Item X)) → Segmented X → Segmented X
   on_items change list = record list { items = change list.items }
 
-  -- there is room for so many items more
+  -- the list has room for this number of further items
   abbrev pub has_room : Segmented X → ℕ → Bool
   has_room list more = nat_le (length list.items + more) list.room
 
@@ -126,7 +126,7 @@ module _ {X : Type 0} where
   abbrev pub after_entrain : List (Item X) → List (Item X)
   after_entrain xs = if is_empty xs then xs else xs ++ Marker ∷ []
 
-  -- the list as it leaves, with a marker put behind it first where that is wanted
+  -- the list as it leaves, with a marker put behind it first if one is wanted
   abbrev pub as_it_leaves : List (Item X) → Bool → List (Item X)
   as_it_leaves xs wanted = if wanted then after_entrain xs else xs
 
@@ -138,7 +138,7 @@ module _ {X : Type 0} where
   abbrev pub after_advance : List (Item X) → Number → List (Item X)
   after_advance xs number = map (remarked (mark_advanced number)) xs
 
-  -- the list once the numbers start anew: what waits has no number, and what is done stays so
+  -- the list after a renumbering: waiting callbacks have no number, and done ones stay done
   abbrev pub after_renumber : List (Item X) → List (Item X)
   after_renumber xs = map (remarked mark_renumbered) xs
 
@@ -146,8 +146,8 @@ module _ {X : Type 0} where
   abbrev pub IsAtMost : Number → List (Item X) → Type 0
   IsAtMost snap xs = All (λ n. n ≤ snap) (numbers xs)
 
-  -- the list once each unmarked callback is given the snapshot, which changes nothing where
-  -- callbacks carry two different numbers below it
+  -- the list once each unmarked callback is given the snapshot. Nothing changes if callbacks carry
+  -- two different numbers below it
   abbrev pub after_accelerate : List (Item X) → Number → List (Item X)
   after_accelerate xs snap =
       if has_two snap (numbers xs) then xs else map (remarked (mark_given snap)) xs
@@ -157,12 +157,12 @@ module _ {X : Type 0} where
   front [] = []
   front (x ∷ xs) = if waits x then [] else x ∷ front xs
 
-  -- what is behind it, from the first callback that waits on
+  -- the items behind it, from the first callback that waits on
   abbrev pub behind : List (Item X) → List (Item X)
   behind [] = []
   behind (x ∷ xs) = if waits x then x ∷ xs else behind xs
 
-  -- what a take hands out: the first callbacks of the done part, at most so many
+  -- the callbacks that a take hands out: the first of the done part, at most this number
   abbrev pub take_answer : List (Item X) → ℕ → List (Queued X)
   take_answer xs most = take most (callbacks (front xs))
 
@@ -173,7 +173,7 @@ module _ {X : Type 0} where
   from_callback zero (Of call mark ∷ xs) = Of call mark ∷ xs
   from_callback (suc n) (Of call mark ∷ xs) = from_callback n xs
 
-  -- what a take leaves: the list from the first callback on that it does not hand out
+  -- the list after a take: it begins at the first callback that the take does not hand out
   abbrev pub after_take : List (Item X) → ℕ → List (Item X)
   after_take xs most = from_callback (length (take_answer xs most)) xs
 
@@ -181,12 +181,13 @@ module _ {X : Type 0} where
   abbrev pub markers_passed : List (Item X) → ℕ → ℕ
   markers_passed xs most = markers xs - markers (after_take xs most)
 
-  -- what a take of one hands out, and how many markers it passes; none where no callback is done
+  -- the callback that a take of one hands out, and how many markers it passes; none if no callback
+  -- is done
   abbrev pub pop_answer : List (Item X) → Option (Queued X × ℕ)
   pop_answer xs = option_map (λ call. (call, markers_passed xs 1)) (slice_get (take_answer xs 1) 0)
 
-  -- what a target that had ys has once xs moved there: the done part in front of ys, and the rest
-  -- behind it without its marks
+  -- a target that had ys, after xs moved there: the done part in front of ys, and the rest behind
+  -- it without its marks
   abbrev pub after_migrate : List (Item X) → List (Item X) → List (Item X)
   after_migrate ys xs = (front xs ++ ys) ++ map without_mark (behind xs)
 
@@ -202,8 +203,8 @@ module _ {X : Type 0} where
   front_with n [] = []
   front_with n (x ∷ xs) = if is_with n x then x ∷ front_with n xs else []
 
-  -- the longest front of markers and of callbacks with one number, that of its first item; empty
-  -- where that has none
+  -- the longest front of markers and of callbacks with one number, that of its first item; empty if
+  -- that has none
   abbrev pub numbered : List (Item X) → List (Item X)
   numbered [] = []
   numbered (Of call (Until n) ∷ xs) = Of call (Until n) ∷ front_with n xs
@@ -211,24 +212,24 @@ module _ {X : Type 0} where
   numbered (Of call Done ∷ xs) = []
   numbered (Marker ∷ xs) = []
 
-  -- what is behind it
+  -- the items behind it
   abbrev pub past_numbered : List (Item X) → List (Item X)
   past_numbered xs = drop (length (numbered xs)) xs
 
-  -- how many items each segment has, where the list is cut where its marks change, and a marker
-  -- belongs to what stands before it: the done part, what waits for the first number, what waits
-  -- for the next one, and the rest
+  -- how many items each segment has. The list is cut where its marks change, and a marker belongs
+  -- to the item before it: the done part, the callbacks that wait for the first number, those that
+  -- wait for the next one, and the rest
   abbrev pub segments : List (Item X) → List ℕ
   segments xs =
       length (front xs) ∷ length (numbered (behind xs))
       ∷ length (numbered (past_numbered (behind xs)))
       ∷ length (past_numbered (past_numbered (behind xs))) ∷ []
 
-  -- why a callback may be refused: there is no room for it
+  -- why a callback may be refused: the list has no room for it
   abbrev pub queue_refusal : Segmented X → Option Fault
   queue_refusal list = first_fault ((not (has_room list 1), NoMemory) ∷ [])
 
-  -- why a marker may be refused: there is a callback for it to stand behind, and no room
+  -- why a marker may be refused: the list has a callback, and no room
   abbrev pub entrain_refusal : Segmented X → Option Fault
   entrain_refusal list =
       first_fault ((not (is_empty list.items) && not (has_room list 1), NoMemory) ∷ [])
@@ -237,8 +238,8 @@ module _ {X : Type 0} where
   abbrev pub take_refusal : List (Item X) → ℕ → Option Fault
   take_refusal xs most = first_fault ((nat_lt 0 (length (take_answer xs most)), NoMemory) ∷ [])
 
-  -- why a list may not move: it has items, for which, with the marker where that is wanted, the
-  -- target has no room
+  -- why a list may not move: it has items, and the target has no room for them and for the marker,
+  -- if one is wanted
   abbrev pub move_refusal : Segmented X → Bool → Segmented X → Option Fault
   move_refusal list marked target =
       first_fault ((

@@ -1,20 +1,20 @@
-//! What goes into a list, what stands in it, and what comes out.
+//! The callbacks that go into a list, its items, and the callbacks that come out.
 
 use rcu_seq::{Fault, Tag};
 
 /// A callback that was queued.
 #[derive(Debug, Drop)]
 pub struct Queued<T: Drop> {
-    /// Which of all that were queued it is, from 1.
+    /// Its place among all queued callbacks, counted from 1.
     pub ord: u64,
-    /// The tag at its queueing.
+    /// The tag at which it was queued.
     pub at: Tag,
-    /// What the caller queued.
+    /// The value that the caller queued.
     pub value: T,
 }
 
-/// An item of a list as it is stored. What a callback waits for is told by the segment that it
-/// stands in.
+/// An item of a list as it is stored. The segment that a callback is in gives the number that it
+/// waits for.
 #[derive(Debug, Drop)]
 pub(crate) enum Entry<T: Drop> {
     /// A callback.
@@ -23,20 +23,20 @@ pub(crate) enum Entry<T: Drop> {
     Marker,
 }
 
-/// What was taken from a list.
+/// The callbacks taken from a list.
 #[derive(Debug, Drop)]
 pub struct Taken<T: Drop> {
     /// The callbacks, in order.
     pub calls: Vec<Queued<T>>,
-    /// How many markers were passed.
+    /// How many markers were dropped with them.
     pub markers: u64,
 }
 
-/// A refused call, which hands back the value that it was given.
+/// A refused call, with the value that the caller passed.
 #[derive(Debug, Drop)]
 pub struct Refused<V: Drop> {
-    /// Why it was refused.
+    /// The fault.
     pub fault: Fault,
-    /// The value that it was given.
+    /// The caller's value.
     pub value: V,
 }

@@ -1,4 +1,4 @@
-//! Callbacks that are taken one at a time, with no memory.
+//! Callbacks that are taken one at a time, without memory.
 ghost use Rattle.std.specs.Prelude.{◌≡◌, ◌<◌, ◌∷◌, [], IsNone, Some, length, take, true};
 ghost use Rattle.rcu_cblist.specs.SegList.{after_take, begins_with_callback, callbacks};
 ghost use Rattle.rcu_cblist.specs.SegList.{on_items, pop_answer};
@@ -13,8 +13,9 @@ use crate::tail::Tail;
 use std::collections::VecDeque;
 
 impl<T: Drop> SegList<T> {
-    /// Takes the first callback of the done part, and each marker before the next one, whose number
-    /// is returned beside it (Linux's `rcu_cblist_dequeue`). Costs a step for each, and no memory.
+    /// Takes the first callback of the done part, and each marker before the next one (Linux's
+    /// `rcu_cblist_dequeue`). Returns the callback and the number of markers. Costs a step for
+    /// each, and no memory.
     pub fn pop_done(&mut self) -> Option<(Queued<T>, u64)>
         ensures answer { result ≡ pop_answer self.old.items }
         ensures state { self.new ≡ on_items (λ xs. after_take xs 1) self.old }
@@ -28,8 +29,8 @@ impl<T: Drop> SegList<T> {
 }
 
 impl<T: Drop> Segments<T> {
-    /// Takes the first callback of DONE, and each marker before the next one. Returns how many
-    /// markers beside it.
+    /// Takes the first callback of DONE, and each marker before the next one. Returns the callback
+    /// and the number of markers.
     fn pop(&mut self) -> (Queued<T>, u64)
         requires { 0 < self.old.done.calls }
         ensures answer { Some result ≡ pop_answer (seen self.old) }
@@ -48,7 +49,8 @@ impl<T: Drop> Segments<T> {
     }
 }
 
-/// Takes the first callback, and each marker before the next one. Returns how many markers.
+/// Takes the first callback, and each marker before the next one. Returns the callback and the
+/// number of markers.
 fn pop_first<T: Drop>(items: &mut VecDeque<Entry<T>>) -> (Queued<T>, u64)
     requires { begins_with_callback (unmarked items.old.items) ≡ true }
     ensures call { result.0 ∷ [] ≡ take 1 (callbacks (unmarked items.old.items)) }

@@ -17,17 +17,17 @@ use std::alloc::Global;
 use std::marker::Model;
 
 /// One processor's callbacks, in order, each with its mark: none, a grace-period number, or done
-/// (Linux's `rcu_segcblist`). Contracts see the list of items, and for how many there is room.
+/// (Linux's `rcu_segcblist`). Contracts see the list of items, and for how many items it has room.
 ///
-/// The done part is the longest front with no callback that is not done. No list begins with a
-/// marker, so each marker has a callback before it. A call is refused only where an allocation
-/// failed, and leaves its lists as they were; where there is room none is made. A list keeps the
-/// most room that it ever had, until [`SegList::shrink`].
+/// The done part is the longest prefix in which every callback is done. No list begins with a
+/// marker, so each marker has a callback before it. A call is refused only if an allocation failed,
+/// and then leaves its lists as they were. A call that finds room allocates nothing. A list keeps
+/// the most room that it ever had, until [`SegList::shrink`].
 #[derive(Drop)]
 pub struct SegList<T: Drop> {
     /// The items, in four segments.
     pub(crate) segments: Segments<T>,
-    /// Where the callbacks that are taken go.
+    /// The allocator of the callbacks that are taken.
     alloc: Global,
 }
 
@@ -41,7 +41,7 @@ impl<T: Drop> Model for SegList<T> {
 }
 
 impl<T: Drop> SegList<T> {
-    /// An empty list, which has grown nothing yet.
+    /// Returns an empty list, without an allocation.
     pub fn new(alloc: Global) -> SegList<T>
         ensures { result.items ≡ [] }
     {
@@ -51,10 +51,10 @@ impl<T: Drop> SegList<T> {
         }
     }
 
-    /// Queues a callback at the end, without a mark. Costs a step, and one an item where the list
-    /// grows.
+    /// Queues a callback at the end, without a mark. Costs a step, and one for each item if the
+    /// list grows.
     ///
-    /// Fault `NoMemory` (16) where there is no room for it and an allocation failed; the callback
+    /// Fault `NoMemory` (16) if the list has no room for it and an allocation failed; the callback
     /// is returned.
     pub fn queue(&mut self, item: Queued<T>) -> Result<(), Refused<Queued<T>>>
         ensures fault { IfErr result (HandsBack (queue_refusal self.old) item) }
@@ -79,8 +79,8 @@ impl<T: Drop> SegList<T> {
         self.segments.advance(number);
     }
 
-    /// Gives a number to each callback without a mark, but changes nothing where callbacks carry
-    /// two different numbers below it (Linux's `rcu_segcblist_accelerate`). No callback carries a
+    /// Gives a number to each callback without a mark. Changes nothing if callbacks carry two
+    /// different numbers below it (Linux's `rcu_segcblist_accelerate`). No callback carries a
     /// number above it.
     pub fn accelerate(&mut self, snap: u64)
         requires { IsAtMost snap self.old.items }
@@ -89,9 +89,8 @@ impl<T: Drop> SegList<T> {
         self.segments.accelerate(snap);
     }
 
-    /// Takes the number from each callback that waits, as the numbers start anew in the next epoch:
-    /// it is as if just queued, in the order that it has. Done callbacks and markers stay. Costs a
-    /// step.
+    /// Takes the number from each waiting callback, for a renumbering. It is then as if just
+    /// queued, in the same order. Done callbacks and markers stay. Costs a step.
     pub fn renumber(&mut self)
         ensures { self.new ≡ on_items after_renumber self.old }
     {
@@ -101,7 +100,7 @@ impl<T: Drop> SegList<T> {
     /// Takes the first callbacks of the done part, at most `max`, and each marker before the first
     /// callback that is left. Costs a step for each.
     ///
-    /// Fault `NoMemory` (16), only where it has a callback to hand out.
+    /// Fault `NoMemory` (16), only if there is a callback to hand out.
     pub fn take_done(&mut self, max: u64) -> Result<Taken<T>, Fault>
         ensures fault { IfErr result (λ fault. take_refusal self.old.items max ≡ Some fault) }
         ensures calls { IfOk result (λ some. some.calls.items ≡ take_answer self.old.items max) }
@@ -118,12 +117,11 @@ impl<T: Drop> SegList<T> {
         Ok(Taken { calls, markers })
     }
 
-    /// Moves all to a target: the done part goes in front of what is there, and the rest behind it
-    /// without its marks, the order kept. Costs a step an item that moves, and one an item of the
-    /// target where that grows.
+    /// Moves all items to a target: the done part goes to the front of the target's list, and the
+    /// rest to its end without marks, in the same order. Costs a step for each item that moves, and
+    /// one for each item of the target if that grows.
     ///
-    /// Fault `NoMemory` (16), only where there is something to move, for which the target has no
-    /// room.
+    /// Fault `NoMemory` (16), only if the list has items and the target has no room for them.
     pub fn migrate_into(&mut self, target: &mut SegList<T>) -> Result<(), Fault>
         ensures fault { IfErr result (λ fault.
             move_refusal self.old false target.old ≡ Some fault) }
@@ -137,12 +135,11 @@ impl<T: Drop> SegList<T> {
         self.move_into(target, false)
     }
 
-    /// Puts a marker at the end of a list that is not empty (Linux's `rcu_segcblist_entrain`), and
-    /// returns whether it did. An empty list stays as it is, and takes no memory. Costs as
+    /// Puts a marker at the end of a list that is not empty (Linux's `rcu_segcblist_entrain`).
+    /// Returns whether it did. An empty list stays as it is, and needs no memory. Costs the same as
     /// [`SegList::queue`].
     ///
-    /// Fault `NoMemory` (16), only where the list is not empty and there is no room for the
-    /// marker.
+    /// Fault `NoMemory` (16), only if the list is not empty and has no room for the marker.
     pub fn entrain(&mut self) -> Result<bool, Fault>
         ensures fault { IfErr result (λ fault. entrain_refusal self.old ≡ Some fault) }
         ensures answer { IfOk result (λ marked. marked ≡ not (is_empty self.old.items)) }
@@ -160,12 +157,12 @@ impl<T: Drop> SegList<T> {
         Ok(true)
     }
 
-    /// Moves all to a target as [`SegList::migrate_into`], with a marker put behind it first where
-    /// that is wanted and it is not empty: what `entrain` and then `migrate_into` leave, all or
-    /// nothing. Room for both is made before either. Costs as that.
+    /// Moves all items to a target as [`SegList::migrate_into`] does; if `marked`, and the list is
+    /// not empty, it first puts a marker behind the list. The effect is that of `entrain` and then
+    /// `migrate_into`, all or nothing: it makes room for both before it changes anything. Costs the
+    /// same as `migrate_into`.
     ///
-    /// Fault `NoMemory` (16), only where there is something to move, for which the target has no
-    /// room.
+    /// Fault `NoMemory` (16), only if the list has items and the target has no room for them.
     pub fn move_into(&mut self, target: &mut SegList<T>, marked: bool) -> Result<(), Fault>
         ensures fault { IfErr result (λ fault.
             move_refusal self.old marked target.old ≡ Some fault) }
@@ -187,8 +184,8 @@ impl<T: Drop> SegList<T> {
         Ok(())
     }
 
-    /// Gives back the memory that its items do not need, as [`VecDeque::shrink_to_fit`]. It keeps
-    /// what it has where the smaller block is refused; an empty list keeps none. Costs a step an
+    /// Frees the memory that its items do not need, as [`VecDeque::shrink_to_fit`] does. It keeps
+    /// its memory if the smaller block is refused; an empty list keeps none. Costs a step for each
     /// item.
     pub fn shrink(&mut self)
         ensures state { self.new.items ≡ self.old.items }
@@ -198,7 +195,7 @@ impl<T: Drop> SegList<T> {
         self.segments.items.shrink_to_fit();
     }
 
-    /// For how many items there is room before it grows: never fewer than it has.
+    /// Returns for how many items the list has room before it grows: never fewer than it has.
     pub fn room(&self) -> u64
         ensures value { result ≡ self.now.room }
         ensures fits { length self.now.items ≤ result }
@@ -206,7 +203,7 @@ impl<T: Drop> SegList<T> {
         self.segments.items.capacity() as u64
     }
 
-    /// Whether it has no item. It never begins with a marker.
+    /// Returns whether the list has no item. A list never begins with a marker.
     pub fn is_empty(&self) -> bool
         ensures empty { result ≡ is_empty self.now.items }
         ensures first { begins_with_marker self.now.items ≡ false }
@@ -214,14 +211,14 @@ impl<T: Drop> SegList<T> {
         self.segments.items.is_empty()
     }
 
-    /// How many callbacks there are.
+    /// Returns how many callbacks the list has.
     pub fn count(&self) -> u64
         ensures { result ≡ length (callbacks self.now.items) }
     {
         self.segments.calls
     }
 
-    /// How many callbacks the done part has. The list never begins with a marker.
+    /// Returns how many callbacks the done part has. A list never begins with a marker.
     pub fn done_count(&self) -> u64
         ensures count { result ≡ length (callbacks (front self.now.items)) }
         ensures first { begins_with_marker self.now.items ≡ false }
@@ -229,22 +226,23 @@ impl<T: Drop> SegList<T> {
         self.segments.done.calls
     }
 
-    /// How many callbacks are behind the done part.
+    /// Returns how many callbacks are behind the done part.
     pub fn waiting_count(&self) -> u64
         ensures { result ≡ length (callbacks (behind self.now.items)) }
     {
         self.segments.calls - self.segments.done.calls
     }
 
-    /// The greatest number that a waiting callback carries, none where none carries one.
+    /// Returns the greatest number that a waiting callback carries, none if no callback carries
+    /// one.
     pub fn greatest_waiting(&self) -> Option<u64>
         ensures { result ≡ greatest (numbers self.now.items) }
     {
         self.segments.greatest_waiting()
     }
 
-    /// How many items, markers too, stand in each of Linux's four segments: DONE, WAIT, NEXT_READY
-    /// and NEXT.
+    /// Returns how many items, with markers, each of Linux's four segments has: DONE, WAIT,
+    /// NEXT_READY and NEXT.
     pub fn segments(&self) -> [u64; 4]
         ensures { result ≡ segments self.now.items }
     {

@@ -23,24 +23,24 @@ use std::collections::VecDeque;
 ///        done  wait        ready
 /// ```
 ///
-/// What is in DONE waits for nothing more, WAIT and NEXT_READY wait for a number each, and NEXT has
-/// none yet. NEXT_READY has items only where WAIT has, and WAIT's number is the lower
-/// one then. A marker belongs to the segment of the callback before it.
+/// The callbacks in DONE are done, those in WAIT and those in NEXT_READY wait for a number each,
+/// and those in NEXT have no number yet. NEXT_READY has items only if WAIT has, and then WAIT's
+/// number is the lower one. A marker belongs to the segment of the callback before it.
 #[derive(Drop)]
 pub(crate) struct Segments<T: Drop> {
     /// The items.
     pub(crate) items: VecDeque<Entry<T>>,
-    /// Where DONE ends.
+    /// The end of DONE.
     pub(crate) done: Tail,
-    /// Where WAIT ends.
+    /// The end of WAIT.
     pub(crate) wait: Tail,
-    /// Where NEXT_READY ends.
+    /// The end of NEXT_READY.
     pub(crate) ready: Tail,
-    /// How many callbacks there are.
+    /// The number of callbacks.
     pub(crate) calls: u64,
-    /// WAIT's number; it means nothing where WAIT is empty.
+    /// WAIT's number, meaningless if WAIT is empty.
     pub(crate) wait_number: u64,
-    /// NEXT_READY's number; it means nothing where NEXT_READY is empty.
+    /// NEXT_READY's number, meaningless if NEXT_READY is empty.
     pub(crate) ready_number: u64,
     ghost cut: { AreTails items.items done wait ready calls wait_number ready_number },
 }
@@ -48,7 +48,7 @@ pub(crate) struct Segments<T: Drop> {
 impl<T: Drop> Segments<T> {
     ghost use Rattle.rcu_cblist.specs.Segments.{listed, seen};
 
-    /// No item.
+    /// Returns segments without items.
     pub(crate) fn new(alloc: Global) -> Segments<T>
         ensures items { seen result ≡ [] }
     {
@@ -63,7 +63,7 @@ impl<T: Drop> Segments<T> {
         }
     }
 
-    /// Whether WAIT has items, and a number at most this one.
+    /// Returns whether WAIT has items, and a number at most this one.
     fn wait_is_reached(&self, number: u64) -> bool
         ensures { result ≡ (nat_lt self.now.done.items self.now.wait.items
             && nat_le self.now.wait_number number) }
@@ -71,7 +71,7 @@ impl<T: Drop> Segments<T> {
         self.done.items < self.wait.items && self.wait_number <= number
     }
 
-    /// Whether NEXT_READY has items, and a number at most this one.
+    /// Returns whether NEXT_READY has items, and a number at most this one.
     fn ready_is_reached(&self, number: u64) -> bool
         ensures { result ≡ (nat_lt self.now.wait.items self.now.ready.items
             && nat_le self.now.ready_number number) }
@@ -79,7 +79,7 @@ impl<T: Drop> Segments<T> {
         self.wait.items < self.ready.items && self.ready_number <= number
     }
 
-    /// Whether WAIT has items, and a number below this one.
+    /// Returns whether WAIT has items, and a number below this one.
     fn wait_is_below(&self, snap: u64) -> bool
         ensures { result ≡ (nat_lt self.now.done.items self.now.wait.items
             && nat_lt self.now.wait_number snap) }
@@ -87,7 +87,7 @@ impl<T: Drop> Segments<T> {
         self.done.items < self.wait.items && self.wait_number < snap
     }
 
-    /// Whether NEXT_READY has items, and a number below this one.
+    /// Returns whether NEXT_READY has items, and a number below this one.
     fn ready_is_below(&self, snap: u64) -> bool
         ensures { result ≡ (nat_lt self.now.wait.items self.now.ready.items
             && nat_lt self.now.ready_number snap) }
@@ -118,8 +118,8 @@ impl<T: Drop> Segments<T> {
         self.ready.pass_marker(end);
     }
 
-    /// Each front segment of WAIT and NEXT_READY whose number is at most this one joins DONE, and
-    /// the other one moves forward.
+    /// Moves WAIT into DONE if its number is at most this one, and then NEXT_READY likewise. A
+    /// segment that stays moves forward.
     pub(crate) fn advance(&mut self, number: u64)
         ensures { listed self.new ≡ on_items (λ xs. after_advance xs number) (listed self.old) }
     {
@@ -136,8 +136,8 @@ impl<T: Drop> Segments<T> {
         }
     }
 
-    /// Gives a number to what is in NEXT: it joins NEXT_READY, or WAIT where that changes no
-    /// number. Nothing changes where NEXT_READY has items and a number below this one.
+    /// Gives a number to the items in NEXT: they join NEXT_READY, or WAIT if that changes no
+    /// number. Changes nothing if NEXT_READY has items and a number below this one.
     pub(crate) fn accelerate(&mut self, snap: u64)
         requires { IsAtMost snap (seen self.old) }
         ensures { listed self.new ≡ on_items (λ xs. after_accelerate xs snap) (listed self.old) }
@@ -159,8 +159,8 @@ impl<T: Drop> Segments<T> {
         }
     }
 
-    /// Takes the first callbacks of DONE, so many, and each marker before the first callback that
-    /// is left. Returns how many markers.
+    /// Takes the first `most` callbacks of DONE, and each marker before the first callback that is
+    /// left. Returns how many markers it took.
     pub(crate) fn take(&mut self, calls: &mut Vec<Queued<T>>, most: u64) -> u64
         requires room { vec_len calls.old + most ≤ vec_capacity calls.old }
         requires done { most ≤ self.old.done.calls }
@@ -180,7 +180,7 @@ impl<T: Drop> Segments<T> {
         markers
     }
 
-    /// Loses the numbers of what waits: all behind DONE becomes NEXT.
+    /// Drops the numbers of waiting callbacks: all items behind DONE move to NEXT.
     pub(crate) fn lose_numbers(&mut self)
         ensures items { self.new.items ≡ self.old.items }
         ensures next { self.new.ready ≡ self.old.done }
@@ -191,8 +191,8 @@ impl<T: Drop> Segments<T> {
         self.ready = self.done;
     }
 
-    /// Moves all to a target: DONE goes in front of the target's DONE, and the rest without its
-    /// numbers to the end of its NEXT. Where that is wanted, a marker stands behind what moves.
+    /// Moves all items to a target: DONE goes in front of the target's DONE, and the rest, without
+    /// numbers, to the end of its NEXT. If `marked`, a marker goes behind the items that move.
     pub(crate) fn carry_into(&mut self, target: &mut Segments<T>, marked: bool)
         requires some { marked ≡ true → is_empty (seen self.old) ≡ false }
         requires room { deque_len target.old.items + deque_len self.old.items
@@ -203,7 +203,7 @@ impl<T: Drop> Segments<T> {
         ensures room { (listed target.old).room ≤ (listed target.new).room }
     {
         self.lose_numbers();
-        // With no numbers WAIT and NEXT_READY are empty: `ready` stands where DONE ends.
+        // Without numbers WAIT and NEXT_READY are empty: `ready` is the end of DONE.
         let Tail { items, calls } = self.ready;
         let front = Tail {
             items: join_marked(&mut target.items, &mut self.items, items, marked),
@@ -219,7 +219,8 @@ impl<T: Drop> Segments<T> {
         self.calls = 0;
     }
 
-    /// The greatest number that a segment with items waits for, none where none does.
+    /// Returns the greatest number that a segment with items waits for, none if there is no such
+    /// segment.
     pub(crate) fn greatest_waiting(&self) -> Option<u64>
         ensures { result ≡ greatest (numbers (seen self.now)) }
     {
@@ -232,7 +233,7 @@ impl<T: Drop> Segments<T> {
         }
     }
 
-    /// How many items each segment has.
+    /// Returns how many items each segment has.
     pub(crate) fn lengths(&self) -> [u64; 4]
         ensures { result ≡ segments (seen self.now) }
     {

@@ -2,10 +2,10 @@
 ghost use Rattle.std.specs.Prelude.{◌≡◌, ◌+◌, ◌<◌, ◌^◌};
 ghost use Rattle.rcu_cblist.specs.Cuts.{IsBefore, fallen, past_marker, risen};
 
-/// Where a segment ends: what is before it in its list.
+/// The end of a segment, as the counts of items and callbacks before it in its list.
 #[derive(Clone, Copy, Debug)]
 pub(crate) struct Tail {
-    /// How many items, markers too.
+    /// How many items, with markers.
     pub(crate) items: usize,
     /// How many callbacks.
     pub(crate) calls: u64,
@@ -15,7 +15,7 @@ impl Tail {
     /// The start of a list.
     pub(crate) const START: Tail = Tail { items: 0, calls: 0 };
 
-    /// So much more is before it.
+    /// Moves the place behind `by` more.
     pub(crate) fn rise(&mut self, by: Tail)
         requires items { self.old.items + by.items < 2 ^ 64 }
         requires calls { self.old.calls + by.calls < 2 ^ 64 }
@@ -25,7 +25,7 @@ impl Tail {
         self.calls += by.calls;
     }
 
-    /// So much less is before it.
+    /// Moves the place forward: `by` less is before it.
     pub(crate) fn fall(&mut self, by: Tail)
         requires { IsBefore by self.old }
         ensures { self.new ≡ fallen self.old by }
@@ -34,8 +34,8 @@ impl Tail {
         self.calls -= by.calls;
     }
 
-    /// A marker was put at the end of a list that had so many items: it is before this place where
-    /// the place stood there.
+    /// Adjusts the place after a marker was put at the end of a list of `end` items: if the place
+    /// was that end, it is now behind the marker.
     pub(crate) fn pass_marker(&mut self, end: usize)
         requires { end < 2 ^ 63 }
         ensures { self.new ≡ past_marker self.old end }

@@ -10,8 +10,8 @@ ghost use Rattle.rcu_cblist.specs.Walks.{HasNow, IsEmptied, IsLeft};
 use crate::items::{Entry, Queued};
 use std::collections::VecDeque;
 
-/// Takes the first callbacks, so many, and each marker before the first callback that is left.
-/// Returns how many markers.
+/// Takes the first callbacks, of this number, and each marker before the first callback that is
+/// left. Returns how many markers it took.
 #[tactic(auto, using(crate::proofs::Lists::map_split, crate::proofs::Lists::gone_more))]
 pub(crate) fn take_first<T: Drop>(
     items: &mut VecDeque<Entry<T>>,
@@ -45,8 +45,8 @@ pub(crate) fn take_first<T: Drop>(
     }
 }
 
-/// Puts the first items before a target's, and the rest behind them. Where that is wanted, a marker
-/// stands behind the last of them. Returns how many went in front.
+/// Puts the first items before a target's, and the rest behind them. If `marked`, a marker goes
+/// behind the last of them. Returns how many items went in front.
 pub(crate) fn join_marked<T: Drop>(
     target: &mut VecDeque<Entry<T>>,
     items: &mut VecDeque<Entry<T>>,

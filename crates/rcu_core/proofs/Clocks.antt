@@ -29,9 +29,9 @@ clock h = number_at (count_by ends h) (running h)
 pub renumber_counts : (h : History) → epoch (Renumber ∷ h) ≡ 1 + epoch h
 renumber_counts h = sum_by-cons (λ e. cond (renumbers e) 1 0) Renumber h
 
--- the clock counts on what the number counts in its epoch, since each epoch that has passed had as
--- many grace periods as the last number says; and the number is at most that. Where the last number
--- is none, all is in the first epoch
+-- the clock continues the count of the number in its epoch, since each passed epoch had as many
+-- grace periods as the last number says; and the number is at most that. If there is no last
+-- number, all is in the first epoch
 pub record InEpoch (s : Size) (h : History) : Type 0 where
   pub ticks : clock h ≡ clock_of s.last (tag_now h)
   pub within : is_last s.last ≡ true → number h ≤ s.last
@@ -120,7 +120,7 @@ told_done : (last : ℕ) (t n : Tag) → is_last last ≡ true → t.number ≤ 
 told_done last t n l le m d =
     let told = sym (done_by_clock last t n l le m) ∙ d in grind (arith, nat_tests, told)
 
--- a cookie tests done where the clock has reached the snapshot of that at its taking
+-- a cookie tests done if the clock has reached the snapshot of the clock when it was taken
 pub done_ticks : (s : Size) (g h : History) → AreAccepted s g → AreAccepted s h
     → is_done_at s.last (cookie_at (tag_now g)) (tag_now h) ≡ true → snapshot (clock g) ≤ clock h
 done_ticks s g h p q d =
@@ -130,7 +130,7 @@ done_ticks s g h p q d =
       | inr l ↦ first_done s.last (tag_now g) (tag_now h) (i.alone l) (j.alone l) d
     ])
 
--- a tag is before that of a running grace period where the clock was lower
+-- a tag is before that of a running grace period if the clock was lower
 pub before_ticks : (s : Size) (g h : History) → AreAccepted s g → AreAccepted s h → running h ≡ true
     → is_before (tag_now g) (tag_now h) ≡ nat_lt (clock g) (clock h)
 before_ticks s g h p q r =

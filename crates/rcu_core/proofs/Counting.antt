@@ -35,7 +35,7 @@ at_most_none : (b : Bool) (n : ℕ) → cond b 1 0 ≤ n → n ≡ 0 → b ≡ f
 at_most_none true n le e = absurd (omega arith)
 at_most_none false n le e = refl
 
--- where no processor passes a test, each of them fails it
+-- if no processor passes a test, each of them fails it
 pub none_passes : (n : ℕ) (p : ℕ → Bool) → count_by p (range_with_len 0 n) ≡ 0 → (c : ℕ) → c < n
     → p c ≡ false
 none_passes n p e c lt =

@@ -1,5 +1,5 @@
--- While a barrier runs, each callback from before its begin has a marker behind it where its list
--- was visited.
+-- While a barrier runs, each callback from before its begin has a marker behind it if its list was
+-- visited.
 use Rattle.std.proofs.Common.{◌≡◌, ℕ, zero, suc, ◌+◌, ◌<◌, ◌≤◌, Bool, true, false, not, ◌&&◌, ◌||◌}
 use Rattle.std.proofs.Common.{List, [], ◌∷◌, ◌++◌, length, None, Some, refl, ◌∙◌, arith, cond, eqb}
 use Rattle.std.proofs.Common.{get_or, inl, inr}
@@ -117,7 +117,7 @@ sum_zero (suc n) f h =
     let b = sum_zero n f (λ c l. h c (omega arith)) in
     omega (arith, a, b)
 
--- where a sum over the processors is 0, each part is
+-- if a sum over the processors is 0, each part is
 zero_each : (n : ℕ) (f : ℕ → ℕ) → sum_by f (range_with_len 0 n) ≡ 0 → (c : ℕ) → c < n → f c ≡ 0
 zero_each n f e c l =
     let here : c < length (range_with_len 0 n) = omega (arith, length-range_with_len 0 n) in
@@ -127,8 +127,8 @@ zero_each n f e c l =
     let m : f c ≤ sum_by f (range_with_len 0 n) = rw at at le in
     omega (arith, m, e)
 
--- where the test of a running barrier finds nothing, every callback from before its begin was
--- handed out
+-- if the test of a running barrier finds nothing, every callback from before its begin was handed
+-- out
 covered_once : (s : Size) (h : History) (j : ℕ) → AreAccepted s h → barrier_runs h ≡ true
     → waits_for s (situation h) ≡ 0 → 0 < j → j ≤ queued_before_barrier h → times_handed_out j h ≡ 1
 covered_once s h j p r u z b =

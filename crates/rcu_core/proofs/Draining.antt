@@ -68,7 +68,7 @@ kept_by_tends see kept n h = kept_by_each see (λ c. Tend c) kept n h
 abbrev tends_to : ℕ → List Event
 tends_to n = events_of_each (λ c. Tend c) n
 
--- and then all that is done is handed out, one processor after another
+-- and then all done callbacks are handed out, one processor after another
 abbrev ready_of : ℕ → History → ℕ
 ready_of c h = length (callbacks (front (list c h)))
 
@@ -136,7 +136,7 @@ drained_accepted s (suc n) h l p =
       ((tend_accepts s g n k).accepted, drained_accepted s n h (omega (arith, l)) p),
     )
 
--- where they stand
+-- where they are
 tended_on : (n : ℕ) (h : History) → Behind drains h (tended n h)
 tended_on zero h = record { later = []; is = refl; each = refl }
 tended_on (suc n) h = let o = tended_on n h in record {
@@ -190,7 +190,7 @@ drained_from c (suc n) h l = elim (eq-or-lt_of_le {n = c} {m = n} (omega (arith,
       }
 ]
 
--- what they leave as it was
+-- the parts that they leave as they were
 drained_clock : (n : ℕ) (h : History) → clock (drained n h) ≡ clock h
 drained_clock zero h = refl
 drained_clock (suc n) h = drained_clock n h
@@ -213,7 +213,7 @@ times_later j [] h = omega arith
 times_later j (Run c m ∷ later) h = let i = times_later j later h in omega (arith, i)
 times_later j (e ∷ later) h = times_later j later h
 
--- a callback of this list is handed out, where after the tend a full grace period passed, and no
+-- a callback of this list is handed out, if after the tend a full grace period passed, and no
 -- processor departed and no renumbering came
 handed_out_there : (s : Size) (c j : ℕ) (later earlier y : History)
     → y ≡ later ++ Tend c ∷ earlier

@@ -69,8 +69,7 @@ awaited_is_online s c [] p i = absurd (cc)
 awaited_is_online s c (e ∷ h) p i =
     online_step s c e h p.0 (turns s h p.1) (awaited_is_online s c h p.1) i
 
--- an event that no cause speaks against, that stores nothing and that stands in the history as
--- itself
+-- an event of which no cause holds, that stores nothing and that the history records as itself
 pub record Surely (s : Size) (h : History) (e : Event) : Type 0 where
   pub accepted : fault_in s (situation h) e ≡ None
   pub stores : stores s (situation h) e ≡ false
@@ -90,7 +89,7 @@ leads_on s h e events g u t = λ r l.
       subst (λ x. SurelyLeads s x events g) (sym (ap (λ r. with_event h e r) i ∙ u.stands)) t,
     )
 
--- each of the numbers is 0 where their sum is; and one is not where it is not
+-- each of the numbers is 0 if their sum is; and one is not if the sum is not
 pub each_zero : (n : ℕ) (f : ℕ → ℕ) → sum_below n f ≡ 0 → (c : ℕ) → c < n → f c ≡ 0
 each_zero zero f e c l = absurd (omega (arith, l))
 each_zero (suc n) f e c l = elim (eq-or-lt_of_le {n = c} {m = n} (omega (arith, l))) [
@@ -106,7 +105,7 @@ some_left (suc n) m f e = elim (cases_lt 0 (f n)) [
       (o.0, (let k = o.1.0 in omega (arith, k), o.1.1))
 ]
 
--- where nobody is awaited, the end is accepted
+-- if no processor is awaited, the end is accepted
 nobody : (s : Size) (h : History) → ((c : ℕ) → c < s.cpus → awaits c h ≡ false)
     → how_many s (λ c. awaits c h) ≡ 0
 nobody s h a =
@@ -134,8 +133,8 @@ has_ended s h p r = let t = turns s h p in let b = t.begins_le in let n = end_co
   epoch = refl;
 }
 
--- a step towards the end: an event of which what is left of one processor is one less, and of each
--- other the same
+-- a step towards the end: an event after which one processor has one step less, and each other one
+-- the same
 record Step (s : Size) (left : History → ℕ → ℕ) (kind : Event → Bool) (h : History) (c : ℕ)
     : Type 0 where
   pub event : Event
@@ -150,7 +149,7 @@ record Step (s : Size) (left : History → ℕ → ℕ) (kind : Event → Bool) 
 both : (a b : Bool) → a ≡ true → b ≡ true → (a && b) ≡ true
 both a b i j = rw (i, j) refl
 
--- a step, and then so many events
+-- a step, and then this number of events
 step_on : (s : Size) (left : History → ℕ → ℕ) (kind : Event → Bool) (h : History) (c n : ℕ)
     → (step : Step s left kind h c) → EndsBy kind s (step.event ∷ h) n → EndsBy kind s h (suc n)
 step_on s left kind h c n step rest = record {
@@ -374,7 +373,7 @@ run_can_end s run l r =
     as_many retires s h (suc (sum_below s.cpus (steps_of h))) (steps_left s h)
     (left_are s.cpus (steps_of h)) (can_end s h (possible s run l) r)
 
--- what is left of a processor whose report is collected
+-- the remaining steps of a processor whose report is collected
 abbrev left_of : History → ℕ → ℕ
 left_of h c = cond (awaits c h) 1 0
 
@@ -476,7 +475,7 @@ quiet_can_end s run l r q =
     (λ h c p r q l m. quiet_next s h c p q l m) (sum_below s.cpus (left_of h)) h (possible s run l)
     r q refl)
 
--- where each processor that it began with was heard, the end is accepted
+-- if each processor of the start set was heard, the end is accepted
 unawaited : (s : Size) (c : ℕ) (h : History) → AreAccepted s h → c < s.cpus
     → (starts c h ≡ true → ToldSince c (tag h) h) → awaits c h ≡ false
 unawaited s c h p l t =

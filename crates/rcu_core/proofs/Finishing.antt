@@ -1,4 +1,4 @@
--- A cookie is done exactly where a full grace period has passed, so after two ends.
+-- A cookie is done exactly if a full grace period has passed, so after two ends.
 use Rattle.std.proofs.Common.{◌≡◌, ◌≢◌, ℕ, ◌+◌, ◌*◌, ◌<◌, ◌≤◌, Bool, true, false, nat_le, List, []}
 use Rattle.std.proofs.Common.{◌∷◌, ◌++◌, None, refl, sym, ap, ◌∙◌, subst, arith, cond, inl, inr}
 use Rattle.std.proofs.Common.{◌⊎◌}
@@ -28,7 +28,7 @@ use Rattle.rcu_core.proofs.Ending.{Surely, can_end, leads_on}
 use Rattle.rcu_core.proofs.Kept.{Turns, begin_counts, end_counts, turns}
 use Rattle.rcu_core.proofs.Readers.{after_legal, cookie_is, legal_before, possible}
 
--- where the clock stands, by whether a grace period began and whether a full one passed since
+-- the value of the clock, by whether a grace period began and whether a full one passed since
 pub record Passed (h : History) (later : History) : Type 0 where
   pub rises : clock h ≤ clock (later ++ h)
   pub begun : list_any begins later ≡ true → snapshot (clock h) ≤ clock (later ++ h) + 3
@@ -102,7 +102,7 @@ first_reached last t n e f =
     let b : n.epoch * last ≡ 0 = ap (λ k. k * last) f ∙ omega arith in
     grind (arith, nat_tests, e, f, a, b)
 
--- a cookie tests done exactly where the clock has reached the snapshot of that at its taking
+-- a cookie tests done exactly if the clock has reached the snapshot of the clock when it was taken
 pub done_by_ticks : (s : Size) (g h : History) → AreAccepted s g → AreAccepted s h
     → is_done_at s.last (cookie_at (tag_now g)) (tag_now h) ≡ nat_le (snapshot (clock g)) (clock h)
 done_by_ticks s g h p q =
@@ -178,7 +178,7 @@ leads_both s h g k [] ys t u = subst (λ x. SurelyLeads s x ys k) t u
 leads_both s h g k (e ∷ xs) ys t u = λ r l.
     (let at = t r l in (at.0, leads_both s (with_event h e r) g k xs ys at.1 u))
 
--- what they lead to has accepted events alone
+-- the history that they lead to has accepted events alone
 pub leads_accepted : (s : Size) (h g : History) (events : List Event) → AreAccepted s h
     → SurelyLeads s h events g → AreAccepted s g
 leads_accepted s h g [] p t = subst (λ x. AreAccepted s x) (sym t) p
@@ -266,7 +266,7 @@ pub not_last : (s : Size) (h : History) → running h ≡ false → is_last s.la
     → number (Renumber ∷ h) ≡ s.last → ⊥
 not_last s h r l n = grind (arith, nat_tests)
 
--- a full grace period can pass: unless the number is the last one, or where a next epoch is
+-- a full grace period can pass: unless the number is the last one, or if there is a next epoch
 pub full_from_idle : (s : Size) (h : History) → AreAccepted s h → running h ≡ false
     → is_last s.last ≡ true → (number h ≡ s.last → epoch h < last_epoch)
     → Reaches s h (clock h + 4)

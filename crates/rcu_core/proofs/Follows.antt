@@ -48,7 +48,7 @@ use Rattle.rcu_core.proofs.Sound.{first_cpus, first_at, no_item, boot_alone, len
 use Rattle.rcu_core.proofs.Steps.{waits_said}
 use Rattle.rcu_core.proofs.Writes.{eqb_self, one_written}
 
--- where it waits for something, a test of the barrier changes nothing
+-- if it waits for something, a test of the barrier changes nothing
 left_tested : (v : State ℕ) (b : Bool) (n : ℕ) →
     after_reply v BarTest (cond b reply.BarDone (reply.BarWaits n)) ≡ after_event v BarTest
 left_tested v true n = refl
@@ -102,7 +102,7 @@ shallower c h =
     ∙ ap (λ b. cond b 1 0 + exit_count c h) (eqb_self c) in
     omega (arith, n)
 
--- with its sections nested so deep
+-- with its sections nested this deep
 abbrev so_deep : ℕ → History → ℕ → Processor
 so_deep c h n = record {
   cpu = c;
@@ -468,7 +468,7 @@ ran_on v w u h es rs e r a k = let b = k a.reached a.has in record {
   size = b.size ∙ a.size;
 }
 
--- the same, over what was read so far of a list of events
+-- the same, over the events read so far of a list
 pub ran_more : (v w u : State ℕ) (h : History) (es : List Event) (i : ℕ) (d : Event)
     (rs qs : List Reply) (r : Reply)
     → i < length es

@@ -1,4 +1,4 @@
--- What a call leaves of the lists and the barrier is as its event says.
+-- The lists and the barrier after a call are as its event defines them.
 use Rattle.std.proofs.Common.{◌≡◌, ℕ, zero, suc, map, ◌+◌, ◌<◌, Bool, true, false, not, cond, ◌&&◌}
 use Rattle.std.proofs.Common.{◌||◌, List, [], ◌∷◌, length, refl, sym, ap, ap₂, ◌∙◌, arith, eqb}
 use Rattle.std.proofs.Common.{get_or, slice_set}
@@ -22,7 +22,7 @@ use Rattle.rcu_core.specs.declared.event.Event.TheVariants.{Visit, BarTest, Renu
 use Rattle.rcu_core.proofs.Kept.{queue_counts}
 use Rattle.rcu_core.proofs.Writes.{eqb_self, marked, one_written}
 
--- the lists and the barrier are as a history says
+-- the lists and the barrier are as a history defines them
 abbrev pub Hold : AllLists ℕ → History → Type 0
 Hold all h = RepresentsCalls all (calls_in h)
 
@@ -74,7 +74,7 @@ calls_begun all h x = record {
   owed = λ k. ap (λ b. not b) (in_none (length all.lists) k);
 }
 
--- by a visit a processor is owed none, and the others as before
+-- after a visit the processor is owed none, and the others as before
 owed_after : (r b e p q : Bool) → r ≡ b → (r && not p) ≡ (b && not q)
     → (r && not (e || p)) ≡ (b && not (e || q))
 owed_after r b true p q runs owed = ap (λ a. a && false) runs
@@ -84,7 +84,7 @@ no_barrier : (r b e p q : Bool) → r ≡ false → r ≡ b → (r && not p) ≡
 no_barrier r b e p q off runs =
     ap (λ a. a && not p) off ∙ sym (ap (λ a. a && not (e || q)) (sym runs ∙ off))
 
--- who is owed a visit once the processor was visited
+-- the processors owed a visit once this one was visited
 visit_owed : (all : AllLists ℕ) (h : History) (c k : ℕ) (seen : Bool)
     → Hold all h
     → c < length all.visited
@@ -192,7 +192,7 @@ get_renumbered [] k = refl
 get_renumbered (xs ∷ lists) zero = refl
 get_renumbered (xs ∷ lists) (suc k) = get_renumbered lists k
 
--- the numbers start anew
+-- a renumbering
 pub calls_renumbered : (all : AllLists ℕ) (h : History) → Hold all h
     → Hold (lists_after_renumber all) (Renumber ∷ h)
 calls_renumbered all h x = record {

@@ -38,7 +38,7 @@ and_yes : (b : Bool) → b ≡ (b && true)
 and_yes true = refl
 and_yes false = refl
 
--- what is awaited after a report
+-- the awaited set after a report
 reported_awaited : (a b : Bool) (set : List Bool) (cpu c : ℕ)
     → is_in (cond a (cond b (slice_set set cpu false) set) set) c
     ≡ (is_in set c && not (a && (b && eqb cpu c)))
@@ -53,7 +53,7 @@ hears true o true false = refl
 hears true o false true = refl
 hears true o false false = refl
 
--- what is awaited after a delivery
+-- the awaited set after a delivery
 pub heard_of : (g : Grace ℕ) (h : History) (o : Option Report) → g.seq.running ≡ running h
     → tag_of g.seq ≡ tag_now h → ((c : ℕ) → is_in g.processors.awaited c ≡ awaits c h)
     → (c : ℕ) → is_in (awaited_by g o) c ≡ (awaits c h && not (is_of c (tag_now h) o))
@@ -79,7 +79,7 @@ unless_heard true false a b = refl
 unless_heard true true true b = sym (and_right (not b) false refl)
 unless_heard true true false b = and_yes (not b)
 
--- who is awaited after a delivery, after a departure
+-- the awaited processors after a delivery, and after a departure
 pub awaits_delivered : (v : State ℕ) (h : History) (k : ℕ) → Represents v h →
     (c : ℕ) → is_in (awaited_by v.grace (report_at k v.made)) c ≡ awaits c (Deliver k ∷ h)
 awaits_delivered v h k x c =

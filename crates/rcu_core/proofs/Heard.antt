@@ -1,4 +1,5 @@
--- Whom the latest grace period awaits, whether it runs or has ended, and how a processor is heard.
+-- The processors that the latest grace period awaits, whether it runs or has ended, and how a
+-- processor is heard.
 use Rattle.std.proofs.Common.{◌≡◌, ℕ, ◌<◌, Bool, true, false, not, ◌&&◌, ◌||◌, [], ◌∷◌, ◌++◌, None}
 use Rattle.std.proofs.Common.{refl, sym, ap, ◌∙◌, subst, arith}
 use Rattle.std.specs.List.{list_any}
@@ -36,14 +37,14 @@ runs_at_tag : (s : Size) (h : History) → AreAccepted s h → running h ≡ tru
 runs_at_tag s [] p r = absurd (cc)
 runs_at_tag s (e ∷ h) p r = runs_step s e h p.0 (turns s h p.1) (runs_at_tag s h p.1) r
 
--- what a processor that is not awaited while its grace period runs, and that it began with, says
+-- a processor of the start set that is not awaited while its grace period runs was heard
 heard_there : (r o b : Bool) → r ≡ true → o ≡ true → (r && (o && not b)) ≡ false → b ≡ true
 heard_there true true true r o e = refl
 heard_there true true false r o e = absurd (cc)
 heard_there true false b r o e = absurd (cc)
 heard_there false o b r e f = absurd (cc)
 
--- a grace period ends where each processor that it began with was heard
+-- a grace period ends if each processor of the start set was heard
 end_heard : (s : Size) (c : ℕ) (h : History) → fault_in s (situation h) End ≡ None → c < s.cpus
     → (running h ≡ true → Runs h) → starts c h ≡ true → is_heard c (tag h) h ≡ true
 end_heard s c h p l k i =
@@ -68,7 +69,7 @@ ended_step s c Begin h p l t k g r i =
 ended_step s c End h p l t k g r i = end_heard s c h p l k i
 ended_step s c e h p l t k g r i = or_right (hears c (tag h) e h) (is_heard c (tag h) h) (g r i)
 
--- once it ended, each processor that it began with was heard
+-- once it ended, each processor of the start set was heard
 ended_heard : (s : Size) (c : ℕ) (h : History)
     → AreAccepted s h → c < s.cpus → running h ≡ false → starts c h ≡ true
     → is_heard c (tag h) h ≡ true
@@ -99,8 +100,8 @@ awaited_by s c h false p l r =
     once_ended (running h) (online c (latest begins h) && not (is_heard c (tag_now h) h))
     (starts c h) (is_heard c (tag h) h) r (ended_heard s c h p l r)
 
--- who is awaited, whether a grace period runs or has ended: those that it began with and that were
--- not heard
+-- the awaited processors, whether a grace period runs or has ended: those of the start set that
+-- were not heard
 pub awaited_are : (s : Size) (c : ℕ) (h : History) → AreAccepted s h → c < s.cpus
     → awaits c h ≡ (starts c h && not (is_heard c (tag h) h))
 awaited_are s c h p l = awaited_by s c h (running h) p l refl
@@ -147,7 +148,7 @@ told_after c t e h false false i j k g = let o = g k in record {
   tells = o.tells;
 }
 
--- a processor that is heard was told of since the latest begin
+-- a processor that is heard has such an event since the latest begin
 pub heard_is_told : (c : ℕ) (t : Tag) (h : History) → is_heard c t h ≡ true → ToldSince c t h
 heard_is_told c t [] i = absurd (cc)
 heard_is_told c t (e ∷ h) i =
@@ -173,7 +174,7 @@ told_in c t (x ∷ later) e earlier n i j =
     told_later (begins x) (hears c t x (later ++ e ∷ earlier)) (is_heard c t (later ++ e ∷ earlier))
     q.0 (told_in c t later e earlier q.1 i j)
 
--- and one that was told of is heard
+-- and one that has such an event is heard
 pub told_is_heard : (c : ℕ) (t : Tag) (h : History) → ToldSince c t h → is_heard c t h ≡ true
 told_is_heard c t h o =
     subst (λ x. is_heard c t x ≡ true) (sym o.is)

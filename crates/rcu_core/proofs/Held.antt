@@ -1,4 +1,4 @@
--- What an open section holds was loaded while the version was current.
+-- An open section loaded the version that it holds while that was current.
 use Rattle.std.proofs.Common.{◌≡◌, ◌≢◌, ℕ, true, false, [], ◌∷◌, ◌++◌, Option, Some, ◌⊎◌, inl, inr}
 use Rattle.std.proofs.Common.{⊎_elim, refl, sym, ap, ◌∙◌, subst, arith}
 use Rattle.std.specs.Prelude.{◌==◌, ◌&&◌, nat_lt}
@@ -54,7 +54,7 @@ section_kept cpu e r h o p = ⊎_elim
     ∙ sym (section_is cpu h o))
     (with_event_is h e r)
 
--- who holds a version has an open section
+-- a processor that holds a version has an open section
 pub open_of_held : (cpu v : ℕ) (s : Story) → holds_version cpu v s ≡ true → is_open cpu s ≡ true
 open_of_held cpu v [] h = absurd (cc)
 open_of_held cpu v (Replied e r ∷ s) h = (and_parts _ _ h).0
@@ -69,7 +69,7 @@ pub record Back (cpu v : ℕ) (now : Option History) (t : Story) : Type 0 where
   pub held : holds_version cpu v t ≡ true
   pub same : now ≡ section cpu (history (run_of t))
 
--- what is held now of a version that was not current since was held then, by the same section
+-- if a version was not current since, a section that holds it now held it then
 pub held_back : (cpu v : ℕ) (s t : Story)
     → publishes v s ≡ false → current t ≢ v → holds_version cpu v (s ++ t) ≡ true
     → Back cpu v (section cpu (history (run_of (s ++ t)))) t

@@ -20,7 +20,8 @@ use Rattle.rcu_core.proofs.Finishing.{not_last, renumbers_now, room_after, room_
 use Rattle.rcu_core.proofs.Retiring.{none_of, retired}
 use Rattle.rcu_core.proofs.Retiring.{retires_no_test}
 
--- some events, none of which is refused, end what runs, and start the numbers anew at the last one
+-- some events, none of which is refused, end the running grace period, and renumber if the number
+-- is the last
 pub record Idles (s : Size) (h : History) : Type 0 where
   pub events : List Event
   pub reached : History

@@ -1,4 +1,4 @@
--- What holds after every history of accepted events.
+-- Facts that hold after every history of accepted events.
 use Rattle.std.proofs.Common.{◌≡◌, ℕ, ◌+◌, ◌<◌, ◌≤◌, Bool, true, false, cond, eqb, [], ◌∷◌, None}
 use Rattle.std.proofs.Common.{subst, arith}
 use Rattle.std.proofs.lemmas.Bool.Decides.{nat_tests}
@@ -14,12 +14,12 @@ use Rattle.rcu_core.specs.declared.event.Event.TheVariants.{Enter, Exit, Quiesce
 use Rattle.rcu_core.specs.declared.event.Event.TheVariants.{End, Queue, Idle, Scan}
 use Rattle.rcu_core.proofs.Counting.{none_passes}
 
--- one event more, counted where it passes the test
+-- one event more, counted if it passes the test
 counted : (test : Event → Bool) (e : Event) (h : History)
     → count_by test (e ∷ h) ≡ cond (test e) 1 0 + count_by test h
 counted test e h = sum_by-cons (λ e. cond (test e) 1 0) e h
 
--- a begin, an end, an enter, an exit and a queueing are counted
+-- a begin, an end, an enter, an exit and a queue event are counted
 pub begin_counts : (h : History) → count_by begins (Begin ∷ h) ≡ 1 + count_by begins h
 begin_counts h = counted begins Begin h
 
@@ -54,17 +54,17 @@ pub turns : (s : Size) (h : History) → AreAccepted s h → Turns h
 turns s [] p = record { ends_le = omega arith; begins_le = omega arith }
 turns s (e ∷ h) p = turns_step s e h p.0 (turns s h p.1)
 
--- where a grace period may end, nobody is awaited
+-- if a grace period may end, no processor is awaited
 pub none_awaited : (s : Size) (h : History)
     → fault_in s (situation h) End ≡ None → (c : ℕ) → c < s.cpus → awaits c h ≡ false
 none_awaited s h p c l = none_passes s.cpus (λ d. awaits d h) (grind (arith, nat_tests)) c l
 
--- a section is open where one is left
+-- a section is open if an exit is accepted
 is_inside : (s : Size) (c d : ℕ) (h : History) → fault_in s (situation h) (Exit d) ≡ None → d ≡ c
     → 0 < depth c h
 is_inside s c d h p e = subst (λ k. 0 < depth k h) e (grind (arith, nat_tests))
 
--- none is open where a report is made, or where the processor departs
+-- none is open when a report is made, or when the processor departs
 pub quiet_where_reported : (s : Size) (c d : ℕ) (h : History)
     → fault_in s (situation h) (Quiesce d) ≡ None → d ≡ c → depth c h ≡ 0
 quiet_where_reported s c d h p e = subst (λ k. depth k h ≡ 0) e (grind (arith, nat_tests))
@@ -73,7 +73,7 @@ pub quiet_where_departed : (s : Size) (c d : ℕ) (h : History)
     → fault_in s (situation h) (Offline d) ≡ None → d ≡ c → depth c h ≡ 0
 quiet_where_departed s c d h p e = subst (λ k. depth k h ≡ 0) e (grind (arith, nat_tests))
 
--- none is open where the processor goes idle, and a scan finds it idle
+-- none is open when the processor goes idle, or when a scan finds it idle
 pub quiet_where_idle : (s : Size) (c d : ℕ) (h : History)
     → fault_in s (situation h) (Idle d) ≡ None → d ≡ c → depth c h ≡ 0
 quiet_where_idle s c d h p e = subst (λ k. depth k h ≡ 0) e (grind (arith, nat_tests))

@@ -1,4 +1,4 @@
--- After the answer that a report was the last one, nobody is awaited.
+-- After the answer that a report was the last one, no processor is awaited.
 use Rattle.std.proofs.Common.{◌≡◌, ◌≢◌, ℕ, ◌<◌, Bool, true, false, not, ◌&&◌, []}
 use Rattle.std.proofs.Common.{◌∷◌, Option, Some, None, slice_get, refl, sym, ap, ◌∙◌, subst, arith}
 use Rattle.std.proofs.Common.{cond, eqb, inl, inr, ◌-◌}
@@ -30,7 +30,7 @@ use Rattle.rcu_core.proofs.Once.{sums}
 use Rattle.rcu_core.proofs.Readers.{possible}
 use Rattle.rcu_core.proofs.Writes.{eqb_self}
 
--- each report was made by a processor that there is
+-- each report was made by an existing processor
 made_in_range : (s : Size) (h : History) → AreAccepted s h → (k : ℕ) (r : Report)
     → slice_get (reports_made h) k ≡ Some r → r.cpu < s.cpus
 made_in_range s [] p k r i = absurd (cc)
@@ -77,7 +77,7 @@ last_report s h r i =
       },
     )
 
--- after it nobody is awaited
+-- after it no processor is awaited
 nobody_after : (s : Size) (h : History) (c : ℕ) (e : Event) → c < s.cpus → IsLast s h c
     → awaits c (e ∷ h) ≡ false
     → ((d : ℕ) → d ≢ c → awaits d (e ∷ h) ≡ awaits d h)

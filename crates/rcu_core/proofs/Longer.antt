@@ -44,7 +44,7 @@ one_each s h g (e ∷ events) (r ∷ replies) t =
 one_each s h g [] (r ∷ replies) t = absurd t
 one_each s h g (e ∷ events) [] t = absurd t
 
--- what a core ran, from a history that a run has
+-- the events that a core ran, from the history of a run
 leads_from : (v w : State ℕ) (h : History) (run : Run) (events : List Event) (replies : List Reply)
     → (ran : RunsLegally v h events replies w) → history run ≡ h
     → Leads (size_at v) (history run) events replies ran.reached
@@ -75,12 +75,12 @@ pub ran_one_each : (v w : State ℕ) (h : History) (events : List Event) (replie
     RunsLegally v h events replies w → length replies ≡ length events
 ran_one_each v w h events replies ran = one_each (size_at v) h ran.reached events replies ran.leads
 
--- what a new core ran
+-- the events that a new core ran
 pub first_ran_legally : (v w : State ℕ) (events : List Event) (replies : List Reply) →
     RunsLegally v [] events replies w → IsLegalRun (size_at v) (onto events replies [])
 first_ran_legally v w events replies ran = ran_legally v w [] [] events replies ran record {} refl
 
--- what surely leads on leads a core there, and it refuses nothing
+-- events that surely lead on lead a core there, and it refuses none
 same_end : (s : Size) (h g k : History) (events : List Event) (replies : List Reply)
     → Leads s h events replies g → SurelyLeads s h events k → g ≡ k
 same_end s h g k [] [] t u = t ∙ sym u

@@ -1,4 +1,5 @@
--- No callback is lost: the lists of the processors hold what was queued and not handed out.
+-- No callback is lost: the lists of the processors hold the callbacks that were queued and not
+-- handed out.
 use Rattle.std.proofs.Common.{◌≡◌, ℕ, zero, suc, ◌+◌, ◌<◌, ◌≤◌, List, refl, ap, ◌∙◌, arith}
 use Rattle.std.specs.Prelude.{sum_by}
 use Rattle.std.specs.List.{range_with_len}

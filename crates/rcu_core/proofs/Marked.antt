@@ -36,14 +36,14 @@ use Rattle.rcu_core.proofs.Maturing.{one_part, queued_later}
 use Rattle.rcu_core.proofs.Once.{queued_once}
 use Rattle.rcu_core.proofs.Waited.{KeptItem, lists_kept}
 
--- the callback that stands before each marker, other markers apart, is of a place at most q; and so
--- was the callback before the list, where b says so
+-- the callback before each marker, other markers apart, is of a place at most q; and so was the
+-- callback before the list, if b is true
 abbrev pub Led : ℕ → Bool → List (Item ℕ) → Type 0
 Led q b [] = Unit {0}
 Led q b (Marker ∷ xs) = (b ≡ true) × Led q b xs
 Led q b (Of call mark ∷ xs) = Led q (leb call.ord q) xs
 
--- so no marker stands first, and what stands before the list does not matter
+-- so no marker comes first, and the items before the list do not matter
 led_any : (q : ℕ) (b : Bool) (xs : List (Item ℕ)) → Led q false xs → Led q b xs
 led_any q b [] l = tt
 led_any q b (Marker ∷ xs) l = absurd (let x = l.0 in cc)
@@ -131,7 +131,7 @@ led_cond : (q : ℕ) (b : Bool) (xs ys : List (Item ℕ)) → Led q false xs →
 led_cond q true xs ys l m = l
 led_cond q false xs ys l m = m
 
--- where no callback of a place at most q is left, no marker is
+-- if no callback of a place at most q is left, no marker is
 no_marker : (q : ℕ) (xs : List (Item ℕ)) → ((j : ℕ) → j ≤ q → lies j xs ≡ 0) → Led q false xs
     → markers xs ≡ 0
 no_marker q [] f l = refl
@@ -191,7 +191,7 @@ zero_nowhere (Offline d ∷ h) c =
 zero_nowhere (Renumber ∷ h) c = lies-remarked 0 mark_renumbered (list c h) ∙ zero_nowhere h c
 zero_nowhere (e ∷ h) c = zero_nowhere h c
 
--- in every history each marker stands behind a callback that was queued
+-- in every history each marker is behind a callback that was queued
 at_most_each : (s : Size) (h : History) (xs : List (Item ℕ)) → All (KeptItem s h) xs
     → All (AtMost (queue_count h)) xs
 at_most_each s h xs a = All-weaker (KeptItem s h) (AtMost (queue_count h)) one xs a
@@ -316,7 +316,7 @@ visited_later s q (e ∷ later) h p n f =
     let o = or_parts (ends_barrier e) (list_any ends_barrier later) n in
     visited_step s q e (later ++ h) p.0 o.0 (visited_later s q later h p.1 o.1 f)
 
--- a callback that was handed out lies in no list
+-- a callback that was handed out is in no list
 lies_nowhere : (s : Size) (later h : History) (j c : ℕ) → AreAccepted s (later ++ h)
     → c < s.cpus → 0 < j → j ≤ queue_count h → times_handed_out j (later ++ h) ≡ 1
     → lies j (list c (later ++ h)) ≡ 0

@@ -125,12 +125,12 @@ two_parts (suc n) f c d l m e = elim (eq-or-lt_of_le {n = c} {m = n} (omega (ari
       ]
 ]
 
--- the callback of this place was handed out or lies in this list, the list in two parts
+-- the callback of this place was handed out or is in this list, the list in two parts
 pub record Stays (j n c : ℕ) (h : History) : Type 0 where
   pub kept : 1 ≤ times_handed_out j h + lies j (list c h)
   pub parted : Parted j n (list c h)
 
--- so it lies in no other list
+-- so it is in no other list
 nowhere_else : (s : Size) (j n c d : ℕ) (h : History) → AreAccepted s h → 0 < j
     → j ≤ queue_count h → c < s.cpus → d < s.cpus → c ≢ d → Stays j n c h
     → lies j (list d h) ≡ 0
@@ -274,7 +274,7 @@ same_epoch [] h r = refl
 same_epoch (Renumber ∷ later) h r = absurd (cc)
 same_epoch (e ∷ later) h r = same_epoch later h (or_parts (renumbers e) _ r).1
 
--- where a full grace period passed, the number has reached the snapshot of that before
+-- if a full grace period passed, the number has reached the snapshot of the number before
 reached : (s : Size) (later h : History) → AreAccepted s (later ++ h)
     → list_any renumbers later ≡ false → has_full_period later ≡ true
     → snapshot (number h) ≤ number (later ++ h)

@@ -52,11 +52,11 @@ zero_sum : (n : ℕ) → sum_below n (λ c. 0) ≡ 0
 zero_sum zero = refl
 zero_sum (suc n) = let i = zero_sum n in omega arith
 
--- how often the callback of this place lies in the lists of the processors below a bound
+-- how often the callback of this place is in the lists of the processors below a bound
 abbrev pub lies_below : ℕ → ℕ → History → ℕ
 lies_below n j h = sum_below n (λ c. lies j (list c h))
 
--- how often it was handed out or lies in a list
+-- how often it was handed out or is in a list
 total : ℕ → ℕ → History → ℕ
 total n j h = times_handed_out j h + lies_below n j h
 
@@ -223,7 +223,7 @@ pub then_once : (s : Size) (j : ℕ) (h : History) → AreAccepted s h → 0 < j
 unfolding total
 then_once s j h p z b e = let o = (once_each s j h p).there z b in omega (arith, o, e)
 
--- one that was queued was handed out or lies in a list, once
+-- one that was queued was handed out or is in a list, once
 pub queued_once : (s : Size) (j : ℕ) (h : History) → AreAccepted s h → 0 < j → j ≤ queue_count h
     → times_handed_out j h + lies_below s.cpus j h ≡ 1
 unfolding total

@@ -1,4 +1,4 @@
--- A callback stays what it was at its queueing, and who reads when it is handed out began after
+-- A callback stays as it was queued, and sections that are open when it is handed out began after
 -- that.
 use Rattle.std.proofs.Common.{◌≡◌, ℕ, ◌+◌, ◌<◌, ◌≤◌, Bool, true, false, ◌&&◌, List, [], ◌∷◌, ◌++◌}
 use Rattle.std.proofs.Common.{length, Some, refl, subst, arith, cond, eqb, ne_eqb, slice_get, map}
@@ -37,7 +37,7 @@ use Rattle.rcu_core.proofs.Waited.{Waited, each_cond, front_waited, lists_kept, 
 use Rattle.rcu_core.proofs.Waited.{ran_values}
 use Rattle.rcu_core.proofs.Writes.{eqb_self}
 
--- the callback was queued, and is what it was then
+-- the callback was queued, and is as it was then
 record AsQueued (h : History) (call : Queued ℕ) : Type 0 where
   pub was : call.ord ≤ queue_count h
   pub found : queued_as call.ord h ≡ Some call
@@ -183,8 +183,8 @@ opened_later_run s run c m k reader call opened l e o =
     (waited_when_handed s (history run) c m k call p e)
     (open_from reader (history run) opened o)
 
--- a section that is open when a callback is handed out was opened at a later number than that of
--- the queueing
+-- a section that is open when a callback is handed out was opened at a later number than that at
+-- which it was queued
 pub readers_are_later : (s : Size) (run : Trace) (c m k reader : ℕ) (call : Queued ℕ)
     (opened : History)
     → IsLegalRun s run
@@ -207,7 +207,7 @@ pick : (b : Bool) (x y : History) (j n : ℕ) → j ≤ queue_count x → (n < c
 pick true x y j n p q l = p
 pick false x y j n p q l = q l
 
--- a section that was opened at a later clock than that of a queueing was opened after it
+-- a section that was opened at a later clock than a callback was queued at was opened after that
 queued_before : (s : Size) (c j : ℕ) (h : History) → AreAccepted s h → j ≤ queue_count h
     → clock_at_queueing j h < clock (opening c h) → j ≤ queue_count (opening c h)
 queued_before s c j [] p q l = q

@@ -1,4 +1,4 @@
--- How a processor comes to be quiet and stays so, and that the way to the end grows no longer.
+-- A processor becomes quiet and stays so, and the number of remaining steps does not grow.
 use Rattle.std.proofs.Common.{◌≡◌, ◌≢◌, ℕ, zero, suc, ◌+◌, ◌-◌, ◌≤◌, Bool, true, false, not, ◌&&◌}
 use Rattle.std.proofs.Common.{◌||◌, inl, inr, List, [], ◌∷◌, ◌++◌, Option, Some, None, length, refl}
 use Rattle.std.proofs.Common.{sym, ap, ◌∙◌, subst, arith, cond, eqb, ne_eqb, slice_get}
@@ -35,7 +35,7 @@ quiet_by_idling h c = inl (ap (λ b. cond b true (is_idle c h)) (eqb_self c))
 pub noted_by_noting : (h : History) (c : ℕ) → noted c (Note c ∷ h) ≡ tag_now h
 noted_by_noting h c = ap (λ b. cond b (tag_now h) (noted c h)) (eqb_self c)
 
--- the report that a quiescent state makes stands at the end
+-- the report that a quiescent state makes is at the end
 at_the_end : (xs : List Report) (r : Report) → slice_get (xs ++ r ∷ []) (length xs) ≡ Some r
 at_the_end [] r = refl
 at_the_end (x ∷ xs) r = at_the_end xs r
@@ -200,7 +200,7 @@ no_longer_way s h e p n m w =
     (λ c. part_step s c e h p.0 (turns s h p.1) (awaited_is_online s c h p.1) n m w) in
     omega (arith, l)
 
--- one event: what is left, what it did
+-- one event: the remaining steps, and the steps that it took
 stays_way : (s : Size) (h : History) (e : Event) → AreAccepted s (e ∷ h) → e ≢ Begin
     → ((c : ℕ) → awaits c h ≡ true → e ≢ Enter c)
     → ((c : ℕ) → awaits c h ≡ true → e ≢ Wake c)

@@ -23,7 +23,7 @@ use Rattle.rcu_core.proofs.Clocks.{before_ticks, clock, done_ticks, opening_acce
 use Rattle.rcu_core.proofs.Facts.{Facts, facts}
 use Rattle.rcu_core.proofs.Recorded.{after_said, after_test, is_test}
 
--- a turn that begins or ends does so where a begin or an end is accepted
+-- a turn begins or ends a grace period only if a begin or an end is accepted
 turn_accepted : (s : Size) (u : Situation) (a b d : Bool) (k l m n : ℕ) → u.periods.running ≡ a
     → (how_many s u.cpus.awaits == 0) ≡ b → wants_begin u.periods ≡ d → fault_in s u Turn ≡ None
     → fault_in s u (history_event Turn (cond a (cond b (reply.Ended k) (reply.Waiting l))

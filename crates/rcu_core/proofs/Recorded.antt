@@ -1,4 +1,4 @@
--- How an event and what is said of it stand in the history.
+-- How the history records an event and its reply.
 use Rattle.std.proofs.Common.{◌≡◌, ℕ, ◌+◌, Bool, true, false, cond, ◌∷◌, refl}
 use Rattle.std.specs.Prelude.{◌==◌}
 use Rattle.rcu_seq.specs.Numbers.{number_at}
@@ -15,7 +15,7 @@ use Rattle.rcu_core.specs.declared.event.Event.TheVariants.{Scan}
 use Rattle.rcu_core.specs.declared.reply.Reply.{Reply}
 use Rattle.rcu_core.specs.declared.reply.Reply.TheVariants as reply
 
--- what a turn did stands in the history as it is recorded
+-- the history records what a turn did
 pub turned_after : (h : History) (a b d : Bool) (k l m n : ℕ) (r : Reply)
     → r ≡ cond a (cond b (reply.Ended k) (reply.Waiting l)) (cond d (reply.Begun m n) reply.Nothing)
     → with_event h Turn r ≡ history_event Turn r ∷ h
@@ -29,7 +29,7 @@ tested_after : (h : History) (b : Bool) (n : ℕ)
 tested_after h true n = refl
 tested_after h false n = refl
 
--- a test stands in the history where it waits for nothing
+-- the history records a test if it waits for nothing
 pub after_test : (s : Size) (u : Situation) (h : History)
     → with_event h BarTest (accepted_reply s u BarTest) ≡ cond (waits_for s u == 0) (BarTest ∷ h) h
 after_test s u h = tested_after h (waits_for s u == 0) (waits_for s u)
@@ -39,7 +39,7 @@ abbrev pub is_test : Event → Bool
 is_test BarTest = true
 is_test _ = false
 
--- any other event stands in it as it is recorded
+-- the history records any other event as itself
 pub after_said : (s : Size) (u : Situation) (h : History) (e : Event) → is_test e ≡ false
     → with_event h e (accepted_reply s u e) ≡ history_event e (accepted_reply s u e) ∷ h
 after_said s u h (Enter c) n = refl

@@ -1,5 +1,5 @@
--- Events that retire processors one by one: what they lead to is behind the history that they began
--- with, and no event of another kind is among them.
+-- Events that retire processors one by one: the history that they lead to extends the one that they
+-- began with, and no event of another kind is among them.
 use Rattle.std.proofs.Common.{◌≡◌, ◌≢◌, ℕ, Bool, true, false}
 use Rattle.std.proofs.Common.{List, [], ◌∷◌, ◌++◌, Option, Some, None, refl, sym}
 use Rattle.std.proofs.Common.{ap, ◌∙◌, subst, append_assoc, inl}
@@ -19,7 +19,7 @@ use Rattle.rcu_core.specs.declared.event.Event.TheVariants.{BarTest, Scan}
 use Rattle.rcu_core.specs.declared.reply.Reply.{Reply}
 use Rattle.rcu_core.specs.declared.reply.Reply.TheVariants as reply
 
--- what these events lead to stands on the history that they began with
+-- the history that these events lead to extends the one that they began with
 pub record Behind (test : Event → Bool) (h g : History) : Type 0 where
   pub later : History
   pub is : g ≡ later ++ h

@@ -1,4 +1,4 @@
--- What each event does to a read section.
+-- The effect of each event on a read section.
 use Rattle.std.proofs.Common.{◌≡◌, ◌≢◌, ℕ, ◌+◌, ◌<◌, ◌≤◌, Bool, true, false, ◌&&◌, ◌∷◌, Some, None}
 use Rattle.std.proofs.Common.{refl, sym, ap, ap₂, ◌∙◌, arith, cond, eqb, ltb, ne_eqb}
 use Rattle.std.proofs.lemmas.Bool.Decides.{nat_tests}
@@ -77,7 +77,7 @@ kept_by_enter s h c p l =
     (stays_open (eqb c c) (eqb (depth c h) 0) (Enter c ∷ h) (opening c h) (not_zero (depth c h) l))
     ∙ sym (open_is c h l)
 
--- an exit that leaves a depth keeps it
+-- an inner exit keeps it
 pub kept_by_exit : (h : History) (c : ℕ) → 1 < depth c h → section c (Exit c ∷ h) ≡ section c h
 kept_by_exit h c l =
     let one = one_less c h (omega (arith, l)) in

@@ -1,4 +1,4 @@
--- What came since a callback was queued, and since a barrier began.
+-- The events since a callback was queued, and since a barrier began.
 use Rattle.std.proofs.Common.{◌≡◌, ◌≢◌, ℕ, ◌+◌, ◌<◌, ◌≤◌, Bool, true, [], ◌∷◌, ◌++◌, refl, sym, ap}
 use Rattle.std.proofs.Common.{◌∙◌, arith, cond, eqb, ne_eqb, inl, inr}
 use Rattle.std.proofs.lemmas.Bool.{cases_eq}
@@ -13,7 +13,7 @@ use Rattle.rcu_core.proofs.Kept.{queue_counts}
 same_place : (a b : ℕ) → a ≡ b → eqb a b ≡ true
 same_place a b i = grind (arith, nat_tests)
 
--- what came since a callback's queueing ends with it
+-- the events since a callback was queued end with that event
 pub queued_at : (j : ℕ) (h : History) → 0 < j → j ≤ queue_count h → QueuedAt j h
 queued_at j [] z b = absurd (omega (arith, z, b))
 queued_at j (Queue d y ∷ h) z b =

@@ -18,7 +18,7 @@ use Rattle.rcu_core.specs.Core.{State, IsSound, Represents, size_at, says, proce
 use Rattle.rcu_core.specs.Core.{processor_in}
 use Rattle.rcu_core.specs.declared.event.Event.{Event}
 
--- a state in the situation of a history says what that situation says
+-- a state that represents a history has its situation
 pub same : (v : State ℕ) (h : History) → Represents v h → says v ≡ situation h
 same v h x = λ i. record {
   periods = record {
@@ -82,7 +82,7 @@ longer v w h e x p n l m =
     subst (λ (s : Size). AreAccepted s (e ∷ h))
     (λ i. record { cpus = sym n i; last = sym l i; most = sym m i }) (p, x.accepted)
 
--- a processor whose number is not too high is there
+-- a processor whose number is not too high exists
 pub within : (v : State ℕ) (c : ℕ) → IsSound v → nat_le (cpus_of v.grace.processors) c ≡ false
     → c < length v.cpus
 within v c s l = rw s.sized (grind (arith, nat_tests, l))

@@ -1,4 +1,4 @@
--- What always holds goes on holding.
+-- Each event keeps the invariant.
 use Rattle.std.proofs.Common.{◌≡◌, ℕ, zero, suc, ◌+◌, ◌<◌, Bool, true, false, cond, List, [], ◌∷◌}
 use Rattle.std.proofs.Common.{◌++◌, length, map, get_or, slice_set, replicate, refl, sym, ap, subst}
 use Rattle.std.proofs.Common.{◌∙◌, arith, ne_eqb, inl, inr}
@@ -24,8 +24,8 @@ use Rattle.rcu_state.specs.GpState.{after_turn, at_first, awaited_after, awaited
 use Rattle.rcu_state.specs.Periods.{wants_begin}
 use Rattle.rcu_core.specs.Core.{State, IsSound, processor, size_at}
 
--- where the online processors, their number, the lists and all that is kept of them stay, what
--- always holds stays
+-- if the online processors, their number, the lists and everything known of them stay, the
+-- invariant is kept
 pub stays_sound : (v : State ℕ) (g : Grace ℕ) → g.processors.online ≡ v.grace.processors.online
     → cpus_of g.processors ≡ cpus_of v.grace.processors
     → g.lists ≡ v.grace.lists → IsSound v → IsSound (record v { grace = g })
@@ -83,7 +83,7 @@ sound_turned v g e s =
     go false b true = sound_begun v (after_begin v.grace) refl s
     go false b false = s
 
--- as the numbers start anew
+-- after a renumbering
 pub sound_renumbered : (v : State ℕ) (g : Grace ℕ) → g ≡ after_renumber v.grace → IsSound v
     → IsSound (record v { grace = g })
 sound_renumbered v g e s =
@@ -180,7 +180,7 @@ sound_first n last most v l e f m =
       made = λ k d m. absurd (omega arith);
     })
 
--- what is read at an index that is there is the processor there
+-- a read at an existing index gives the processor there
 pub at_place : (v : State ℕ) (cpu : ℕ) (p : Processor)
     → IsSound v → cpu < cpus_of v.grace.processors → p ≡ get_or v.cpus cpu p
     → p ≡ processor v.cpus cpu
@@ -188,7 +188,7 @@ at_place v cpu p s l e =
     get_or_read_under v.cpus cpu (cpus_of v.grace.processors) p (made_processor cpu false) e l
     (sym s.sized)
 
--- how many processors there are at the start
+-- the number of processors at the start
 pub first_count : (n last most : ℕ) (g : Grace ℕ) → g ≡ at_first n last most
     → cpus_of g.processors ≡ n
 first_count n last most g e =

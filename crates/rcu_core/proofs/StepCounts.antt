@@ -1,4 +1,4 @@
--- Each step of an awaited processor makes the way to the end shorter or longer by one.
+-- Each step of an awaited processor changes the number of remaining steps by one.
 use Rattle.std.proofs.Common.{◌≡◌, ◌≢◌, ℕ, ◌+◌, ◌<◌, Bool, true, false}
 use Rattle.std.proofs.Common.{◌∷◌, refl, sym, ap}
 use Rattle.std.proofs.Common.{arith, cond, eqb, ne_eqb}
@@ -19,7 +19,7 @@ use Rattle.rcu_core.proofs.Writes.{eqb_self}
 use Rattle.rcu_core.proofs.Ending.{exit_elsewhere, exit_less, idle_elsewhere, idle_fewer, idle_less}
 use Rattle.rcu_core.proofs.Ending.{scan_elsewhere, scan_less}
 
--- what one processor's part becomes, the way becomes
+-- if one processor's part changes, the number of remaining steps changes with it
 pub way_is : (s : Size) (h g : History) (c : ℕ) → c < s.cpus
     → ((d : ℕ) → d ≢ c → steps_of g d ≡ steps_of h d)
     → steps_left s g + steps_of h c ≡ steps_left s h + steps_of g c
@@ -29,7 +29,7 @@ way_is s h g c l o =
     let b = sums_are s.cpus (steps_of g) (steps_of g) (λ c. refl) in
     omega (arith, sum, a, b)
 
--- what one processor's part loses, the way loses
+-- if one processor's part gets smaller, so does the number of remaining steps, by as much
 one_step : (s : Size) (h g : History) (c : ℕ) → c < s.cpus
     → ((d : ℕ) → d ≢ c → steps_of g d ≡ steps_of h d)
     → steps_of g c + 1 ≡ steps_of h c

@@ -54,7 +54,7 @@ pub refused_along : (u v : State ℕ) (e : Event) (f : Fault)
     → v ≡ u → StepsLegally v e (reply.Fault f) v → StepsLegally u e (reply.Fault f) u
 refused_along u v e f same d = subst (λ (s : State ℕ). StepsLegally s e (reply.Fault f) s) same d
 
--- a processor that is found is one that there is
+-- a processor that is found exists
 pub found_below : (v : State ℕ) (cpu : ℕ) → cpu_refusal v cpu ≡ None
     → cpu < cpus_of v.grace.processors
 found_below v cpu found = grind (arith, nat_tests, found)
@@ -69,7 +69,7 @@ does_refuse v w e f found kept = record {
   left = kept;
 }
 
--- an event of which no cause holds is answered by what is said
+-- an event of which no cause holds has its accepted reply
 says_so : (v : State ℕ) (e : Event) (r : Reply) → fault_in (size_at v) (says v) e ≡ None
     → r ≡ accepted_reply (size_at v) (says v) e
     → r ≡ or_fault (fault_in (size_at v) (says v) e) (accepted_reply (size_at v) (says v) e)
@@ -160,7 +160,7 @@ does_turn v w t s none same kept = record {
   left = kept ∙ sym (left_turn v t);
 }
 
--- what a report is answered, and what it leaves, is what its delivery is
+-- the answer to a report, and the state after it, are those of its delivery
 heard_so : (running same : Bool) (a : Answer)
     → cond running (cond (not same) Stale a) Stale ≡ cond (not (running && same)) Stale a
 heard_so true same a = refl
@@ -187,7 +187,7 @@ does_hear v w place report a found answer kept = record {
   left = kept ∙ rw found refl;
 }
 
--- a scan is accepted where the processor there is online and idle
+-- a scan is accepted if the processor there is online and idle
 pub scan_accepted : (v : State ℕ) (cpu : ℕ) (p : Processor) → cpu < cpus_of v.grace.processors
     → is_in v.grace.processors.online cpu ≡ true → p ≡ processor v.cpus cpu → p.idle ≡ true
     → fault_in (size_at v) (says v) (Scan cpu) ≡ None
@@ -208,7 +208,7 @@ does_scan v w cpu a none answer kept = record {
   left = kept;
 }
 
--- the list of the awaited is refused only where one is awaited
+-- the list of the awaited processors is refused only if one is awaited
 pub does_want : (v : State ℕ) → 0 < awaited_in v.grace
     → StepsLegally v Awaits (reply.Fault fault.NoMemory) v
 does_want v some =
@@ -216,7 +216,7 @@ does_want v some =
     rw (awaited_size v) (grind (arith, nat_tests)) in
     record { legal = inr (one, refl, refl); left = refl }
 
--- a departure is refused memory where the list has items that do not move
+-- a departure is refused memory if the list has items that do not move
 pub refuses_move : (v w : State ℕ) (rooms : List ℕ) (cpu : ℕ) (f : Fault)
     → fault_in (size_at v) (says v) (Offline cpu) ≡ None
     → migrate_refusal (record { all = v.grace.lists; rooms = rooms }) cpu ≡ Some f → w ≡ v
@@ -275,7 +275,7 @@ test_reply : (b : Bool) (n : ℕ) → reply_to_test (cond b barrier.Done (barrie
 test_reply true n = refl
 test_reply false n = refl
 
--- where a test is accepted, a barrier runs
+-- if a test is accepted, a barrier runs
 runs_where_tested : (runs : Bool) → first_fault ((not runs, fault.NoBarrier) ∷ []) ≡ None
     → runs ≡ true
 runs_where_tested true accepted = refl
@@ -298,7 +298,7 @@ does_test v w found s accepted same kept =
       left = kept ∙ sym (left_test v found);
     }
 
--- the numbers start anew: the last number of a state is one
+-- a renumbering: the last number of a state is legal
 renumber_fault : (v : State ℕ) → is_last v.grace.seq.last ≡ true
     → fault_in (size_at v) (says v) Renumber ≡ renumber_refusal v.grace
 renumber_fault v l = ap (λ (b : Bool). cond v.grace.seq.running (Some fault.Running)

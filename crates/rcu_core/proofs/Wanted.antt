@@ -1,4 +1,4 @@
--- Memory is wanted only where the answer would have told of something kept.
+-- Memory is refused only if the event would have stored something.
 use Rattle.std.proofs.Common.{◌≡◌, ℕ, suc, ◌+◌, Bool, true, false, not, ◌&&◌, List, [], ◌∷◌, ◌++◌}
 use Rattle.std.proofs.Common.{length, Some, None, refl, sym, ap, ◌∙◌, subst, arith, cond, eqb, ltb}
 use Rattle.std.proofs.Common.{◌⊎◌, ◌<◌, inl, inr}
@@ -34,7 +34,7 @@ abbrev is_want : Reply → Bool
 is_want (reply.Fault fault.NoMemory) = true
 is_want _ = false
 
--- one of the causes is want of memory
+-- one of the causes is refused memory
 abbrev has_want : List (Bool × Fault) → Bool
 has_want causes = list_any (λ cause. is_want (reply.Fault cause.1)) causes
 
@@ -73,7 +73,7 @@ no_reply_wants s v Turn = no_turn_wants _ _ _ _ _ _ _ (accepted_reply s v Turn) 
 no_reply_wants s v BarTest = no_test_wants _ _ (accepted_reply s v BarTest) refl
 no_reply_wants s v _ = refl
 
--- no answer is want of memory
+-- no answer is that of refused memory
 no_answer_wants : (s : Size) (v : Situation) (e : Event) → is_want (answer s v e) ≡ false
 no_answer_wants s v e =
     not_wanted (causes s v e) (accepted_reply s v e) (no_cause_wants s v e) (no_reply_wants s v e)
@@ -136,7 +136,7 @@ does_mark true true i = absurd (cc)
 does_mark true false i = refl
 does_mark false empty i = absurd (cc)
 
--- memory is wanted where the event stores something, and no fault holds
+-- if memory is refused, the event stores something, and no fault holds
 wanted_stores : (s : Size) (h : History) (e : Event)
     → IsLegalReply s (situation h) e (reply.Fault fault.NoMemory)
     → (stores s (situation h) e ≡ true) × (fault_in s (situation h) e ≡ None)

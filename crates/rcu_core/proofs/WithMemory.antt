@@ -1,4 +1,4 @@
--- Events that are refused only for want of memory.
+-- Events that are refused only if memory is.
 use Rattle.std.proofs.Common.{◌≡◌, ◌≢◌}
 use Rattle.std.proofs.Common.{List, [], ◌∷◌, ◌++◌, None, sym}
 use Rattle.std.proofs.Common.{ap, ◌∙◌, subst, inl, inr}
@@ -13,7 +13,7 @@ use Rattle.rcu_core.specs.declared.event.Event.{Event}
 use Rattle.rcu_core.specs.declared.reply.Reply.{Reply}
 use Rattle.rcu_core.specs.declared.reply.Reply.TheVariants as reply
 
--- an event that is refused for want of memory alone
+-- an event that is refused only if memory is
 pub record Accepts (s : Size) (h : History) (e : Event) : Type 0 where
   pub accepted : fault_in s (situation h) e ≡ None
   pub stands : with_event h e (accepted_reply s (situation h) e) ≡ e ∷ h

@@ -1,4 +1,4 @@
--- What a write of one item leaves of what is read.
+-- Reads after a write of one item.
 use Rattle.std.proofs.Common.{◌≡◌, ℕ, ◌<◌, Bool, true, false, cond, ◌||◌, List, length, refl, sym}
 use Rattle.std.proofs.Common.{subst, ◌∙◌, arith, eqb, get_or, slice_set, ne_eqb, inl, inr}
 use Rattle.std.proofs.lemmas.Bool.Decides.{nat_tests}
@@ -18,7 +18,7 @@ one_written {X} d xs c x f g l h at other k = elim (cases_eq k c) [
   | inr n ↦ get_or-set_other xs c k x d n ∙ h k ∙ sym (other k (ne_eqb c k (λ i. n (sym i))))
 ]
 
--- a flag is set, where it is not set already
+-- a flag is set, if it is not set already
 pub marked : (set : Bool) (xs : List Bool) (c k : ℕ) → c < length xs → get_or xs c false ≡ set
     → get_or (cond set xs (slice_set xs c true)) k false ≡ (eqb c k || get_or xs k false)
 marked true xs c k l e = elim (cases_eq k c) [

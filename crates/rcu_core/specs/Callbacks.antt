@@ -1,5 +1,5 @@
--- What the accepted events so far say of callbacks: each processor's list, the barrier, and who was
--- handed out.
+-- Callbacks, as the accepted events so far define them: each processor's list, the barrier, and the
+-- callbacks that were handed out.
 use Rattle.std.specs.Prelude.{ℕ, ◌+◌, nat_lt, ◌==◌, Bool, true, false, not, ◌&&◌, max}
 use Rattle.std.specs.Prelude.{if◌then◌else◌, List, [], ◌∷◌, ◌++◌, count_by}
 use Rattle.rcu_seq.specs.Histories.{has_full, is_on, latest, some_since}
@@ -25,12 +25,12 @@ abbrev pub begins_barrier : Event → Bool
 begins_barrier BarBegin = true
 begins_barrier _ = false
 
--- a barrier ends: a test stands in a history only where it found the barrier done
+-- a barrier ends: a history has a test only if it found the barrier done
 abbrev pub ends_barrier : Event → Bool
 ends_barrier BarTest = true
 ends_barrier _ = false
 
--- the barrier visits the processor: as it is asked to, or as the processor departs
+-- the barrier visits the processor: by a visit, or as the processor departs
 abbrev pub visits : ℕ → Event → Bool
 visits cpu (Visit c) = c == cpu
 visits cpu (Offline c) = c == cpu
@@ -53,9 +53,9 @@ abbrev pub queue_count : History → ℕ
 queue_count h = count_by queues h
 
 -- the processor's list, in order. A queued callback goes to its end. A tend at the number gives
--- marks. A run takes away the first callbacks of the done part. A visit puts a marker behind it.
--- The list of a processor that departs moves to processor 0: its done part in front of that list,
--- the rest behind it without marks. Where the numbers start anew, each list loses those that it has
+-- marks. A run removes the first callbacks of the done part. A visit puts a marker behind it. The
+-- list of a departing processor moves to processor 0: its done part in front of that list, the rest
+-- behind it without marks. At a renumbering each list loses its numbers
 abbrev pub list : ℕ → History → List (Item ℕ)
 list cpu [] = []
 list cpu (Queue c value ∷ h) =
@@ -76,9 +76,9 @@ list cpu (Renumber ∷ h) = after_renumber (list cpu h)
 list cpu (_ ∷ h) = list cpu h
 
 -- the needed number: the greatest among the cookies of started polls and, for each tend, the
--- numbers that its list then waits for; 0 before any. Where the numbers start anew, what is needed
--- above the number, which is the last one then, is the first grace period of the next epoch, and
--- else nothing is needed
+-- numbers that its list then waits for; 0 before any. At a renumbering, if a number above the
+-- current one, which is the last, is needed, the first grace period of the next epoch is; else none
+-- is needed
 abbrev pub needed : History → Number
 needed [] = 0
 needed (StartPoll ∷ h) = max (needed h) (snapshot (number h))
@@ -86,7 +86,7 @@ needed (Tend cpu ∷ h) = greatest_from (needed h) (numbers (list cpu (Tend cpu 
 needed (Renumber ∷ h) = if nat_lt (number h) (needed h) then 4 else 0
 needed (_ ∷ h) = needed h
 
--- what a run of at most so many callbacks hands out
+-- the callbacks that a run of at most this number hands out
 abbrev pub handed_out : ℕ → ℕ → History → List (Queued ℕ)
 handed_out cpu most h = take_answer (list cpu h) most
 

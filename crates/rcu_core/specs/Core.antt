@@ -1,4 +1,4 @@
--- What the engine holds, and how it says what a history says.
+-- The state of the engine, and how it represents a history.
 use Rattle.std.specs.Prelude.{ℕ, ◌<◌, ◌≡◌, Bool, false, List, [], ◌∷◌, ◌++◌, length, slice_index_or}
 use Rattle.std.specs.Prelude.{slice_set, All, Option, Some, None, Result, Ok, Err}
 use Rattle.rcu_seq.specs.Fault.{first_fault}
@@ -34,7 +34,7 @@ pub record State (X : Type 0) : Type 0 where
   pub cpus : List Processor
   pub made : List Report
 
--- how many processors there are, the last number, and how many callbacks may be queued
+-- the number of processors, the last number, and the limit of queued callbacks
 abbrev pub size_at : {X : Type 0} → State X → Size
 size_at v = record {
   cpus = cpus_of v.grace.processors;
@@ -42,7 +42,7 @@ size_at v = record {
   most = v.grace.lists.most;
 }
 
--- why a processor is not found: there is none of this number
+-- why a processor is not found: no processor has this number
 abbrev pub cpu_refusal : {X : Type 0} → State X → ℕ → Option Fault
 cpu_refusal v cpu = first_fault (no_cpu (size_at v) cpu ∷ [])
 
@@ -50,7 +50,7 @@ cpu_refusal v cpu = first_fault (no_cpu (size_at v) cpu ∷ [])
 abbrev pub processor : List Processor → ℕ → Processor
 processor cpus cpu = slice_index_or cpus cpu (cpu_data.at_first cpu false)
 
--- the three parts of what a state says
+-- the three parts of a state's situation
 abbrev pub cpus_said : State ℕ → CpuSituation
 cpus_said v = record {
   online = is_in v.grace.processors.online;
@@ -69,7 +69,7 @@ calls_said all = record {
   owed = owes_visit all;
 }
 
--- what a state says
+-- the situation of a state
 abbrev pub says : State ℕ → Situation
 says v = record {
   periods = periods_of v.grace;
@@ -77,9 +77,9 @@ says v = record {
   calls = calls_said v.grace.lists;
 }
 
--- what always holds: there are as many processors as flags, each at its index, and online where the
--- set of the online says so; each has a list, and a flag for the barrier's visit; and each report
--- is of a processor
+-- the invariant: there are as many processors as flags, each at its index, and online if the online
+-- set has it; each has a list, and a flag for the barrier's visit; and each report is of a
+-- processor
 pub record IsSound {X : Type 0} (v : State X) : Type 0 where
   pub flags : length v.grace.processors.online ≡ cpus_of v.grace.processors
   pub sized : length v.cpus ≡ cpus_of v.grace.processors
@@ -93,12 +93,12 @@ pub record IsSound {X : Type 0} (v : State X) : Type 0 where
 abbrev pub with_cpu : List Processor → ℕ → Call → List Processor
 with_cpu cpus cpu call = slice_set cpus cpu (cpu_data.after_call (processor cpus cpu) call)
 
--- who is awaited after a report is delivered
+-- the awaited processors after a report is delivered
 abbrev pub awaited_by : Grace ℕ → Option Report → List Bool
 awaited_by g None = g.processors.awaited
 awaited_by g (Some report) = grace.awaited_after g report
 
--- what an accepted event leaves
+-- the state after an accepted event
 abbrev pub after_event : State ℕ → Event → State ℕ
 after_event v (Enter cpu) = record v { cpus = with_cpu v.cpus cpu cpu_data.Enter }
 after_event v (Exit cpu) = record v { cpus = with_cpu v.cpus cpu cpu_data.Exit }
@@ -134,30 +134,30 @@ after_event v (Idle cpu) = record v { cpus = with_cpu v.cpus cpu cpu_data.Idle }
 after_event v (Wake cpu) = record v { cpus = with_cpu v.cpus cpu cpu_data.Wake }
 after_event v (Scan cpu) = record v { grace = grace.after_report_now v.grace cpu }
 
--- what an event and its reply leave: a refused event changes nothing
+-- the state after an event and its reply: a refused event changes nothing
 abbrev pub after_reply : State ℕ → Event → Reply → State ℕ
 after_reply v e (reply.Fault f) = v
 after_reply v e _ = after_event v e
 
--- a step on states: the reply is legal, and what it leaves is left
+-- a step on states: the reply is legal, and the state is that after the event and the reply
 pub record StepsLegally (v : State ℕ) (e : Event) (r : Reply) (w : State ℕ) : Type 0 where
   pub legal : IsLegalReply (size_at v) (says v) e r
   pub left : w ≡ after_reply v e r
 
--- a call takes an event: its reply, or the fault that it is refused by, is a legal reply, and what
--- that leaves is left
+-- a call takes an event: its reply, or the fault of its refusal, is a legal reply, and the state is
+-- that after the event and the reply
 abbrev pub Takes : State ℕ → Event → Result Reply Fault → State ℕ → Type 0
 Takes v e (Ok r) w = StepsLegally v e r w
 Takes v e (Err fault) w = StepsLegally v e (reply.Fault fault) w
 
--- the counter and the needed number are as a situation says
+-- the counter and the needed number are as in a situation
 pub record RepresentsPeriods (p u : PeriodSituation) : Type 0 where
   pub epoch : p.epoch ≡ u.epoch
   pub ends : p.ends ≡ u.ends
   pub running : p.running ≡ u.running
   pub needed : p.needed ≡ u.needed
 
--- what a situation says of one processor
+-- one processor, as in a situation
 abbrev pub processor_in : CpuSituation → ℕ → Processor
 processor_in u cpu = record {
   cpu = cpu;
@@ -167,7 +167,7 @@ processor_in u cpu = record {
   noted = u.noted cpu;
 }
 
--- the processors and the reports are as a situation says
+-- the processors and the reports are as in a situation
 pub record RepresentsCpus (processors : Processors) (cpus : List Processor) (reports : List Report)
     (u : CpuSituation) : Type 0 where
   pub online : (cpu : ℕ) → is_in processors.online cpu ≡ u.online cpu
@@ -175,7 +175,7 @@ pub record RepresentsCpus (processors : Processors) (cpus : List Processor) (rep
   pub each : (cpu : ℕ) → processor cpus cpu ≡ processor_in u cpu
   pub made : reports ≡ u.made
 
--- the lists and the barrier are as a situation says
+-- the lists and the barrier are as in a situation
 pub record RepresentsCalls (all : AllLists ℕ) (u : CallbackSituation) : Type 0 where
   pub queued : all.queued ≡ u.queued
   pub list : (cpu : ℕ) → list_of all cpu ≡ u.list cpu
@@ -189,8 +189,8 @@ pub record Represents (v : State ℕ) (h : History) : Type 0 where
   pub cpus : RepresentsCpus v.grace.processors v.cpus v.made (cpus_in h)
   pub calls : RepresentsCalls v.grace.lists (calls_in h)
 
--- a step after a history: the reply is legal, and the engine is left in the situation of the
--- history, with the event where it was accepted, at the same size
+-- a step after a history: the reply is legal, and the engine is then in the situation of the
+-- history, with the event if it was accepted, at the same size
 pub record Follows (v : State ℕ) (h : History) (e : Event) (r : Reply) (w : State ℕ) : Type 0 where
   pub legal : IsLegalReply (size_at v) (situation h) e r
   pub has : Represents w (with_event h e r)

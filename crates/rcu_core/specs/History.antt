@@ -1,6 +1,6 @@
--- What the accepted events so far say. A history is the list of the accepted events, the newest
--- first. So the history as it was at an earlier event is the part of the list from that event on. A
--- turn that began or ended a grace period stands in it as that begin or end.
+-- The meaning of a history. A history is the list of the accepted events, the newest first. So the
+-- history as it was at an earlier event is the part of the list from that event on. A turn that
+-- began or ended a grace period is recorded as that begin or end.
 use Rattle.std.specs.Prelude.{ℕ, ◌+◌, ◌-◌, ◌==◌, Bool, true, false, not, ◌&&◌, nat_lt}
 use Rattle.std.specs.Prelude.{if◌then◌else◌, List, [], ◌∷◌, ◌++◌, count_by, slice_get, Option, Some}
 use Rattle.std.specs.Prelude.{None}
@@ -27,7 +27,7 @@ abbrev pub ends : Event → Bool
 ends End = true
 ends _ = false
 
--- the numbers start anew
+-- the counter is renumbered
 abbrev pub renumbers : Event → Bool
 renumbers Renumber = true
 renumbers _ = false
@@ -64,7 +64,7 @@ ends_idleness cpu (Offline c) = c == cpu
 ends_idleness cpu (Online c) = c == cpu
 ends_idleness cpu _ = false
 
--- the processor takes down the tag of now: at a note, and at its arrival
+-- the processor notes the tag of now: at a note, and at its arrival
 abbrev pub notes : ℕ → Event → Bool
 notes cpu (Note c) = c == cpu
 notes cpu (Online c) = c == cpu
@@ -74,11 +74,11 @@ notes cpu _ = false
 abbrev pub running : History → Bool
 running h = nat_lt (count_by ends h) (count_by begins h)
 
--- the epoch: how often the numbers started anew
+-- the epoch: the count of renumberings
 abbrev pub epoch : History → ℕ
 epoch h = count_by renumbers h
 
--- how many grace periods ended in the epoch, that is, since the numbers last started anew
+-- how many grace periods ended in the epoch, that is, since the last renumbering
 abbrev pub ends_in_epoch : History → ℕ
 ends_in_epoch [] = 0
 ends_in_epoch (End ∷ h) = ends_in_epoch h + 1
@@ -93,8 +93,8 @@ number h = number_at (ends_in_epoch h) (running h)
 abbrev pub tag_now : History → Tag
 tag_now h = record { epoch = epoch h; number = number h }
 
--- the processor is online: its last arrival or departure is an arrival; before any, it is processor
--- 0
+-- the processor is online: its last arrival or departure is an arrival; before any such event, only
+-- processor 0 is online
 abbrev pub online : ℕ → History → Bool
 online cpu h = is_on (cpu == 0) (arrives cpu) (departs cpu) h
 
@@ -115,7 +115,7 @@ enter_count cpu h = count_by (enters cpu) h
 abbrev pub exit_count : ℕ → History → ℕ
 exit_count cpu h = count_by (exits cpu) h
 
--- how deep its read sections nest: the enters less the exits
+-- the depth of its read sections: the number of enters less the number of exits
 abbrev pub depth : ℕ → History → ℕ
 depth cpu h = enter_count cpu h - exit_count cpu h
 
@@ -125,8 +125,8 @@ abbrev pub opening : ℕ → History → History
 opening cpu [] = []
 opening cpu (e ∷ h) = if enters cpu e && depth cpu h == 0 then e ∷ h else opening cpu h
 
--- its open section, named by the history at its opening: from an enter at depth 0 to the exit that
--- brings the depth back to 0, or up to now
+-- its open section, named by the history when it was opened: from an enter at depth 0 to the exit
+-- that brings the depth back to 0, or up to now
 abbrev pub section : ℕ → History → Option History
 section cpu h = if nat_lt 0 (depth cpu h) then Some (opening cpu h) else None
 
@@ -151,7 +151,7 @@ abbrev pub is_of : ℕ → Tag → Option Report → Bool
 is_of cpu tag None = false
 is_of cpu tag (Some report) = report.cpu == cpu && same_tag report.tag tag
 
--- by this event the processor is heard in the grace period of this tag: a report of both is
+-- this event makes the processor heard in the grace period of this tag: a report of both is
 -- delivered, it departs, or a scan finds it idle
 abbrev pub hears : ℕ → Tag → Event → History → Bool
 hears cpu tag (Deliver place) h = is_of cpu tag (report_at place (reports_made h))
@@ -163,7 +163,7 @@ hears cpu tag _ h = false
 abbrev pub is_heard : ℕ → Tag → History → Bool
 is_heard cpu tag h = some_since begins (hears cpu tag) h
 
--- the processor is awaited: a grace period runs at whose begin it was online, and it was not heard
--- since
+-- the processor is awaited: it was online at the begin of the running grace period, and it was not
+-- heard since
 abbrev pub awaits : ℕ → History → Bool
 awaits cpu h = running h && (online cpu (latest begins h) && not (is_heard cpu (tag_now h) h))

@@ -1,5 +1,6 @@
--- What ties runs and histories to the laws: a run made longer, the latest grace period whether it
--- runs or has ended, who was heard in it, and callbacks as they were queued.
+-- Definitions that connect runs and histories with the laws: a run made longer, the latest grace
+-- period whether it runs or has ended, the processors heard in it, and callbacks as they were
+-- queued.
 use Rattle.std.specs.Prelude.{ℕ, ◌+◌, ◌≡◌, ◌==◌, ◌&&◌, Bool, true, false, if◌then◌else◌, List, []}
 use Rattle.std.specs.Prelude.{◌∷◌, ◌++◌, Option, Some, None, sum_by}
 use Rattle.std.specs.List.{list_any, range_with_len}
@@ -31,8 +32,7 @@ tag h = tag_now (latest begins h)
 abbrev pub starts : ℕ → History → Bool
 starts cpu h = list_any begins h && online cpu (latest begins h)
 
--- an event since the latest begin tells that the processor was heard in the grace period of this
--- tag
+-- an event since the latest begin made the processor heard in the grace period of this tag
 pub record ToldSince (cpu : ℕ) (tag : Tag) (h : History) : Type 0 where
   pub later : History
   pub event : Event
@@ -52,8 +52,8 @@ queued_as ord (Queue cpu value ∷ h) =
     else queued_as ord h
 queued_as ord (_ ∷ h) = queued_as ord h
 
--- the callback of this place was queued just before what came since: on which processor, its value,
--- and what was before
+-- the callback of this place was queued just before the later events: on which processor, its
+-- value, and the events before it
 pub record QueuedAt (ord : ℕ) (h : History) : Type 0 where
   pub cpu : ℕ
   pub value : ℕ
@@ -61,7 +61,7 @@ pub record QueuedAt (ord : ℕ) (h : History) : Type 0 where
   pub is : h ≡ since ord h ++ Queue cpu value ∷ earlier
   pub place : queue_count earlier + 1 ≡ ord
 
--- how often the callback of this place lies in the lists of this many processors
+-- how often the callback of this place is in the lists of this many processors
 abbrev pub times_listed : ℕ → ℕ → History → ℕ
 times_listed cpus ord h =
     sum_by (λ cpu. copies ord (callbacks (list cpu h))) (range_with_len 0 cpus)

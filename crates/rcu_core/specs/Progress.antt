@@ -16,15 +16,15 @@ use Rattle.rcu_core.specs.declared.event.Event.TheVariants.{Scan}
 use Rattle.rcu_core.specs.declared.reply.Reply.{Reply}
 use Rattle.rcu_core.specs.declared.reply.Reply.TheVariants as reply
 
--- these events, in this order, lead from a history to another, and none of them is refused, for
--- want of memory either: so it is with any legal replies
+-- these events, in this order, lead from a history to another with any legal replies, and none of
+-- them is refused, not even for lack of memory
 abbrev pub SurelyLeads : Size → History → List Event → History → Type 0
 SurelyLeads s h [] g = g ≡ h
 SurelyLeads s h (e ∷ events) g =
     (r : Reply) → IsLegalReply s (situation h) e r
     → ((fault : Fault) → r ≢ reply.Fault fault) × SurelyLeads s (with_event h e r) events g
 
--- the same if no reply is that of want of memory
+-- the same if no reply is that of refused memory
 abbrev pub LeadsWithMemory : Size → History → List Event → History → Type 0
 LeadsWithMemory s h [] g = g ≡ h
 LeadsWithMemory s h (e ∷ events) g =
@@ -107,7 +107,7 @@ pub record CanFinishCookie (s : Size) (h : History) : Type 0 where
   pub done : is_done_at s.last (cookie_at (tag_now h)) (tag_now reached) ≡ true
   pub ends : count_by ends reached ≤ count_by ends h + 2
 
--- some events, of which only want of memory can refuse one, lead to a history in which each
+-- some events, none of which fails unless memory is refused, lead to a history in which each
 -- callback queued so far was handed out, and at most two grace periods end among them
 pub record CanDrain (s : Size) (h : History) : Type 0 where
   pub events : List Event
@@ -116,7 +116,7 @@ pub record CanDrain (s : Size) (h : History) : Type 0 where
   pub out : (ord : ℕ) → 0 < ord → ord ≤ queue_count h → times_handed_out ord reached ≡ 1
   pub ends : count_by ends reached ≤ count_by ends h + 2
 
--- some events, of which only want of memory can refuse one, lead to a test that finds the running
+-- some events, none of which fails unless memory is refused, lead to a test that finds the running
 -- barrier done, and at most two grace periods end among them
 pub record CanFinishBarrier (s : Size) (h : History) : Type 0 where
   pub events : List Event

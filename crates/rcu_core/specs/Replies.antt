@@ -29,7 +29,7 @@ use Rattle.rcu_core.specs.declared.event.Event.TheVariants.{Renumber, Idle, Wake
 use Rattle.rcu_core.specs.declared.reply.Reply.{Reply}
 use Rattle.rcu_core.specs.declared.reply.Reply.TheVariants as reply
 
--- how many processors there are, the last number, and how many callbacks may be queued
+-- the number of processors, the last number, and the limit of queued callbacks
 pub record Size : Type 0 where
   pub cpus : ℕ
   pub last : Number
@@ -47,13 +47,13 @@ is_last_in s v = same_number (number_in v.periods) s.last
 abbrev pub tended_list : Situation → ℕ → List (Item ℕ)
 tended_list v cpu = after_tend (v.calls.list cpu) (number_in v.periods)
 
--- what the running barrier waits for: markers, and processors that it did not visit
+-- the number of markers and unvisited processors that the running barrier waits for
 abbrev pub waits_for : Size → Situation → ℕ
 waits_for s v =
     sum_by (λ cpu. markers (v.calls.list cpu)) (range_with_len 0 s.cpus) + how_many s v.calls.owed
 
--- causes that several events test: there is no such processor, it is offline, it is idle, it is not
--- idle, a section of it is open
+-- causes that several events test: the processor does not exist, it is offline, it is idle, it is
+-- not idle, a section of it is open
 abbrev pub no_cpu : Size → ℕ → Bool × Fault
 no_cpu s cpu = (nat_le s.cpus cpu, fault.BadCpu)
 
@@ -69,7 +69,7 @@ is_awake v cpu = (not (v.cpus.idle cpu), fault.NotIdle)
 abbrev pub is_inside : Situation → ℕ → Bool × Fault
 is_inside v cpu = (nat_lt 0 (v.cpus.depth cpu), fault.InSection)
 
--- what is tested for an event, in order: a cause, and the fault that it is answered by
+-- the tests of an event, in order: each a cause and its fault
 abbrev pub causes : Size → Situation → Event → List (Bool × Fault)
 causes s v (Enter cpu) =
     no_cpu s cpu ∷ is_offline v cpu ∷ is_asleep v cpu
@@ -107,9 +107,9 @@ causes s v (Scan cpu) = no_cpu s cpu ∷ is_offline v cpu ∷ is_awake v cpu ∷
 abbrev pub fault_in : Size → Situation → Event → Option Fault
 fault_in s v e = first_fault (causes s v e)
 
--- what a delivered report does: it is stale where no grace period runs or its tag is not that of
--- now, a repeat where its processor is not awaited, the last where that alone is awaited, and taken
--- else
+-- the answer to a delivered report: it is stale if no grace period runs or its tag is not that of
+-- now, a repeat if its processor is not awaited, the last if only that one is awaited, and taken
+-- otherwise
 abbrev pub answer_to_report : Size → Situation → Option Report → Answer
 answer_to_report s v None = Stale
 answer_to_report s v (Some report) =
@@ -129,7 +129,7 @@ begin_reply s v = reply.Begun (number_at v.periods.ends true) (how_many s v.cpus
 abbrev pub end_reply : Situation → Reply
 end_reply v = reply.Ended (number_at (v.periods.ends + 1) false)
 
--- a turn: a running grace period ends where nobody is awaited; where none runs, one begins if a
+-- a turn: a running grace period ends if no processor is awaited; if none runs, one begins if a
 -- later number is needed
 abbrev pub turn_reply : Size → Situation → Reply
 turn_reply s v =
@@ -139,14 +139,14 @@ turn_reply s v =
     else reply.Waiting (how_many s v.cpus.awaits))
     else (if wants_begin v.periods then begin_reply s v else reply.Nothing)
 
--- a visit: where the processor is owed one, a marker goes behind its list, if that is not empty
+-- a visit: if the processor is owed one and its list is not empty, a marker goes behind its list
 abbrev pub visit_in : Situation → ℕ → Visited
 visit_in v cpu =
     if not (v.calls.owed cpu)
     then Already
     else (if is_empty (v.calls.list cpu) then Empty else Marked)
 
--- a test of the barrier: it is done where it waits for nothing
+-- a test of the barrier: it is done if it waits for nothing
 abbrev pub barrier_test_reply : Size → Situation → Reply
 barrier_test_reply s v =
     if waits_for s v == 0 then reply.BarDone else reply.BarWaits (waits_for s v)
@@ -184,12 +184,12 @@ accepted_reply s v (Idle cpu) = reply.Idle
 accepted_reply s v (Wake cpu) = reply.Awake
 accepted_reply s v (Scan cpu) = reply.Answer (answer_to_report s v (Some (own_report v cpu)))
 
--- the first fault whose cause holds, and else what is said
+-- the first fault whose cause holds, and else this reply
 abbrev pub or_fault : Option Fault → Reply → Reply
 or_fault None r = r
 or_fault (Some f) r = reply.Fault f
 
--- the reply to an event, where memory is never wanted
+-- the reply to an event, if memory is never refused
 abbrev pub answer : Size → Situation → Event → Reply
 answer s v e = or_fault (fault_in s v e) (accepted_reply s v e)
 
@@ -203,20 +203,20 @@ stores s v (Run cpu most) = nat_lt 0 (length (take_answer (v.calls.list cpu) mos
 stores s v (Visit cpu) = v.calls.owed cpu && not (is_empty (v.calls.list cpu))
 stores s v _ = false
 
--- the reply is the answer; or memory is wanted, where the event stores something and no other fault
+-- the reply is the answer; or memory is refused, if the event stores something and no other fault
 -- holds
 abbrev pub IsLegalReply : Size → Situation → Event → Reply → Type 0
 IsLegalReply s v e r =
     (r ≡ answer s v e)
     ⊎ ((stores s v e ≡ true) × (fault_in s v e ≡ None) × (r ≡ reply.Fault fault.NoMemory))
 
--- what a turn was: a begin, an end, or neither
+-- a turn as the event that it was: a begin, an end, or neither
 abbrev pub turn_as : Reply → Event
 turn_as (reply.Begun number cpus) = Begin
 turn_as (reply.Ended number) = End
 turn_as _ = Turn
 
--- an event as it stands in the history
+-- an event as the history records it
 abbrev pub history_event : Event → Reply → Event
 history_event Turn r = turn_as r
 history_event e r = e

@@ -36,7 +36,7 @@ Leads s h (e ∷ events) (r ∷ replies) g =
 Leads s h [] (r ∷ replies) g = ⊥
 Leads s h (e ∷ events) [] g = ⊥
 
--- the replies to these events are legal, one after another, and the engine is left in the situation
+-- the replies to these events are legal, one after another, and the engine is then in the situation
 -- of the history that they lead to
 pub record RunsLegally (v : State ℕ) (h : History) (events : List Event) (replies : List Reply)
     (w : State ℕ) : Type 0 where

@@ -1,4 +1,4 @@
--- What the events so far say, in three parts: of grace periods, of the processors and of callbacks.
+-- The situation after the events so far, in three parts: grace periods, processors and callbacks.
 use Rattle.std.specs.Prelude.{ℕ, Bool, List}
 use Rattle.rcu_seq.specs.declared.tag.Tag.{Tag}
 use Rattle.rcu_report.specs.declared.batch.Report.{Report}
@@ -8,8 +8,8 @@ use Rattle.rcu_core.specs.History.{History, awaits, depth, ends_in_epoch, epoch,
 use Rattle.rcu_core.specs.History.{reports_made, is_idle, running}
 use Rattle.rcu_state.specs.Periods.{PeriodSituation}
 
--- what the events so far say of the processors: which are online, which are idle, which are
--- awaited, how deep the sections of each nest, which tag it noted last; and all reports
+-- the situation of the processors: which are online, which are idle, which are awaited, how deep
+-- the sections of each nest, which tag it noted last; and all reports
 pub record CpuSituation : Type 0 where
   pub online : ℕ → Bool
   pub idle : ℕ → Bool
@@ -18,7 +18,7 @@ pub record CpuSituation : Type 0 where
   pub noted : ℕ → Tag
   pub made : List Report
 
--- what they say of callbacks: how many were queued, each processor's list, whether a barrier runs,
+-- the situation of callbacks: how many were queued, each processor's list, whether a barrier runs,
 -- and which processors it owes a visit
 pub record CallbackSituation : Type 0 where
   pub queued : ℕ
@@ -26,13 +26,13 @@ pub record CallbackSituation : Type 0 where
   pub barrier : Bool
   pub owed : ℕ → Bool
 
--- what the events so far say
+-- the situation after the events so far
 pub record Situation : Type 0 where
   pub periods : PeriodSituation
   pub cpus : CpuSituation
   pub calls : CallbackSituation
 
--- the three parts of what a history says
+-- the three parts of a history's situation
 abbrev pub periods_in : History → PeriodSituation
 periods_in h = record {
   epoch = epoch h;

@@ -1,5 +1,5 @@
--- Stories: a run, and in between the publications of a value's versions and the loads of the
--- current one. The newest comes first. Versions are named by numbers.
+-- Stories: a run, and between its events the publications of a value's versions and the loads of
+-- the current one. The newest comes first. Versions are identified by numbers.
 use Rattle.std.specs.Prelude.{ℕ, ◌==◌, ◌&&◌, ◌||◌, Bool, false, nat_lt, List, [], ◌∷◌}
 use Rattle.rcu_core.specs.History.{depth}
 use Rattle.rcu_core.specs.Runs.{Run, history}

@@ -1,9 +1,9 @@
-//! Processors in a row.
+//! A list of processors.
 ghost use Rattle.std.specs.Prelude.{◌≡◌};
 
 use std::marker::Model;
 
-/// Processors in a row, which a reply lists. Contracts see the list of their numbers.
+/// The processors that a reply lists. Contracts see the list of their numbers.
 #[derive(Debug, Drop)]
 pub struct CpuList {
     cpus: Vec<u32>,
@@ -18,7 +18,7 @@ impl Model for CpuList {
 }
 
 impl CpuList {
-    /// The list of these processors, which are not copied.
+    /// Returns the list of these processors, without a copy.
     pub fn new(cpus: Vec<u32>) -> CpuList
         ensures { result ≡ cpus.items }
     {

@@ -1,4 +1,4 @@
-//! What the words of a history say, case by case.
+//! Laws that pin the definitions of histories, case by case.
 ghost use Rattle.std.specs.Prelude.{◌≡◌, ◌≢◌, ◌⊎◌, ◌+◌, ◌<◌, ◌≤◌, [], ◌∷◌, ℕ, Bool, List, None};
 ghost use Rattle.std.specs.Prelude.{Some, length, true};
 ghost use Rattle.rcu_barrier.specs.Runs.{copies};
@@ -19,7 +19,7 @@ use crate::reply::Reply;
 use rcu_barrier::Visit;
 use rcu_seq::Fault;
 
-/// A cookie is taken by a taking and by the start of a poll, and by no other event.
+/// Exactly two events take a cookie: a take, and the start of a poll.
 pub fn a_cookie_is_taken_by_two_events()
     ensures taking { takes Event.Take ≡ true }
     ensures start { takes Event.StartPoll ≡ true }
@@ -27,8 +27,8 @@ pub fn a_cookie_is_taken_by_two_events()
         → (event ≡ Event.Take) ⊎ (event ≡ Event.StartPoll) }
 {}
 
-/// A read section goes from an enter at depth 0, which names it, to the exit that leaves no depth:
-/// nested enters and inner exits keep it, and so does every other event.
+/// A read section goes from an enter at depth 0, which names it, to the exit back to depth 0.
+/// Nested enters and inner exits keep it, and so does every other event.
 pub fn a_section_goes_from_its_enter_to_its_exit()
     ensures opened { (size : Size) (h : History) (cpu : ℕ) → AreAccepted size h → depth cpu h ≡ 0
         → section cpu (Event.Enter cpu ∷ h) ≡ Some (Event.Enter cpu ∷ h) }
@@ -42,14 +42,14 @@ pub fn a_section_goes_from_its_enter_to_its_exit()
         → event ≢ Event.Exit cpu → section cpu (event ∷ h) ≡ section cpu h }
 {}
 
-/// A section that is open where a grace period begins is old after that begin.
+/// A section that is open when a grace period begins is old after that begin.
 pub fn a_section_open_at_a_begin_is_old()
     ensures { (size : Size) (h opened : History) (cpu : ℕ) → AreAccepted size (Event.Begin ∷ h)
         → section cpu h ≡ Some opened → is_old cpu (Event.Begin ∷ h) ≡ true }
 {}
 
-/// An old section stays old until it is closed or the grace period ends: an exit that leaves a
-/// depth keeps it, and so does every other event.
+/// An old section stays old until it is closed or the grace period ends: an inner exit keeps it,
+/// and so does every other event.
 pub fn an_old_section_stays_old()
     ensures kept { (size : Size) (h : History) (cpu : ℕ) (event : Event)
         → AreAccepted size (event ∷ h) → is_old cpu h ≡ true → event ≢ Event.End
@@ -58,27 +58,28 @@ pub fn an_old_section_stays_old()
         → is_old cpu (Event.Exit cpu ∷ h) ≡ true }
 {}
 
-/// What came since a callback's queueing is all that stands in the history after that queueing.
+/// The events since a callback was queued are all events of the history after that one.
 pub fn what_came_since_a_queueing_follows_it()
     ensures { (ord : ℕ) (h : History) → 0 < ord → ord ≤ queue_count h → QueuedAt ord h }
 {}
 
-/// A run adds what it hands out, each copy of it, to what was handed out before it.
+/// A run adds the callbacks that it hands out, each copy of them, to those handed out before.
 pub fn a_run_adds_what_it_hands_out()
     ensures { (h : History) (cpu most ord : ℕ) → times_handed_out ord (Event.Run cpu most ∷ h)
         ≡ copies ord (handed_out cpu most h) + times_handed_out ord h }
 {}
 
-/// How many callbacks were queued before the latest barrier is told at its begin, and stays so.
+/// The count of callbacks queued before the latest barrier is fixed at its begin, and does not
+/// change later.
 pub fn a_barrier_counts_what_was_queued_before_it()
     ensures begun { (h : History) → queued_before_barrier (Event.BarBegin ∷ h) ≡ queue_count h }
     ensures kept { (h : History) (event : Event) → event ≢ Event.BarBegin
         → queued_before_barrier (event ∷ h) ≡ queued_before_barrier h }
 {}
 
-/// Memory is taken only for what is stored. Only six events take it: a quiescent state and a
-/// queueing, which store a report and a callback, and four where the reply that there would have
-/// been with memory lists a processor, moves a callback, hands one out, or puts a marker.
+/// An event needs memory only for what it stores. Six events can need it: a quiescent state and a
+/// queue event, which store a report and a callback, and four events if their reply with memory
+/// lists a processor, moves a callback, hands one out, or puts a marker.
 pub fn memory_is_wanted_only_for_what_is_stored()
     ensures events { (size : Size) (h : History) (event : Event)
         → IsLegalReply size (situation h) event (Reply.Fault Fault.NoMemory)
@@ -103,7 +104,7 @@ pub fn memory_is_wanted_only_for_what_is_stored()
 {}
 
 /// A begin surely leads on from a new core. An end while a processor is awaited does not, since it
-/// may be refused; nor does what takes memory, as a quiescent state.
+/// may be refused; nor does an event that needs memory, such as a quiescent state.
 pub fn what_may_be_refused_does_not_surely_lead()
     ensures begin { (most : ℕ) → SurelyLeads (record { cpus = 1; last = 4; most = most }) []
         (Event.Begin ∷ []) (Event.Begin ∷ []) }
@@ -125,8 +126,8 @@ pub fn what_memory_alone_refuses_leads_with_memory()
         (Event.End ∷ []) reached → ⊥ }
 {}
 
-/// A grace period has ended if one more end has come and none runs: not while it runs, nor once the
-/// next one has begun, nor once two have ended.
+/// A grace period has ended if one more end has come and no grace period runs: not while it runs,
+/// nor after the next one has begun, nor after two have ended.
 pub fn a_grace_period_has_ended_after_one_end()
     ensures ended { HasEnded (Event.Begin ∷ [])
         (Event.End ∷ Event.Scan 0 ∷ Event.Idle 0 ∷ Event.Begin ∷ []) }
@@ -138,8 +139,8 @@ pub fn a_grace_period_has_ended_after_one_end()
         (Event.End ∷ Event.Begin ∷ Event.End ∷ Event.Begin ∷ []) → ⊥ }
 {}
 
-/// The steps that are left are two for each awaited processor, or one if it is idle, and one more
-/// for each open enter; none for a processor that is not awaited; and one for the end.
+/// The remaining steps are: two for each awaited processor, or one if it is idle, and one more for
+/// each open enter; none for a processor that is not awaited; and one for the end.
 pub fn steps_that_are_left_are_counted()
     ensures begun { (last most : ℕ) → steps_left (record { cpus = 1; last = last; most = most })
         (Event.Begin ∷ []) ≡ 3 }
@@ -155,8 +156,8 @@ pub fn steps_that_are_left_are_counted()
         (Event.Online 1 ∷ Event.Begin ∷ []) ≡ 3 }
 {}
 
-/// A step is taken by an exit, a step to idle or a scan, and added by an enter or a wake, of an
-/// awaited processor only.
+/// An exit, a step to idle and a scan take a step, and an enter and a wake add one, of an awaited
+/// processor only.
 pub fn three_events_take_a_step_and_two_add_one()
     ensures helps { (event : Event) (h : History) → helps event h ≡ true → (cpu : ℕ)
         × ((awaits cpu h ≡ true) × ((event ≡ Event.Exit cpu) ⊎ ((event ≡ Event.Idle cpu)
@@ -170,7 +171,7 @@ pub fn three_events_take_a_step_and_two_add_one()
     ensures wake { (h : History) (cpu : ℕ) → hinders (Event.Wake cpu) h ≡ awaits cpu h }
 {}
 
-/// Each step counts where it was taken: a second scan of the same processor is no step.
+/// Each step counts when it was taken: a second scan of the same processor is no step.
 pub fn steps_count_where_they_are_taken()
     ensures none { (test : Event → History → Bool) (h : History) → how_often test [] h ≡ 0 }
     ensures taken { how_often helps (Event.Scan 0 ∷ Event.Scan 0 ∷ Event.Idle 0 ∷ [])
@@ -179,8 +180,8 @@ pub fn steps_count_where_they_are_taken()
         ∷ []) (Event.Begin ∷ []) ≡ 2 }
 {}
 
-/// A report is of the processor that made it and of the tag that it had noted: none of another
-/// processor, none of an earlier tag, and none before the quiescent state.
+/// A report has the processor that made it and the tag that it had noted. No report has another
+/// processor or an earlier tag, and none comes before the quiescent state.
 pub fn a_report_is_of_its_processor_and_tag()
     ensures reported { HasReported 0 (Event.Quiesce 0 ∷ Event.Note 0 ∷ Event.Begin ∷ []) }
     ensures other { HasReported 1 (Event.Quiesce 0 ∷ Event.Note 0 ∷ Event.Begin ∷ []) → ⊥ }
@@ -188,14 +189,15 @@ pub fn a_report_is_of_its_processor_and_tag()
     ensures noted { HasReported 0 (Event.Note 0 ∷ Event.Begin ∷ []) → ⊥ }
 {}
 
-/// A processor is quiet if it is idle or has reported; not once it is awake again without a report.
+/// A processor is quiet if it is idle or has reported. It is not if it woke again without a report.
 pub fn a_quiet_processor_is_idle_or_has_reported()
     ensures idle { (h : History) (cpu : ℕ) → is_idle cpu h ≡ true → IsQuiet cpu h }
     ensures reported { (h : History) (cpu : ℕ) → HasReported cpu h → IsQuiet cpu h }
     ensures awake { IsQuiet 0 (Event.Wake 0 ∷ Event.Idle 0 ∷ Event.Begin ∷ []) → ⊥ }
 {}
 
-/// Which events retire an awaited processor, and which collect what a quiet one has said.
+/// Lists the events that retire an awaited processor, and those that collect the report of a quiet
+/// one.
 pub fn few_events_retire_or_collect()
     ensures retires { (event : Event) → retires event ≡ true → (event ≡ Event.End) ⊎ ((cpu : ℕ)
         × ((event ≡ Event.Exit cpu) ⊎ ((event ≡ Event.Idle cpu) ⊎ (event ≡ Event.Scan cpu)))) }

@@ -1,4 +1,4 @@
-//! The machine over events.
+//! The engine as a machine over events.
 ghost use Rattle.std.specs.Prelude.{◌≡◌, ◌<◌, ◌≤◌, ◌^◌, false, [], length, replicate, IfErr, IfOk};
 ghost use Rattle.std.specs.Prelude.{OnErr};
 ghost use Rattle.std.specs.Result.{result_err};
@@ -28,10 +28,10 @@ use rcu_state::{GpState, Turned};
 use std::alloc::{AllocError, Global};
 use std::marker::Model;
 
-/// The machine over events: the state of the grace periods and the callbacks, what each processor
-/// keeps, and all reports ever made.
+/// The engine as a machine over events: the state of the grace periods and the callbacks, the state
+/// of each processor, and all reports ever made.
 ///
-/// Contracts see these three.
+/// Contracts see these three parts.
 #[derive(Drop)]
 pub struct Core<A: Awaited, T: Drop> {
     gp: GpState<A, T>,
@@ -39,7 +39,7 @@ pub struct Core<A: Awaited, T: Drop> {
     cpus: Vec<CpuData>,
     /// All reports, the first one first.
     reports: Vec<Report>,
-    /// The allocator that everything grows from.
+    /// The allocator of everything that grows.
     alloc: Global,
 }
 
@@ -60,7 +60,7 @@ impl<A: Awaited, T: Drop> Model for Core<A, T> {
     } };
 }
 
-/// The report of a place, counted from 1.
+/// Returns the report of a place, counted from 1.
 fn report_of(reports: &[Report], place: u64) -> Option<Report>
     ensures { result ≡ report_at place reports.now }
 {
@@ -70,7 +70,7 @@ fn report_of(reports: &[Report], place: u64) -> Option<Report>
     Some(reports[place as usize - 1])
 }
 
-/// The awaited processors, ascending, once there is room for all of them.
+/// Returns the awaited processors, ascending. It makes room for all of them first.
 fn list_awaited<A: Awaited>(alloc: Global, awaited: &A) -> Result<CpuList, AllocError>
     ensures answer { IfOk result (λ list.
         list ≡ which (length (A.awaited awaited.now)) (is_in (A.awaited awaited.now))) }
@@ -86,11 +86,12 @@ fn list_awaited<A: Awaited>(alloc: Global, awaited: &A) -> Result<CpuList, Alloc
 }
 
 impl<A: Awaited> Core<A, u64> {
-    /// A machine in the situation of the empty history: processor 0 is online, nothing runs, and
-    /// the lists are empty. The awaited set is as it was made, no grace period begins at the number
-    /// `last`, and 1,000,000 callbacks may be queued. It costs a step a processor.
+    /// Returns a machine in the situation of the empty history: processor 0 is online, no grace
+    /// period runs, and the lists are empty. The awaited set is as it was made, no grace period
+    /// begins at the number `last`, and 1,000,000 callbacks may be queued. Costs a step for each
+    /// processor.
     ///
-    /// Faults: `BadLast` (19) where `last` is not a multiple of 4 in 4..=2^62; `NoMemory` (16).
+    /// Faults: `BadLast` (19) if `last` is not a multiple of 4 in 4..=2^62; `NoMemory` (16).
     pub fn new(alloc: Global, inner: A, last: u64) -> Result<Self, Fault>
         requires tag { A.tag inner ≡ first_tag }
         requires empty { A.start_set inner ≡ replicate (length (A.awaited inner)) false }
@@ -102,9 +103,9 @@ impl<A: Awaited> Core<A, u64> {
         Core::with_most(alloc, inner, last, MOST_QUEUED)
     }
 
-    /// As [`Core::new`], in which `most` callbacks may be queued, from 1 to 2^62.
+    /// As [`Core::new`], but allows `most` callbacks to be queued, from 1 to 2^62.
     ///
-    /// Faults: `BadLast` (19) where `last` is not a multiple of 4 in 4..=2^62; `NoMemory` (16).
+    /// Faults: `BadLast` (19) if `last` is not a multiple of 4 in 4..=2^62; `NoMemory` (16).
     pub fn with_most(alloc: Global, inner: A, last: u64, most: u64) -> Result<Self, Fault>
         requires tag { A.tag inner ≡ first_tag }
         requires empty { A.start_set inner ≡ replicate (length (A.awaited inner)) false }
@@ -128,17 +129,17 @@ impl<A: Awaited> Core<A, u64> {
         })
     }
 
-    /// Takes an event: the reply is legal, and the machine is left in the situation of the history,
-    /// with the event where it was accepted. A refused event changes nothing.
+    /// Takes an event, and returns a legal reply. The machine is then in the situation of the
+    /// history, with the event if it was accepted. A refused event changes nothing.
     ///
-    /// An event costs what its calls of [`GpState`] cost, a list of the awaited a step a processor,
-    /// and any other one step.
+    /// An event costs what its calls of [`GpState`] cost; a list of the awaited processors costs a
+    /// step for each processor, and any other event one step.
     pub fn step(&mut self, event: Event) -> Reply
         ensures follows { (h : History) → Represents self.old h →
             Follows self.old h event result self.new }
         ensures unchanged { (fault : Fault) → result ≡ Reply.Fault fault → self.new ≡ self.old }
     {
-        // For the proof alone: a look at a field brings in the type's invariant.
+        // For the proof only: a borrow of a field brings in the type's invariant.
         let _ = &self.gp;
         match self.apply(event) {
             Ok(reply) => reply,
@@ -146,9 +147,9 @@ impl<A: Awaited> Core<A, u64> {
         }
     }
 
-    /// Takes these events, one after another, once there is room for all replies: they are those
-    /// that [`Core::step`] gives. What a new machine replies is a legal run, of which all laws of
-    /// runs hold. It costs what these steps cost.
+    /// Takes these events, one after another, and returns the replies of [`Core::step`]. It makes
+    /// room for all replies first. The replies of a new machine form a legal run, so all laws of
+    /// runs hold for it. Costs what these steps cost.
     ///
     /// Fault `NoMemory` (16): no event was taken.
     pub fn run(&mut self, events: &[Event]) -> Result<Vec<Reply>, Fault>
@@ -198,7 +199,7 @@ impl<A: Awaited> Core<A, u64> {
         }
     }
 
-    /// The processor's index. Fault `BadCpu` (1): there is none.
+    /// Returns the processor's index. Fault `BadCpu` (1): the processor does not exist.
     fn index_of(&self, cpu: u32) -> Result<usize, Fault>
         ensures fault { result_err result ≡ cpu_refusal self.now cpu }
         ensures index { IfOk result (λ index. index ≡ cpu) }
@@ -259,7 +260,7 @@ impl<A: Awaited> Core<A, u64> {
         }
     }
 
-    /// The index of a processor that departs, where nothing speaks against it.
+    /// Returns the index of a processor that may depart, or the fault of its departure.
     fn departing(&self, cpu: u32) -> Result<usize, Fault>
         ensures fault { result_err result
             ≡ fault_in (size_at self.now) (says self.now) (Event.Offline cpu) }

@@ -1,4 +1,4 @@
-//! What the definitions say of every run: of any events, in any order, with legal replies.
+//! Laws of every run: of any events, in any order, with legal replies.
 ghost use Rattle.std.specs.Prelude.{◌≡◌, ◌≢◌, ◌<◌, ◌≤◌, [], ◌∷◌, ◌++◌, ◌||◌, ℕ, List, Some};
 ghost use Rattle.std.specs.Prelude.{None, false, true, slice_get};
 ghost use Rattle.std.specs.List.{list_any};
@@ -20,14 +20,14 @@ pub fn old_readers_are_awaited()
         → is_old cpu (history run) ≡ true → awaits cpu (history run) ≡ true }
 {}
 
-/// An idle processor has no open section. So a scan passes over no reader.
+/// An idle processor has no open section. So a scan misses no reader.
 pub fn idle_processors_have_no_section()
     ensures { (size : Size) (run : Run) (cpu : ℕ) → IsLegalRun size run
         → is_idle cpu (history run) ≡ true → section cpu (history run) ≡ None }
 {}
 
-/// Readers finish before done: when a cookie tests done, each read section that was open at its
-/// taking has ended.
+/// Readers finish before done: when a cookie tests done, each read section that was open when it
+/// was taken has ended.
 pub fn readers_finish_before_done()
     ensures { (size : Size) (later earlier : Run) (taking : Event) (cookie : Cookie)
         (cpu : ℕ) (opened : History) → takes taking ≡ true
@@ -38,9 +38,9 @@ pub fn readers_finish_before_done()
         ≢ Some opened }
 {}
 
-/// No callback runs early: between the queueing of a callback and its handing out, a full grace
-/// period lies. The callback at each index of what a run hands out has the value that the reply
-/// tells there.
+/// No callback runs early: a full grace period lies between the event that queued a callback and
+/// the one that hands it out. The callback at each index of a run has the value that the reply
+/// gives at that index.
 pub fn no_callback_runs_early()
     ensures { (size : Size) (run : Run) (cpu most index : ℕ) (values : List ℕ) (call : Queued ℕ)
         → IsLegalRun size ((Event.Run cpu most, Reply.Ran values) ∷ run)
@@ -49,7 +49,7 @@ pub fn no_callback_runs_early()
         × (has_full_period (since call.ord (history run)) ≡ true) }
 {}
 
-/// A full grace period lies among events where one ends there that began there.
+/// A full grace period lies among events if one began and ended among them.
 pub fn a_full_period_is_a_begin_and_a_later_end()
     ensures none { has_full_period [] ≡ false }
     ensures end { (h : History)

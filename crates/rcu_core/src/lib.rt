@@ -1,5 +1,5 @@
-//! The events of the engine, its replies, what a history of events says, and the machine that takes
-//! them.
+//! The events of the engine, its replies, the meaning of a history of events, and the machine that
+//! takes them.
 #![tactic(auto)]
 
 pub mod cpu_list;

@@ -1,5 +1,5 @@
-//! No state is a dead end: which events end a running grace period, how many are left, and what two
-//! grace periods finish. Nothing is claimed of who makes these events, or when.
+//! No state is a dead end: the events that end a running grace period, how many are left, and what
+//! two grace periods finish. These laws do not say who makes these events, or when.
 ghost use Rattle.std.specs.Prelude.{◌≡◌, ◌≢◌, ◌≤◌, ◌<◌, ◌+◌, ◌⊎◌, [], ◌∷◌, ◌++◌, ℕ, true, false};
 ghost use Rattle.std.specs.Prelude.{count_by, length, List, Some, slice_get};
 ghost use Rattle.std.specs.List.{list_any};
@@ -58,8 +58,8 @@ pub fn the_last_report_lets_a_grace_period_end()
 {}
 
 /// If each awaited processor is idle or has reported the running grace period's tag, then a scan or
-/// a delivery for each of them, and the end, end it. None of these events can be refused, for want
-/// of memory either.
+/// a delivery for each of them, and then the end, end it. None of these events can be refused, not
+/// even for lack of memory.
 pub fn quiet_processors_end_a_grace_period()
     ensures { (size : Size) (run : Run) → IsLegalRun size run → running (history run) ≡ true
         → ((cpu : ℕ) → cpu < size.cpus → awaits cpu (history run) ≡ true
@@ -68,14 +68,14 @@ pub fn quiet_processors_end_a_grace_period()
 {}
 
 /// A running grace period can be ended from every state, by exactly `steps_left` events: exits,
-/// steps to idle, scans and the end. None of them can be refused, for want of memory either.
+/// steps to idle, scans and the end. None of them can be refused, not even for lack of memory.
 pub fn a_grace_period_can_end()
     ensures { (size : Size) (run : Run) → IsLegalRun size run → running (history run) ≡ true
         → EndsBy retires size (history run) (steps_left size (history run)) }
 {}
 
 /// Until the next grace period begins, only an enter or a wake of an awaited processor adds to the
-/// steps that are left.
+/// remaining steps.
 pub fn only_enters_and_wakes_lengthen_the_way()
     ensures { (size : Size) (h : History) (event : Event) → AreAccepted size (event ∷ h)
         → event ≢ Event.Begin
@@ -84,8 +84,8 @@ pub fn only_enters_and_wakes_lengthen_the_way()
         → steps_left size (event ∷ h) ≤ steps_left size h }
 {}
 
-/// An exit, a step to idle and a scan of an awaited processor take one from the steps that are
-/// left; an enter and a wake of one add one.
+/// An exit, a step to idle and a scan of an awaited processor take one from the remaining steps; an
+/// enter and a wake of one add one.
 pub fn each_step_of_an_awaited_processor_counts()
     ensures exit { (size : Size) (h : History) (cpu : ℕ) → AreAccepted size (Event.Exit cpu ∷ h)
         → awaits cpu h ≡ true → steps_left size (Event.Exit cpu ∷ h) + 1 ≡ steps_left size h }
@@ -100,8 +100,8 @@ pub fn each_step_of_an_awaited_processor_counts()
 {}
 
 /// The steps of awaited processors add up, whatever other events come between: the steps left now,
-/// plus those that were taken, are at most the steps left before, plus those that enters and wakes
-/// added. Once as many were taken, the end is accepted.
+/// plus those taken, are at most the steps left before, plus those that enters and wakes added.
+/// Once that many steps were taken, the end is accepted.
 pub fn steps_count_whatever_comes_between()
     ensures left { (size : Size) (later h : History) → AreAccepted size (later ++ h)
         → list_any begins later ≡ false
@@ -160,7 +160,7 @@ pub fn two_grace_periods_finish_a_cookie()
 {}
 
 /// From every state some events, none of which can be refused, lead to one in which a cookie taken
-/// now tests done, and at most two grace periods end among them. So it is exactly if the cookie
+/// now tests done, and at most two grace periods end among them. This holds exactly if the cookie
 /// does not wait for a number above the last in the last epoch.
 pub fn a_cookie_can_be_done()
     ensures can { (size : Size) (run : Run) → IsLegalRun size run → is_last size.last ≡ true
@@ -204,8 +204,8 @@ pub fn two_tends_and_a_grace_period_finish_callbacks()
 {}
 
 /// From every state some events lead to one in which each callback queued so far was handed out,
-/// and at most two grace periods end among them. Only want of memory can refuse one of these
-/// events. The next full grace period must not need a number above the last in the last epoch.
+/// and at most two grace periods end among them. Only a refused allocation can make one of these
+/// events fail. The next full grace period must not need a number above the last in the last epoch.
 pub fn each_callback_can_be_handed_out()
     ensures { (size : Size) (run : Run) → IsLegalRun size run → is_last size.last ≡ true
         → (snapshot (number (history run)) ≤ size.last) ⊎ (epoch (history run) < last_epoch)
@@ -226,8 +226,8 @@ pub fn handed_out_callbacks_finish_a_barrier()
 {}
 
 /// While a barrier runs, some events lead to a test that answers done, and at most two grace
-/// periods end among them. Only want of memory can refuse one of these events. The next full grace
-/// period must not need a number above the last in the last epoch.
+/// periods end among them. Only a refused allocation can make one of these events fail. The next
+/// full grace period must not need a number above the last in the last epoch.
 pub fn a_barrier_can_be_done()
     ensures { (size : Size) (run : Run) → IsLegalRun size run → barrier_runs (history run) ≡ true
         → is_last size.last ≡ true
@@ -235,8 +235,9 @@ pub fn a_barrier_can_be_done()
         → CanFinishBarrier size (history run) }
 {}
 
-/// Each event has a legal reply, so a list of events that surely leads on can be made. A core that
-/// takes it represents the history that it leads to, and has refused none of its events.
+/// Each event has a legal reply, so a list of events that surely leads on can always be made. A
+/// core that takes the list represents the history that it leads to, and refuses none of its
+/// events.
 pub fn what_surely_leads_on_leads_a_core()
     ensures legal { (size : Size) (h : History) (event : Event)
         → IsLegalReply size (situation h) event (answer size (situation h) event) }

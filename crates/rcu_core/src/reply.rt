@@ -1,4 +1,4 @@
-//! What the engine replies.
+//! The replies of the engine.
 
 use crate::cpu_list::CpuList;
 use crate::value_list::ValueList;
@@ -10,13 +10,13 @@ use rcu_seq::{Cookie, Fault};
 /// The reply to an event.
 #[derive(Debug, Drop)]
 pub enum Reply {
-    /// How deep the processor's read sections nest now.
+    /// The depth of the processor's read sections now.
     Depth(u32),
-    /// The number that was taken down, and whether the processor is awaited.
+    /// The number that was noted, and whether the processor is awaited.
     Noted(u64, bool),
     /// The place of the report among all reports, counted from 1, and the report.
     Made(u64, Report),
-    /// What the delivered report did, or the scan.
+    /// The answer to the delivered report, or to the scan.
     Answer(Answer),
     /// The processor arrived.
     Online,
@@ -44,13 +44,13 @@ pub enum Reply {
     Ran(ValueList),
     /// A barrier began.
     BarBegun,
-    /// What the visit did.
+    /// The result of the visit.
     Visited(Visit),
-    /// The barrier is over.
+    /// The barrier is done.
     BarDone,
     /// The barrier goes on, and waits for this many markers and unvisited processors.
     BarWaits(u64),
-    /// The numbers started anew, in this epoch.
+    /// The counter was renumbered, into this epoch.
     Renumbered(u64),
     /// The processor went idle.
     Idle,

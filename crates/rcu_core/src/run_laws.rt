@@ -1,4 +1,4 @@
-//! What ties a run to the laws.
+//! Laws that connect runs with the laws of histories.
 ghost use Rattle.std.specs.Prelude.{◌≡◌, ◌≢◌, ◌+◌, ◌<◌, ◌≤◌, ◌&&◌, not, true, [], ◌∷◌, ℕ, List};
 ghost use Rattle.std.specs.Prelude.{Some, length, slice_get};
 ghost use Rattle.rcu_seq.specs.Tags.{is_before};
@@ -15,7 +15,7 @@ ghost use Rattle.rcu_core.specs.Runs.{IsLegalRun, Leads, Run, RunsLegally, histo
 use crate::event::Event;
 use crate::reply::Reply;
 
-/// A run of no event is legal.
+/// The empty run is legal.
 pub fn no_event_is_a_legal_run()
     ensures { (size : Size) → IsLegalRun size [] }
 {}
@@ -36,8 +36,8 @@ pub fn a_legal_run_has_legal_replies()
         → IsLegalRun size ((event, reply) ∷ run) → IsLegalRun size run }
 {}
 
-/// Legal replies to a list of events are as many as the events. They make a legal run longer by
-/// them, and its history is the one that they lead to.
+/// A list of events has as many legal replies as events. They extend a legal run, whose history is
+/// then the one that they lead to.
 pub fn a_run_of_events_is_legal()
     ensures legal { (size : Size) (run : Run) (events : List Event) (replies : List Reply)
         (reached : History) → IsLegalRun size run → Leads size (history run) events replies reached
@@ -49,9 +49,9 @@ pub fn a_run_of_events_is_legal()
         → Leads size h events replies reached → length replies ≡ length events }
 {}
 
-/// What a core returned for a list of events is a legal run, put on any legal run that led to its
-/// state; and the core stands in the situation of that run's history. So each law of runs is one of
-/// cores.
+/// The replies of a core to a list of events are a legal run, on top of any legal run that led to
+/// the core's state; and the core is in the situation of that run's history. So each law of runs is
+/// a law of cores.
 pub fn what_a_core_ran_is_a_legal_run()
     ensures legal { (v w : State ℕ) (h : History) (run : Run) (events : List Event)
         (replies : List Reply) → RunsLegally v h events replies w → IsLegalRun (size_at v) run
@@ -66,7 +66,7 @@ pub fn what_a_core_ran_is_a_legal_run()
 {}
 
 /// The callbacks that a run hands out were queued: there are as many as the reply has values, and
-/// each one has the place, the tag and the value of its queueing.
+/// each one has the place, the tag and the value with which it was queued.
 pub fn handed_callbacks_were_queued()
     ensures length { (size : Size) (run : Run) (cpu most : ℕ) (values : List ℕ)
         → IsLegalRun size ((Event.Run cpu most, Reply.Ran values) ∷ run)
@@ -76,7 +76,7 @@ pub fn handed_callbacks_were_queued()
         → queued_as call.ord (history run) ≡ Some call }
 {}
 
-/// Readers finish before callbacks: when a callback is handed out, each section that is open then
+/// Readers finish before callbacks: when a callback is handed out, each section that is then open
 /// was opened after the callback was queued, and at a later number or in a later epoch.
 pub fn readers_finish_before_callbacks()
     ensures later { (size : Size) (run : Run) (cpu most index reader : ℕ) (call : Queued ℕ)
@@ -89,23 +89,23 @@ pub fn readers_finish_before_callbacks()
         → section reader (history run) ≡ Some opened → call.ord ≤ queue_count opened }
 {}
 
-/// Whom a history awaits, whether its latest grace period runs or has ended: those of the start
-/// set that were not heard since.
+/// A history awaits the processors of the start set that were not heard since, whether its latest
+/// grace period runs or has ended.
 pub fn the_awaited_are_those_not_heard()
     ensures { (size : Size) (h : History) (cpu : ℕ) → AreAccepted size h → cpu < size.cpus
         → awaits cpu h ≡ (starts cpu h && not (is_heard cpu (tag h) h)) }
 {}
 
-/// A start set is who was online at the begin, until the next begin.
+/// The start set is the set of processors online at the begin, until the next begin.
 pub fn a_start_set_is_who_was_online_at_the_begin()
     ensures begin { (h : History) (cpu : ℕ) → starts cpu (Event.Begin ∷ h) ≡ online cpu h }
     ensures other { (h : History) (cpu : ℕ) (event : Event) → event ≢ Event.Begin
         → starts cpu (event ∷ h) ≡ starts cpu h }
 {}
 
-/// Two engines, of any kinds of awaited set and any last numbers, whose latest grace periods had
-/// one tag and one start set, and in which the same processors of it were heard since, in any
-/// order, await the same processors, whether either grace period runs or has ended.
+/// If the latest grace periods of two engines had one tag and one start set, and both engines heard
+/// the same processors since, they await the same processors. The kinds of awaited set, the last
+/// numbers, and the order make no difference, nor whether either grace period runs or has ended.
 pub fn equally_heard_cores_await_the_same()
     ensures { (size other : Size) (h g : History) → AreAccepted size h → AreAccepted other g
         → tag h ≡ tag g → ((cpu : ℕ) → starts cpu h ≡ starts cpu g)
@@ -113,8 +113,8 @@ pub fn equally_heard_cores_await_the_same()
         → (cpu : ℕ) → cpu < size.cpus → cpu < other.cpus → awaits cpu h ≡ awaits cpu g }
 {}
 
-/// A processor is heard exactly where some event since the latest begin tells it: which one, how
-/// many, and what else came makes no difference.
+/// A processor is heard exactly if some event since the latest begin is a report, a departure or a
+/// scan of it. It makes no difference which event, how many, and what else came.
 pub fn heard_means_told()
     ensures told { (cpu : ℕ) (tag : Tag) (h : History) → is_heard cpu tag h ≡ true
         → ToldSince cpu tag h }
@@ -122,7 +122,7 @@ pub fn heard_means_told()
         → is_heard cpu tag h ≡ true }
 {}
 
-/// No callback is lost: each one that was queued was handed out or lies in one list, once.
+/// No callback is lost: each queued callback was handed out once, or is in one list once.
 pub fn no_callback_is_lost()
     ensures { (size : Size) (run : Run) (ord : ℕ) → IsLegalRun size run → 0 < ord
         → ord ≤ queue_count (history run)

@@ -1,4 +1,4 @@
-//! Values in a row.
+//! A list of values.
 ghost use Rattle.std.specs.Prelude.{◌≡◌, ◌<◌, ◌==◌, length, map, slice_index};
 
 use rcu_cblist::Queued;
@@ -20,28 +20,28 @@ impl Model for ValueList {
 }
 
 impl ValueList {
-    /// The values of these callbacks, which are not copied.
+    /// Returns the values of these callbacks, without a copy.
     pub fn new(calls: Vec<Queued<u64>>) -> ValueList
         ensures { result ≡ map (λ call. call.value) calls.items }
     {
         ValueList { calls }
     }
 
-    /// How many there are.
+    /// Returns how many values the list has.
     pub fn len(&self) -> usize
         ensures { result ≡ length self.now }
     {
         self.calls.len()
     }
 
-    /// Whether there is none.
+    /// Returns whether the list is empty.
     pub fn is_empty(&self) -> bool
         ensures { result ≡ length self.now == 0 }
     {
         self.calls.is_empty()
     }
 
-    /// The value of an index, counted from 0.
+    /// Returns the value at an index, counted from 0.
     pub fn value(&self, index: usize) -> u64
         requires { index < length self.now }
         ensures { result ≡ slice_index self.now index }

@@ -1,4 +1,4 @@
-//! What the laws of runs say of data: of stories, in which versions of a value are published and
+//! The laws of runs, applied to data: to stories, in which versions of a value are published and
 //! loaded between the events.
 ghost use Rattle.std.specs.Prelude.{◌≡◌, ◌≢◌, ◌∷◌, ◌++◌, [], ℕ, true, false};
 ghost use Rattle.rcu_seq.specs.declared.cookie.Cookie.{Cookie};
@@ -11,8 +11,8 @@ use crate::event::Event;
 use crate::laws::readers_finish_before_done;
 use crate::reply::Reply;
 
-/// A section that loads comes to hold the version that was published last. It holds what it held
-/// until it closes, whatever is published meanwhile, and whoever loads.
+/// A section that loads holds the version that was published last. It holds it until it closes,
+/// whatever is published meanwhile, and whichever processor loads.
 pub fn a_section_holds_what_it_loaded()
     ensures loaded { (cpu : ℕ) (story : Story) → is_open cpu story ≡ true
         → holds_version cpu (current story) (Load cpu ∷ story) ≡ true }
@@ -27,8 +27,8 @@ pub fn a_section_holds_what_it_loaded()
         → holds_version cpu version (Load loader ∷ story) ≡ true }
 {}
 
-/// A story publishes a version exactly where it has that publication: the publication of another
-/// one, a load and an event with its reply publish nothing.
+/// A story publishes a version exactly if it has that publication: the publication of another one,
+/// a load and an event with its reply publish nothing.
 pub fn a_story_publishes_what_it_has()
     ensures none { (version : ℕ) → publishes version [] ≡ false }
     ensures published { (version : ℕ) (later before : Story)

@@ -1,4 +1,4 @@
--- What a call that is accepted says of its processor.
+-- What an accepted call implies for its processor.
 use Rattle.std.proofs.Common.{◌≡◌, ◌≢◌, ◌<◌, true, false, arith}
 use Rattle.std.proofs.lemmas.Bool.Decides.{nat_tests}
 use Rattle.rcu_seq.specs.declared.tag.Tag.{Tag}
@@ -14,7 +14,7 @@ accepted_enter p e = grind (arith, nat_tests, e)
 pub accepted_exit : (p : Processor) → IsAccepted p Exit → 0 < p.depth
 accepted_exit p e = grind (arith, nat_tests, e)
 
--- an exit is accepted where a section is open
+-- an exit is accepted if a section is open
 pub exit_accepted : (p : Processor) → 0 < p.depth → IsAccepted p Exit
 exit_accepted p deep = grind (arith, nat_tests, deep)
 
@@ -44,7 +44,7 @@ accepted_idle p e = grind (arith, nat_tests, e)
 pub accepted_wake : (p : Processor) → IsAccepted p Wake → (p.online ≡ true) × (p.idle ≡ true)
 accepted_wake p e = grind (arith, nat_tests, e)
 
--- a quiescent state is accepted where the processor is online and not idle and no section is open
+-- a quiescent state is accepted if the processor is online and not idle and no section is open
 pub quiesce_accepted : (p : Processor) → p.online ≡ true → p.idle ≡ false → p.depth ≡ 0
     → IsAccepted p Quiesce
 quiesce_accepted p there awake none = grind (arith, nat_tests, there, awake, none)

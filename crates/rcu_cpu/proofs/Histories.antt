@@ -1,4 +1,4 @@
--- What accepted calls leave of a processor.
+-- The state of a processor after accepted calls.
 use Rattle.std.proofs.Common.{◌≡◌, ℕ, ◌+◌, ◌-◌, ◌<◌, ◌≤◌, ◌==◌, ◌↔◌, Bool, true, false, not, cond}
 use Rattle.std.proofs.Common.{◌&&◌, ◌||◌, List, []}
 use Rattle.std.proofs.Common.{◌∷◌, count_by, refl, sym, ap, ◌∙◌, arith}
@@ -13,7 +13,7 @@ use Rattle.rcu_cpu.specs.Sections.{enters, exits, nesting, is_idle, is_open, is_
 use Rattle.rcu_cpu.proofs.Accepted.{accepted_depart, accepted_enter, accepted_exit, accepted_idle}
 use Rattle.rcu_cpu.proofs.Accepted.{accepted_quiesce, exit_accepted, quiesce_accepted}
 
--- one call more counts 1 where it passes the test
+-- one call more counts 1 if it passes the test
 count_by-cons : (test : Call → Bool) (call : Call) (earlier : List Call) →
     count_by test (call ∷ earlier) ≡ cond (test call) 1 0 + count_by test earlier
 count_by-cons test call earlier = sum_by-cons (λ c. cond (test c) 1 0) call earlier
@@ -39,7 +39,7 @@ pub depth_is_nesting : (cpu : ℕ) (online : Bool) (calls : List Call) → AreAc
 depth_is_nesting cpu online calls accepted =
     let both = depth_and_exits cpu online calls accepted in omega arith
 
--- there are no more exits than enters
+-- a processor exits at most as often as it enters
 pub exits_within_enters : (cpu : ℕ) (online : Bool) (calls : List Call)
     → AreAccepted cpu online calls
     → count_by exits calls ≤ count_by enters calls
@@ -51,13 +51,13 @@ entered : (depth nested : ℕ) (was_open : Bool) → depth ≡ nested → was_op
     ((nested == 0) || (was_open && true)) ≡ not (depth + 1 == 0)
 entered depth nested was_open same before = grind (arith, nat_tests)
 
--- after an exit a section is open where the depth that is left is not 0
+-- after an exit a section is open if the remaining depth is not 0
 exited : (depth nested : ℕ) (was_open : Bool) → 0 < depth → depth - 1 ≡ nested
     → was_open ≡ not (depth == 0)
     → (was_open && not (nested == 0)) ≡ not (depth - 1 == 0)
 exited depth nested was_open deep same before = grind (arith, nat_tests)
 
--- a section is open exactly where the depth is not 0
+-- a section is open exactly if the depth is not 0
 pub open_where_nested : (cpu : ℕ) (online : Bool) (calls : List Call) → AreAccepted cpu online calls
     → is_open calls ≡ not ((after_calls cpu online calls).depth == 0)
 open_where_nested cpu online [] accepted = refl
@@ -92,7 +92,7 @@ closed_after_outer_exit cpu online calls accepted one =
     open_where_nested cpu online (Exit ∷ calls) (exit, accepted)
     ∙ ap (λ depth. not (depth - 1 == 0)) one
 
--- the processor is online where the calls say so
+-- the processor is online if it is by the calls
 online_as_said : (cpu : ℕ) (online : Bool) (calls : List Call)
     → (after_calls cpu online calls).online ≡ is_online online calls
 online_as_said cpu online [] = refl
@@ -122,7 +122,7 @@ closed_where_offline cpu online calls accepted offline =
     (online_as_said cpu online calls ∙ offline) in
     open_where_nested cpu online calls accepted ∙ ap (λ depth. not (depth == 0)) none
 
--- the processor is idle where the calls say so
+-- the processor is idle if it is by the calls
 pub idle_as_said : (cpu : ℕ) (online : Bool) (calls : List Call)
     → (after_calls cpu online calls).idle ≡ is_idle calls
 idle_as_said cpu online [] = refl
@@ -168,8 +168,8 @@ closed_where_idle cpu online calls accepted idle =
 not_tested : (depth : ℕ) → not (depth == 0) ≡ false → depth ≡ 0
 not_tested depth test = grind (arith, nat_tests)
 
--- a quiescent state is reported exactly where the processor is online and not idle and no section
--- is open
+-- a quiescent state is reported exactly if the processor is online and not idle and no section is
+-- open
 pub accepted_outside_sections : (cpu : ℕ) (online : Bool) (calls : List Call)
     → AreAccepted cpu online calls
     → IsAccepted (after_calls cpu online calls) Quiesce

@@ -1,4 +1,4 @@
--- One processor: its calls, why each is refused, and what it leaves.
+-- One processor: its calls, why each is refused, and the state after it.
 use Rattle.std.specs.Prelude.{ℕ, ◌+◌, ◌-◌, ◌≡◌, ◌==◌, Bool, true, false, not, nat_lt, List, [], ◌∷◌}
 use Rattle.std.specs.Prelude.{Option, None}
 use Rattle.rcu_seq.specs.Fault.{first_fault}
@@ -10,8 +10,8 @@ use Rattle.rcu_seq.specs.declared.fault.Fault.TheVariants.{NotIdle, NotOpen, Off
 use Rattle.rcu_seq.specs.declared.tag.Tag.{Tag}
 use Rattle.rcu_report.specs.declared.batch.Report.{Report}
 
--- a processor: its number, whether it is online, whether it is idle, how deep its read sections
--- nest, and the tag that it noted
+-- a processor: its number, whether it is online, whether it is idle, the depth of its read
+-- sections, and the tag that it noted
 pub record Processor : Type 0 where
   pub cpu : ℕ
   pub online : Bool
@@ -19,11 +19,11 @@ pub record Processor : Type 0 where
   pub depth : ℕ
   pub noted : Tag
 
--- how deep read sections nest at most
+-- the greatest depth of read sections
 abbrev pub deepest : ℕ
 deepest = 65535
 
--- a processor at its making: it is awake, no section is open, and number 0 of epoch 0 is noted
+-- a new processor: it is awake, no section is open, and number 0 of epoch 0 is noted
 abbrev pub at_first : ℕ → Bool → Processor
 at_first cpu online = record {
   cpu = cpu;
@@ -37,7 +37,7 @@ at_first cpu online = record {
 abbrev pub report_of : Processor → Report
 report_of p = record { cpu = p.cpu; tag = p.noted }
 
--- a call; a note and an arrival are given the tag of now
+-- a call; a note and an arrival take the tag of now as an argument
 pub data Call : Type 0 where
   Enter : Call
   Exit : Call
@@ -58,7 +58,7 @@ idle_cause p = (p.idle, CpuIdle)
 abbrev pub section_cause : Processor → Bool × Fault
 section_cause p = (nat_lt 0 p.depth, InSection)
 
--- what is tested of a call, in order: a cause, and the fault that it is answered by
+-- the tests of a call, in order: each a cause and its fault
 abbrev pub causes : Processor → Call → List (Bool × Fault)
 causes p Enter = offline_cause p ∷ idle_cause p ∷ (p.depth == deepest, NestFull) ∷ []
 causes p Exit = (p.depth == 0, NotOpen) ∷ []
@@ -69,7 +69,7 @@ causes p Depart = offline_cause p ∷ section_cause p ∷ []
 causes p Idle = offline_cause p ∷ idle_cause p ∷ section_cause p ∷ []
 causes p Wake = offline_cause p ∷ (not p.idle, NotIdle) ∷ []
 
--- why a call is refused, if it is: the fault of the first cause that stands
+-- why a call is refused, if it is: the fault of the first cause that holds
 abbrev pub refusal : Processor → Call → Option Fault
 refusal p call = first_fault (causes p call)
 
@@ -77,7 +77,8 @@ refusal p call = first_fault (causes p call)
 abbrev pub IsAccepted : Processor → Call → Type 0
 IsAccepted p call = refusal p call ≡ None
 
--- the processor after an accepted call: a departure ends its idleness, and an arrival comes awake
+-- the processor after an accepted call: a departure ends its idleness, and a processor arrives
+-- awake
 abbrev pub after_call : Processor → Call → Processor
 after_call p Enter = record p { depth = p.depth + 1 }
 after_call p Exit = record p { depth = p.depth - 1 }
@@ -88,7 +89,7 @@ after_call p Depart = record p { online = false; idle = false }
 after_call p Idle = record p { idle = true }
 after_call p Wake = record p { idle = false }
 
--- the processor made so, after these calls, the newest first
+-- a new processor of this number, online or not, after these calls, the newest first
 abbrev pub after_calls : ℕ → Bool → List Call → Processor
 after_calls cpu online [] = at_first cpu online
 after_calls cpu online (call ∷ earlier) = after_call (after_calls cpu online earlier) call

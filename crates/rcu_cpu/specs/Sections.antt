@@ -1,4 +1,4 @@
--- What the accepted calls of one processor, the newest first, say of its read sections.
+-- The read sections of one processor, as its accepted calls, the newest first, define them.
 use Rattle.std.specs.Prelude.{ℕ, ◌-◌, ◌==◌, Bool, true, false, not, ◌&&◌, ◌||◌, List, [], ◌∷◌}
 use Rattle.std.specs.Prelude.{count_by}
 use Rattle.rcu_seq.specs.Histories.{is_on}
@@ -38,7 +38,7 @@ ends_idleness Depart = true
 ends_idleness (Arrive _) = true
 ends_idleness _ = false
 
--- how deep the sections nest: the enters less the exits
+-- the depth of the sections: the number of enters less the number of exits
 abbrev pub nesting : List Call → ℕ
 nesting calls = count_by enters calls - count_by exits calls
 
@@ -55,8 +55,8 @@ abbrev pub is_open : List Call → Bool
 is_open [] = false
 is_open (call ∷ earlier) = opens call earlier || (is_open earlier && not (closes call earlier))
 
--- the processor is online: its last arrival or departure is an arrival; before any, it is as at its
--- making
+-- the processor is online: its last arrival or departure is an arrival; before any such call, it is
+-- as it was when it was made
 abbrev pub is_online : Bool → List Call → Bool
 is_online at_making calls = is_on at_making arrives departs calls
 

@@ -1,4 +1,4 @@
-//! What one processor keeps.
+//! The state of one processor.
 ghost use Rattle.std.specs.Prelude.{◌≡◌, ◌≤◌, [], ◌∷◌, true, false, IfOk, OnOk, OnErr};
 ghost use Rattle.std.specs.Result.{result_err};
 ghost use Rattle.rcu_seq.specs.Fault.{first_fault};
@@ -10,11 +10,11 @@ use rcu_report::Report;
 use rcu_seq::{Fault, Tag};
 use std::marker::Model;
 
-/// How deep read sections nest at most.
+/// The greatest depth of read sections.
 const DEEPEST: u32 = 65_535;
 
-/// What one processor keeps: whether it is online, whether it is idle, how deep its read sections
-/// nest, and the tag that it noted (Linux's `rcu_data` and `rcu_read_lock_nesting`).
+/// The state of one processor: whether it is online and whether it is idle, the depth of its read
+/// sections, and the tag that it noted (Linux's `rcu_data` and `rcu_read_lock_nesting`).
 ///
 /// A read section is open from an enter at depth 0 to the exit that brings the depth back to 0.
 /// None is open on an offline processor, nor on an idle one, which is online.
@@ -49,8 +49,8 @@ impl Model for CpuData {
 }
 
 impl CpuData {
-    /// A processor of this number, which is awake, with no section open and number 0 of epoch 0
-    /// noted.
+    /// Returns a processor of this number, which is awake, has no open section, and noted number 0
+    /// of epoch 0.
     pub fn new(cpu: u32, online: bool) -> CpuData
         ensures { result ≡ at_first cpu online }
     {
@@ -70,14 +70,14 @@ impl CpuData {
         self.cpu
     }
 
-    /// Whether the processor is online.
+    /// Returns whether the processor is online.
     pub fn online(&self) -> bool
         ensures { result ≡ self.now.online }
     {
         self.online
     }
 
-    /// Whether the processor is idle. Then it is online, and no section of it is open.
+    /// Returns whether the processor is idle. An idle processor is online, and has no open section.
     pub fn is_idle(&self) -> bool
         ensures value { result ≡ self.now.idle }
         ensures idle { result ≡ true → (self.now.online ≡ true) × (self.now.depth ≡ 0) }
@@ -85,8 +85,8 @@ impl CpuData {
         self.idle
     }
 
-    /// How deep the read sections nest, 0 to 65,535: 0 where none is open, as on an offline
-    /// processor.
+    /// Returns the depth of the read sections, 0 to 65,535. It is 0 if none is open, as on an
+    /// offline processor.
     pub fn depth(&self) -> u32
         ensures value { result ≡ self.now.depth }
         ensures bounded { result ≤ deepest }
@@ -105,8 +105,8 @@ impl CpuData {
     /// Opens a read section, or nests one deeper in the open one, and returns the new depth, 1 to
     /// 65,535 (Linux's `__rcu_read_lock`).
     ///
-    /// Faults: `Offline` (2) where the processor is offline; `CpuIdle` (23) where it is idle;
-    /// `NestFull` (6) where the depth is 65,535.
+    /// Faults: `Offline` (2) if the processor is offline; `CpuIdle` (23) if it is idle; `NestFull`
+    /// (6) if the depth is 65,535.
     pub fn enter(&mut self) -> Result<u32, Fault>
         ensures depth { IfOk result (λ depth. depth ≡ self.new.depth) }
         ensures bounded { self.new.depth ≤ deepest }
@@ -122,8 +122,8 @@ impl CpuData {
         Ok(self.depth)
     }
 
-    /// Leaves the innermost read section, and returns the new depth, 0 to 65,534: at 0 no section
-    /// is open any more (Linux's `__rcu_read_unlock`).
+    /// Closes the innermost read section, and returns the new depth, 0 to 65,534. At depth 0 no
+    /// section is open (Linux's `__rcu_read_unlock`).
     ///
     /// Fault `NotOpen` (5): no section is open.
     pub fn exit(&mut self) -> Result<u32, Fault>
@@ -149,7 +149,8 @@ impl CpuData {
         Ok(())
     }
 
-    /// Notes the tag of now, as [`note`](Self::note), on a processor that is known to be online.
+    /// Notes the tag of now, as [`note`](Self::note) does, on a processor that is known to be
+    /// online.
     pub fn set_noted(&mut self, now: Tag)
         requires { self.old.online ≡ true }
         ensures { self.new ≡ after_call self.old (Note now) }
@@ -157,11 +158,11 @@ impl CpuData {
         self.noted = now;
     }
 
-    /// The report of a quiescent state: of the processor and its noted tag (Linux's
+    /// Reports a quiescent state: returns a report of the processor and its noted tag (Linux's
     /// `rcu_report_qs_rdp`).
     ///
-    /// Faults: `Offline` (2) where the processor is offline; `CpuIdle` (23) where it is idle;
-    /// `InSection` (4) where a section is open.
+    /// Faults: `Offline` (2) if the processor is offline; `CpuIdle` (23) if it is idle; `InSection`
+    /// (4) if a section is open.
     pub fn quiesce(&self) -> Result<Report, Fault>
         ensures report { IfOk result (λ report. report ≡ report_of self.now) }
         ensures fault { result_err result ≡ refusal self.now Quiesce }
@@ -177,7 +178,7 @@ impl CpuData {
         }
     }
 
-    /// The processor is online from now on, and awake, and notes the tag of now (Linux's
+    /// Brings the processor online. It is awake, and notes the tag of now (Linux's
     /// `rcutree_report_cpu_starting`).
     ///
     /// Fault `AlreadyOnline` (3): the processor is online.
@@ -194,10 +195,9 @@ impl CpuData {
         Ok(())
     }
 
-    /// The processor is offline from now on (Linux's `rcutree_report_cpu_dead`), and idle no more.
+    /// Takes the processor offline, and ends its idleness (Linux's `rcutree_report_cpu_dead`).
     ///
-    /// Faults: `Offline` (2) where the processor is offline; `InSection` (4) where a section is
-    /// open.
+    /// Faults: `Offline` (2) if the processor is offline; `InSection` (4) if a section is open.
     pub fn depart(&mut self) -> Result<(), Fault>
         ensures fault { result_err result ≡ refusal self.old Depart }
         ensures state { OnOk result (self.new ≡ after_call self.old Depart) }
@@ -212,11 +212,11 @@ impl CpuData {
         Ok(())
     }
 
-    /// The processor is idle from now on: it opens no section until it wakes (Linux's
-    /// `ct_idle_enter`, liburcu's `rcu_thread_offline`).
+    /// Makes the processor idle: it opens no section until it wakes (Linux's `ct_idle_enter`,
+    /// liburcu's `rcu_thread_offline`).
     ///
-    /// Faults: `Offline` (2) where the processor is offline; `CpuIdle` (23) where it is idle;
-    /// `InSection` (4) where a section is open.
+    /// Faults: `Offline` (2) if the processor is offline; `CpuIdle` (23) if it is idle; `InSection`
+    /// (4) if a section is open.
     pub fn idle(&mut self) -> Result<(), Fault>
         ensures fault { result_err result ≡ refusal self.old Idle }
         ensures state { OnOk result (self.new ≡ after_call self.old Idle) }
@@ -230,9 +230,9 @@ impl CpuData {
         Ok(())
     }
 
-    /// The processor is awake from now on (Linux's `ct_idle_exit`, liburcu's `rcu_thread_online`).
+    /// Wakes the idle processor (Linux's `ct_idle_exit`, liburcu's `rcu_thread_online`).
     ///
-    /// Faults: `Offline` (2) where the processor is offline; `NotIdle` (24) where it is awake.
+    /// Faults: `Offline` (2) if the processor is offline; `NotIdle` (24) if it is awake.
     pub fn wake(&mut self) -> Result<(), Fault>
         ensures fault { result_err result ≡ refusal self.old Wake }
         ensures state { OnOk result (self.new ≡ after_call self.old Wake) }
@@ -246,7 +246,7 @@ impl CpuData {
         Ok(())
     }
 
-    /// Refuses where the processor is offline, by fault `Offline` (2).
+    /// Checks that the processor is online: fault `Offline` (2) if it is not.
     fn check_online(&self) -> Result<(), Fault>
         ensures fault { result_err result ≡ first_fault (offline_cause self.now ∷ []) }
     {
@@ -256,8 +256,8 @@ impl CpuData {
         Ok(())
     }
 
-    /// Refuses where the processor is offline, by fault `Offline` (2), or idle, by fault `CpuIdle`
-    /// (23).
+    /// Checks that the processor is online and awake: fault `Offline` (2) if it is offline, fault
+    /// `CpuIdle` (23) if it is idle.
     fn check_awake(&self) -> Result<(), Fault>
         ensures fault { result_err result
             ≡ first_fault (offline_cause self.now ∷ idle_cause self.now ∷ []) }

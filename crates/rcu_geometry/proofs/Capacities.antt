@@ -84,10 +84,11 @@ levels_least s legal more =
     let second = capacity_rises s legal 1 2 (omega arith) in
     grind (arith, nat_tests)
 
--- what is known of the number of levels
+-- facts on the number of levels
 pub ruleset levels_rules = (levels_range, levels_hold, levels_least)
 
--- a number of levels that hold all processors, where one less would not, is theirs
+-- if a number of levels holds all processors, and one less would not, it is the tree's number of
+-- levels
 pub levels_at : (s : Shape) (n : ℕ) → IsLegalShape s → 1 ≤ n → (1 < n → capacity s (n - 2) < s.cpus)
     → s.cpus ≤ capacity s (n - 1) → levels s ≡ n
 levels_at s n legal some least enough = elim (cases_lt (levels s) n) [

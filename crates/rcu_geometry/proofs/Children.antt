@@ -1,4 +1,5 @@
--- The children of a node and the processors of a leaf: how many there are, and that there is one.
+-- The children of a node and the processors of a leaf: bounds of their number, and that each has
+-- one.
 use Rattle.std.proofs.Common.{◌≡◌, ℕ, ◌+◌, ◌-◌, ◌*◌, ◌<◌, ◌≤◌, ◌==◌, true, count_by, refl, sym, ap}
 use Rattle.std.proofs.Common.{subst, ◌∙◌, arith, inl, inr}
 use Rattle.std.specs.List.{range_with_len}

@@ -1,4 +1,4 @@
--- How many numbers of a range pass a test, where those that pass have keys of their own.
+-- How many numbers of a range pass a test, if those that pass have keys of their own.
 use Rattle.std.proofs.Common.{◌≡◌, ℕ, zero, suc, ◌+◌, ◌<◌, ◌≤◌, ◌==◌, ◌&&◌, nat_lt, Bool, true}
 use Rattle.std.proofs.Common.{false, cond, List, [], ◌∷◌, count_by, arith, inl, inr}
 use Rattle.std.specs.List.{range_with_len}
@@ -6,7 +6,7 @@ use Rattle.std.proofs.lemmas.Bool.{cases_Bool}
 use Rattle.std.proofs.lemmas.Bool.Decides.{nat_tests}
 use Rattle.std.proofs.lemmas.List.Sums.{sum_by-cons, sum_by-le-sum_by}
 
--- where none passes there is none
+-- if none passes, the count is 0
 count-none : (test : ℕ → Bool) (a n : ℕ) → ((i : ℕ) → a ≤ i → i < a + n → test i ≡ false)
     → count_by test (range_with_len a n) ≡ 0
 count-none test a zero fails = omega arith
@@ -15,7 +15,7 @@ count-none test a (suc n) fails =
     let rest = count-none test (a + 1) n (λ i from below. fails i (omega arith) (omega arith)) in
     omega (arith, sum_by-cons (λ i. cond (test i) 1 0) a (range_with_len (a + 1) n), first, rest)
 
--- where any two that pass are the same there is at most one
+-- if any two that pass are the same, at most one passes
 count-one : (test : ℕ → Bool) (a n : ℕ)
     → ((i j : ℕ) → a ≤ i → i < a + n → a ≤ j → j < a + n → test i ≡ true → test j ≡ true → i ≡ j)
     → count_by test (range_with_len a n) ≤ 1
@@ -42,7 +42,7 @@ count-one test a (suc n) same = elim (cases_Bool (test a)) [
       (arith, sum_by-cons (λ i. cond (test i) 1 0) a (range_with_len (a + 1) n), first, rest))
 ]
 
--- a count is at most those of two tests of which one passes wherever the first does
+-- a count is at most those of two tests of which one passes whenever the first does
 count-split : (test low high : ℕ → Bool)
     → ((x : ℕ) → cond (test x) 1 0 ≤ cond (low x) 1 0 + cond (high x) 1 0)
     → (xs : List ℕ) → count_by test xs ≤ count_by low xs + count_by high xs
@@ -78,7 +78,7 @@ count-below test key a n (suc k) own =
     (λ i. test i && key i == k) (λ x. grind (arith, nat_tests)) (range_with_len a n) in
     omega (arith, lower, here, split)
 
--- where all keys are below a bound, so many pass at most
+-- if all keys are below a bound, at most that many pass
 pub count-within : (test : ℕ → Bool) (key : ℕ → ℕ) (a n bound : ℕ)
     → HasOwnKeys test key a n → ((i : ℕ) → key i < bound)
     → count_by test (range_with_len a n) ≤ bound

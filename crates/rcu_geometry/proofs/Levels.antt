@@ -30,7 +30,7 @@ in_level s i place legal below =
     begins_below s.cpus (capacity s (levels s - 1 - i)) place
     (capacity_some s legal (levels s - 1 - i)) below
 
--- and a place whose first processor is there is in the level
+-- and a place whose first processor exists is in the level
 pub to_level : (s : Shape) (i place : ℕ)
     → IsLegalShape s → place * capacity s (levels s - 1 - i) < s.cpus → place < level_nodes s i
 unfolding level_nodes
@@ -42,10 +42,10 @@ to_level s i place legal begins =
 pub level_some : (s : Shape) (i : ℕ) → IsLegalShape s → 0 < level_nodes s i
 level_some s i legal = let some = legal.some in to_level s i 0 legal (omega arith)
 
--- what is known of one level
+-- facts on one level
 pub ruleset level_rules = (levels_range, start_next, level_some)
 
--- there is one root
+-- the root level has one node
 pub one_root : (s : Shape) → IsLegalShape s → level_nodes s 0 ≡ 1
 one_root s legal =
     let hold = levels_hold s legal in
@@ -87,7 +87,7 @@ start_rises s i (suc j) order = elim (cases_lt j i) [
       omega arith)
 ]
 
--- there is a leaf
+-- the last level has a node
 pub leaves_some : (s : Shape) → IsLegalShape s → first_leaf s < nodes s
 leaves_some s legal =
     let range = levels_range s in
@@ -212,7 +212,7 @@ starts_more s starts more next count i k legal before counted pushed e =
       ];
     })
 
--- how many leaves there are
+-- the number of leaves
 pub leaves_by : (s : Shape) (i leaf : ℕ) → i + 1 ≡ levels s → s.leaf ≡ leaf
     → level_nodes s i ≡ ceil s.cpus leaf
 unfolding level_nodes

@@ -49,7 +49,7 @@ lies_before s node (suc level) inner below = elim (cases_lt node (level_start s 
 pub lies : (s : Shape) (node : ℕ) → node < nodes s → Lies s node (level_of s node) (place_of s node)
 lies s node below = lies_before s node (levels s) (omega arith) below
 
--- what lies somewhere is a node
+-- a number with a level and a place is a node
 pub lies_below : (s : Shape) (node level place : ℕ) → Lies s node level place → node < nodes s
 lies_below s node level place lies =
     let is = lies.is in let inner = lies.inner in let below = lies.below in
@@ -111,7 +111,7 @@ leaf_lies s cpu legal below =
     let range = levels_range s in
     record { is = refl; inner = omega arith; below = leaf_place s cpu legal below }
 
--- what a tree needs of the parent of a node other than the root
+-- the conditions of a tree on the parent of a node other than the root
 pub record HasParent (s : Shape) (node : ℕ) : Type 0 where
   pub before : parent s node < node
   pub inner : parent s node < first_leaf s

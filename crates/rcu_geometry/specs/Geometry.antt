@@ -6,8 +6,7 @@ use Rattle.rcu_seq.specs.Fault.{first_fault}
 use Rattle.rcu_seq.specs.declared.fault.Fault.{Fault}
 use Rattle.rcu_seq.specs.declared.fault.Fault.TheVariants.{BadFanout, TooManyCpus}
 
--- how many processors a leaf has at most, how many children an inner node has at most, and how many
--- processors there are
+-- the most processors of a leaf, the most children of an inner node, and the number of processors
 pub record Shape : Type 0 where
   pub leaf : ℕ
   pub fan : ℕ
@@ -24,16 +23,16 @@ capacity s height = s.leaf * s.fan ^ height
 abbrev pub is_fanout : ℕ → Bool
 is_fanout n = nat_le 2 n && nat_le n 64
 
--- there is a processor, and there are at most 4,096, and four levels hold them
+-- the number of processors is 1 to 4,096, and four levels hold them
 abbrev pub is_held : Shape → Bool
 is_held s = nat_lt 0 s.cpus && (nat_le s.cpus 4096 && nat_le s.cpus (capacity s 3))
 
--- what is tested of a shape, in order: a cause, and the fault that it is answered by
+-- the tests of a shape, in order: each a cause and its fault
 abbrev pub causes : Shape → List (Bool × Fault)
 causes s =
     (not (is_fanout s.leaf && is_fanout s.fan), BadFanout) ∷ (not (is_held s), TooManyCpus) ∷ []
 
--- why there is no tree of this shape, if there is none: the fault of the first cause that holds
+-- why no tree has this shape, if none has: the fault of the first cause that holds
 abbrev pub refusal : Shape → Option Fault
 refusal s = first_fault (causes s)
 
@@ -65,7 +64,7 @@ unfoldable pub level_start : Shape → ℕ → ℕ
 level_start s zero = 0
 level_start s (suc i) = level_start s i + level_nodes s i
 
--- how many nodes there are
+-- the number of nodes
 abbrev pub nodes : Shape → ℕ
 nodes s = level_start s (levels s)
 

@@ -6,8 +6,8 @@ use Rattle.rcu_seq.specs.declared.fault.Fault.{Fault}
 use Rattle.rcu_seq.specs.declared.fault.Fault.TheVariants.{BadLast}
 use Rattle.rcu_geometry.specs.Geometry.{causes, shape}
 
--- the first fault of the opening of an engine over the tree of these fanouts, for so many
--- processors and with this last number: the shape is tested first. Want of memory comes after all
+-- the first fault of the opening of an engine over the tree of these fanouts, with this number of
+-- processors and this last number. The shape is tested first. A refused allocation comes after all
 -- of these
 abbrev pub opening_refusal : ℕ → ℕ → ℕ → Number → Option Fault
 opening_refusal leaf fan cpus last =

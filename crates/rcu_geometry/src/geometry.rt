@@ -17,7 +17,7 @@ use arrayvec::ArrayVec;
 use rcu_seq::Fault;
 use std::marker::Model;
 
-/// The most processors that a tree is made for.
+/// The most processors that a tree can have.
 const MOST_CPUS: u32 = 4096;
 
 /// The most levels of a tree.
@@ -64,8 +64,8 @@ impl<const LEAF: u32, const FAN: u32> Model for Geometry<LEAF, FAN> {
 impl<const LEAF: u32, const FAN: u32> Geometry<LEAF, FAN> {
     /// The shape of a tree for this number of processors.
     ///
-    /// Faults: `BadFanout` (18) where a fanout is outside 2..=64; `TooManyCpus` (17) for no
-    /// processor, more than 4,096, or more than four levels hold.
+    /// Faults: `BadFanout` (18) if a fanout is outside 2..=64; `TooManyCpus` (17) for no processor,
+    /// more than 4,096, or more than four levels hold.
     pub fn new(cpus: u32) -> Result<Self, Fault>
         ensures fault { result_err result ≡ refusal (shape LEAF FAN cpus) }
         ensures state { IfOk result (λ g. g ≡ shape LEAF FAN cpus) }
@@ -180,7 +180,7 @@ impl<const LEAF: u32, const FAN: u32> Geometry<LEAF, FAN> {
         cpu % LEAF
     }
 
-    /// The first node of level `i`, or the number of nodes where there is no such level.
+    /// The first node of level `i`, or the number of nodes if there is no such level.
     fn start(&self, i: u32) -> u32
         requires { i ≤ levels_of self.now }
         ensures value { result ≡ level_start_of self.now i }

@@ -1,4 +1,4 @@
-//! What the formulas say of every tree.
+//! Laws of the formulas, for every tree.
 ghost use Rattle.std.specs.Prelude.{◌≡◌, ◌<◌, ◌≤◌, ◌+◌, ◌-◌, ◌==◌, ℕ, count_by};
 ghost use Rattle.std.specs.List.{range_with_len};
 ghost use Rattle.rcu_geometry.specs.Geometry.{IsLegalShape, Shape, bit_in_parent, bit_of};

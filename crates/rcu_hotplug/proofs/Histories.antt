@@ -1,4 +1,4 @@
--- What histories of calls say of the processors after them.
+-- The processors after a history of calls.
 use Rattle.std.proofs.Common.{◌≡◌, ℕ, ◌<◌, ◌==◌, ◌&&◌, ◌||◌, Bool, true, false, not, if◌then◌else◌}
 use Rattle.std.proofs.Common.{[], ◌∷◌, length}
 use Rattle.std.proofs.Common.{replicate, None, refl, sym, ap, ◌∙◌, arith, inl, inr}
@@ -17,26 +17,26 @@ use Rattle.rcu_hotplug.specs.Hotplug.{after_call}
 use Rattle.rcu_hotplug.specs.History.{History, AreAccepted, Represents, after_calls, is_heard}
 use Rattle.rcu_hotplug.specs.History.{online, starts, tag}
 
--- an accepted arrival is of a processor that there is
+-- an accepted arrival is of an existing processor
 arrival_below : (p : Processors) (cpu : ℕ) → refusal p (Arrive cpu) ≡ None → cpu < length p.awaited
 arrival_below p cpu e = elim (cases_lt cpu (length p.awaited)) [
   | inl l ↦ l
   | inr l ↦ grind (arith, nat_tests, e, l)
 ]
 
--- who arrives has come
+-- a processor has arrived after its arrival, or if it had before
 has_come : (arrived earlier : Bool) → (arrived || earlier) ≡ (if arrived then true else earlier)
 has_come true earlier = refl
 has_come false earlier = refl
 
--- who departs has gone
+-- a processor is gone after its departure
 has_gone : (departed earlier : Bool)
     → (earlier && not departed) ≡ (if departed then false else earlier)
 has_gone true true = refl
 has_gone true false = refl
 has_gone false earlier = and-true earlier
 
--- the processors are as a history says, and there is a flag for each
+-- the processors are as the history defines them, and there is a flag for each
 record IsTold (cpus : ℕ) (p : Processors) (h : History) : Type 0 where
   awaited : length p.awaited ≡ cpus
   online : length p.online ≡ cpus
@@ -143,6 +143,6 @@ told_always cpus (Begin number ∷ h) accepted =
 told_always cpus (Report other number ∷ h) accepted =
     told_report cpus (after_calls cpus h) h other number (told_always cpus h accepted.1)
 
--- the processors after accepted calls are as their history says
+-- the processors after accepted calls are as their history defines them
 pub told : (cpus : ℕ) (h : History) → AreAccepted cpus h → Represents cpus (after_calls cpus h) h
 told cpus h accepted = (told_always cpus h accepted).says

@@ -1,5 +1,6 @@
--- What the accepted calls so far say. A history is the list of the accepted calls, the newest
--- first. So the history as it was at an earlier call is the part of the list from that call on.
+-- The state of processors, as a history defines it. A history is the list of the accepted calls,
+-- the newest first. So the history as it was at an earlier call is the part of the list from that
+-- call on.
 use Rattle.std.specs.Prelude.{ℕ, ◌≡◌, ◌<◌, ◌==◌, Bool, true, false, not, ◌&&◌, ◌||◌, List, [], ◌∷◌}
 use Rattle.std.specs.Prelude.{None}
 use Rattle.std.specs.List.{list_any}
@@ -49,8 +50,8 @@ tag [] = first_tag
 tag (Begin now ∷ h) = now
 tag (_ ∷ h) = tag h
 
--- the processor is online: its last arrival or departure is an arrival; before any, it is processor
--- 0
+-- the processor is online: its last arrival or departure is an arrival; before any such call, only
+-- processor 0 is online
 abbrev pub online : ℕ → History → Bool
 online cpu h = is_on (cpu == 0) (arrives cpu) (departs cpu) h
 
@@ -58,7 +59,7 @@ online cpu h = is_on (cpu == 0) (arrives cpu) (departs cpu) h
 abbrev pub starts : ℕ → History → Bool
 starts cpu h = list_any begins h && online cpu (latest begins h)
 
--- by this call the processor is heard in the grace period of this tag: it reports the tag, or
+-- this call makes the processor heard in the grace period of this tag: it reports the tag, or
 -- departs
 abbrev pub hears : ℕ → Tag → Call → Bool
 hears cpu now call = reports cpu now call || departs cpu call
@@ -72,7 +73,7 @@ is_heard cpu now h = some_since begins (λ call earlier. hears cpu now call) h
 abbrev pub awaits : ℕ → History → Bool
 awaits cpu h = starts cpu h && not (is_heard cpu (tag h) h)
 
--- the processors are as a history says
+-- the processors are as the history defines them
 pub record Represents (cpus : ℕ) (p : Processors) (h : History) : Type 0 where
   pub tag : p.tag ≡ tag h
   pub start_set : (cpu : ℕ) → cpu < cpus → is_in p.start_set cpu ≡ starts cpu h

@@ -1,4 +1,4 @@
--- Processors that come and go: what each call of an awaited set leaves, and when it is refused.
+-- Processors that come and go: the awaited set after each call, and why a call is refused.
 use Rattle.std.specs.Prelude.{ℕ, ◌≡◌, ◌==◌, Bool, true, false, not, nat_lt, List, [], ◌∷◌, length}
 use Rattle.std.specs.Prelude.{slice_set, replicate}
 use Rattle.std.specs.Prelude.{Option}
@@ -37,15 +37,15 @@ at_first cpus = record {
   online = slice_set (replicate cpus false) 0 true;
 }
 
--- how many processors there are
+-- the number of processors
 abbrev pub cpus_of : Processors → ℕ
 cpus_of p = length p.awaited
 
--- where the latest grace period stands
+-- the latest grace period
 abbrev pub standing_of : Processors → Standing
 standing_of p = standing p.tag p.start_set p.awaited
 
--- what is tested of a call, in order: a cause, and the fault that it is answered by
+-- the tests of a call, in order: each a cause and its fault
 abbrev pub causes : Processors → Call → List (Bool × Fault)
 causes p (Arrive cpu) =
     (not (nat_lt cpu (cpus_of p)), BadCpu) ∷ (is_in p.online cpu, AlreadyOnline) ∷ []
@@ -59,8 +59,9 @@ causes p (Report cpu noted) = []
 abbrev pub refusal : Processors → Call → Option Fault
 refusal p call = first_fault (causes p call)
 
--- what an accepted call leaves: who arrives is online, who departs is neither online nor awaited, a
--- beginning grace period awaits the online processors, and a report clears as reports do
+-- the processors after an accepted call: an arrival is online, a departed processor is neither
+-- online nor awaited, a beginning grace period awaits the online processors, and a report clears
+-- its processor as reports do
 abbrev pub after_call : Processors → Call → Processors
 after_call p (Arrive cpu) = record p { online = slice_set p.online cpu true }
 after_call p (Depart cpu) =
@@ -69,7 +70,7 @@ after_call p (Begin tag) = record p { tag = tag; start_set = p.online; awaited =
 after_call p (Report cpu noted) =
     record p { awaited = awaited_after_report p.tag p.awaited cpu noted }
 
--- what always holds: there is a flag for each processor, processor 0 is online, and only online
+-- the invariant: there is a flag for each processor, processor 0 is online, and only online
 -- processors of the start set are awaited
 pub record IsSound (p : Processors) : Type 0 where
   pub started : length p.start_set ≡ cpus_of p

@@ -19,10 +19,10 @@ use std::marker::Model;
 /// An awaited set, and the processors that are online (Linux's `qsmaskinitnext`).
 ///
 /// Contracts see the awaited set's tag, start set and awaited set, and the online set. A beginning
-/// grace period awaits the online processors. One that arrives is awaited from the next begin on;
-/// one that departs is awaited no more. Processor 0 is always online. No call but `new` needs
-/// memory, and a step for every 64 processors; each other costs what one call of the awaited set
-/// costs.
+/// grace period awaits the online processors. A processor that arrives is awaited from the next
+/// begin on; one that departs is no longer awaited. Processor 0 is always online. Only `new` needs
+/// memory, and it costs a step for every 64 processors; every other call costs what one call of the
+/// awaited set costs.
 #[derive(Drop)]
 pub struct Hotplug<A: Awaited> {
     online: CpuSet,
@@ -52,8 +52,8 @@ impl<A: Awaited> Model for Hotplug<A> {
 }
 
 impl<A: Awaited> Hotplug<A> {
-    /// Processor 0 is online, and nobody is awaited. The awaited set is as it was made. Costs a
-    /// step for every 64 processors.
+    /// Returns a set in which processor 0 is online and no processor is awaited. The awaited set is
+    /// as it was made. Costs a step for every 64 processors.
     ///
     /// Fault: `NoMemory` (16).
     pub fn new(alloc: Global, inner: A) -> Result<Self, Fault>
@@ -67,7 +67,7 @@ impl<A: Awaited> Hotplug<A> {
         Ok(Hotplug { online, inner })
     }
 
-    /// A processor arrives (Linux's `rcutree_report_cpu_starting`).
+    /// Brings a processor online (Linux's `rcutree_report_cpu_starting`).
     ///
     /// Faults: `BadCpu` (1), `AlreadyOnline` (3).
     pub fn arrive(&mut self, cpu: u32) -> Result<(), Fault>
@@ -84,7 +84,7 @@ impl<A: Awaited> Hotplug<A> {
         Ok(())
     }
 
-    /// A processor departs, and is awaited no more (Linux's `rcutree_report_cpu_dead`).
+    /// Takes a processor offline; it is no longer awaited (Linux's `rcutree_report_cpu_dead`).
     ///
     /// Faults: `BadCpu` (1); `BootStays` (12) for processor 0; `Offline` (2).
     pub fn depart(&mut self, cpu: u32) -> Result<(), Fault>
@@ -106,7 +106,7 @@ impl<A: Awaited> Hotplug<A> {
         Ok(())
     }
 
-    /// A grace period of this tag begins, and awaits the online processors. The tag's number is
+    /// Begins a grace period of this tag, which awaits the online processors. The tag's number is
     /// `4k + 1`.
     pub fn begin(&mut self, tag: Tag)
         requires { is_running tag.number ≡ true }
@@ -116,8 +116,8 @@ impl<A: Awaited> Hotplug<A> {
         self.inner.begin(tag, &self.online);
     }
 
-    /// A processor reports a quiescent state with the tag that it had noted, as
-    /// [`Awaited::report`].
+    /// Delivers a processor's report of a quiescent state, with the tag that it had noted, as
+    /// [`Awaited::report`] does.
     pub fn report(&mut self, cpu: u32, tag: Tag) -> Answer
         requires { cpu < cpus_of self.old }
         ensures answer { result ≡ report_answer self.old.tag self.old.awaited cpu tag }
@@ -126,7 +126,7 @@ impl<A: Awaited> Hotplug<A> {
         self.inner.report(cpu, tag)
     }
 
-    /// Whether the processor is online.
+    /// Returns whether the processor is online.
     pub fn online(&self, cpu: u32) -> bool
         requires { cpu < cpus_of self.now }
         ensures { result ≡ is_in self.now.online cpu }

@@ -1,4 +1,5 @@
--- The rule of askings: steps that ask nobody keep it, and those that ask, look or take back.
+-- The rule of askings: it is kept by steps that ask no processor, and by those that ask, look or
+-- take back.
 use Rattle.std.proofs.Common.{◌≡◌, ◌≢◌, ◌⊎◌, ℕ, zero, suc, ◌+◌, ◌<◌, ◌≤◌, Bool, true, false, List}
 use Rattle.std.proofs.Common.{[]}
 use Rattle.std.proofs.Common.{◌∷◌, ◌++◌, if◌then◌else◌, length, get_or, set, inl, inr, ⊎_elim, refl}
@@ -66,7 +67,7 @@ one_more_or_none true n = inr (omega arith)
 one_more_or_none false n = inl refl
 
 module _ {C : Type 0} where
-  -- how often an own word was stored, where one view changes, and where one comes in
+  -- how often an own word was stored, if one view changes, and if one comes in
   stores_set : (c : ℕ) (views : List (View C)) (id : ℕ) (v w : View C) → get_elem? views id ≡ some v
       → stores_of c (set views id w) + stores_by c v ≡ stores_of c views + stores_by c w
   stores_set c [] id v w at = absurd (some-ne-none v (sym at))
@@ -84,7 +85,7 @@ module _ {C : Type 0} where
       behind (stores_by c x) (stores_by c w) (stores_of c xs) (stores_of c (xs ++ w ∷ []))
       (stores_end c xs w)
 
-  -- one that stored nothing changes nothing
+  -- a seat that stored nothing changes nothing
   stores_still : (c : ℕ) (views : List (View C)) (w : View C) → ((d : ℕ) → stores_by d w ≡ 0)
       → stores_of c (views ++ w ∷ []) ≡ stores_of c views
   stores_still c views w none =
@@ -106,7 +107,8 @@ module _ {C : Type 0} where
       ap (λ (r : Role). if is_seat_of d r w.cpu then w.stores else 0) is
       ∙ ap (λ (b : Bool). if b then w.stores else 0) (other d)
 
-  -- what the rule of askings has of a view is as before; a processor's seat may have stored
+  -- the parts of a view that the rule of askings uses are as before; a processor's seat may have
+  -- stored
   pub record Alike (v w : View C) : Type 0 where
     pub role : w.role ≡ v.role
     pub asking : v.role ≡ Asker → (w.cpu ≡ v.cpu) × (w.stores ≡ v.stores)
@@ -157,7 +159,7 @@ module _ {C : Type 0} where
   alike_stored_as v w x is cpu_seat role cpu stores =
       subst (λ (y : View C). Alike v y) (sym is) (alike_stored v x cpu_seat role cpu stores)
 
-  -- what is left of the engine's seat where a processor's is dealt
+  -- the engine's seat after a processor's is dealt
   pub alike_dealt : (v : View C) → v.role ≡ Engine → Alike v (after_deal v)
   alike_dealt v engine = record {
     role = refl;
@@ -168,7 +170,7 @@ module _ {C : Type 0} where
         ∙ sym (not_of_cpu Engine v engine (λ d. refl) c));
   }
 
-  -- an element where one changed, as it was, and one as it is
+  -- an element after one changed, as it was, and as it is
   was : (views : List (View C)) (id : ℕ) (v w : View C) → get_elem? views id ≡ some v → Alike v w
       → (j : ℕ) (u : View C) → get_elem? (set views id w) j ≡ some u
       → (x : View C) × (get_elem? views j ≡ some x) × Alike x u
@@ -212,7 +214,7 @@ module _ {C : Type 0} where
         old.2,
       )
 
-  -- a step that asks nobody, by a seat that may store its own word
+  -- a step that asks no processor, by a seat that may store its own word
   pub awake_still : (s : State (Unit {0}) (View C)) → IsAwake s → (id : ℕ) (v w : View C)
       (words : List ℕ) (homes : List (Option (Unit {0}))) → get_elem? s.views id ≡ some v
       → get_or words 1 0 ≡ get_or s.words 1 0 → Alike v w
@@ -310,7 +312,7 @@ module _ {C : Type 0} where
             cpu (since ∙ same a.cpu));
       }
 
-  -- a look comes in: it found who is asked
+  -- a look comes in: it found the processor that is asked
   pub awake_looks : (s : State (Unit {0}) (View C)) → IsAwake s → (w : View C)
       → w.role ≡ Looker → w.stores ≡ stores_of w.cpu s.views → w.own_word ≡ get_or s.words 1 0
       → IsAwake record { words = s.words; homes = s.homes; views = s.views ++ w ∷ [] }
@@ -404,7 +406,7 @@ module _ {C : Type 0} where
             absurd (none_asked a.cpu (sym word ∙ now));
       }
 
-  -- at the opening nobody is asked
+  -- at the opening no processor is asked
   pub awake_at_first : (words : List ℕ) (homes : List (Option (Unit {0}))) (v : View C)
       → (v.role ≡ Asker → ⊥) → (v.role ≡ Looker → ⊥) → get_or words 1 0 ≡ 0
       → IsAwake record { words = words; homes = homes; views = v ∷ [] }

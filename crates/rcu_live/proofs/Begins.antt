@@ -12,7 +12,7 @@ use Rattle.rcu_live.specs.Engine.{AwaitsTheOthers, begun_from, loads_in_turn, ne
 use Rattle.rcu_live.specs.Numbers.{reports_quiescence}
 use Rattle.rcu_live.proofs.LoadedWords.{cleared_in_turn}
 
--- who is here and not quiescent already reports nothing
+-- a processor that is online and not already quiescent reports nothing
 not_reported : (t : Number) (word : ℕ)
     → not (reports_quiescence t word) ≡ (not (word == 0) && not (nat_lt t word))
 not_reported t word = grind (arith, nat_tests)
@@ -45,7 +45,7 @@ already_quiescent_out cpus word t here already_quiescent is_here is_already_quie
     (omega (arith, low, long)))))
 
 module _ {X : Type 0} where
-  -- what a begin leaves, in parts
+  -- the state after a begin, in parts
   abbrev parts : Periods → Number → AllLists X → List Bool → List Bool → Grace X
   parts seq needed lists online awaited = record {
     seq = record seq { running = true };
@@ -85,7 +85,7 @@ module _ {X : Type 0} where
       started
       ∙ (λ i. parts (seq i) (needed i) (lists i) (online i) (awaited i))
 
-  -- the engine awaits those that were not told of
+  -- the engine awaits those that no word reported
   pub begun_awaits : (g heard : Grace X) (cpus : ℕ) (word : ℕ → ℕ) (own_word_loads : List (ℕ × ℕ))
       → heard ≡ begun_from cpus word g → own_word_loads ≡ loads_in_turn word cpus
       → AwaitsTheOthers cpus own_word_loads heard

@@ -1,4 +1,4 @@
--- What the rule gives a client: which sections may be open at the number, and that a processor has
+-- What the rule gives a client: each open section may be open at the number, and a processor has
 -- one seat.
 use Rattle.std.proofs.Common.{◌≡◌, ℕ, zero, suc, ◌≤◌, List, [], ◌∷◌, Option, Some, get_or, map}
 use Rattle.std.proofs.Common.{true, false, refl, sym, ap, ◌∙◌, arith}
@@ -25,7 +25,7 @@ not_past n = grind (arith, nat_tests)
 pub not_open_past : (at r n : Number) → at ≤ r → is_past r n ≡ true → is_open_at n at ≡ false
 not_open_past at r n up past = grind (arith, nat_tests)
 
--- of whom something is shown is a processor's seat
+-- a seat that shows a processor is a processor's seat
 is_of_cpu : (role : Role) (o : Option ℕ) (a : ℕ) → if_cpu role o ≡ Some a
     → (role ≡ Cpu) × (o ≡ Some a)
 is_of_cpu Cpu o a e = (refl, e)
@@ -44,7 +44,7 @@ the_same : {a b : ℕ} → Some a ≡ Some b → a ≡ b
 the_same e = cc
 
 module _ {C : Type 0} (holds : List ℕ → Views C → Type 0) where
-  -- what is open now may be open at the number
+  -- an open section may be open at the number
   pub are_open : (cpus : ℕ) (s : State (Unit {0}) (View C)) → IsKept holds cpus s
       → AreOpen (get_or s.words 0 0) (map client_view s.views)
   are_open cpus s k id at cpu c e =

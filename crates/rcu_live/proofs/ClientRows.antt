@@ -1,5 +1,4 @@
--- What a client shows of its words in rows, of a seat that changes, and of a section that is open,
--- for callers.
+-- For callers: lemmas on a client's words in rows, on a seat that changes, and on an open section.
 use Rattle.std.proofs.Common.{◌≡◌, ◌≢◌, ◌⊎◌, ℕ, zero, suc, ◌+◌, ◌*◌, ◌<◌, ◌≤◌, true, List, [], ◌∷◌}
 use Rattle.std.proofs.Common.{length, get_or, refl, sym, ap, subst, ⊎_elim, inl, inr, arith}
 use Rattle.std.specs.Prelude.{slice_set}
@@ -30,7 +29,7 @@ at_inside [] i d low = absurd (omega (arith, low))
 at_inside (x ∷ xs) zero d low = refl
 at_inside (x ∷ xs) (suc i) d low = at_inside xs i d (omega (arith, low))
 
--- one element changes, and what holds of the others stays
+-- one element changes, and a property of the others stays
 pub reseat : {A : Type 0} (K : ℕ → A → Type 0) (xs : List A) (id : ℕ) (p : A) → K id p
     → ((j : ℕ) (q : A) → j ≢ id → get_elem? xs j ≡ some q → K j q)
     → (j : ℕ) (q : A) → get_elem? (slice_set xs id p) j ≡ some q → K j q
@@ -39,7 +38,7 @@ reseat {A} K xs id p mine others j q e = ⊎_elim
     (λ (t : (j ≢ id) × (get_elem? xs j ≡ some q)). others j q t.0 t.1)
     (at_set xs id j p q e)
 
--- a row lies before those of greater numbers
+-- a row is before those of greater numbers
 row_below : (width i j : ℕ) → i < j → width * i + width ≤ width * j
 row_below width i j low =
     let up : width * suc i ≤ width * j =
@@ -56,8 +55,8 @@ lower_or_higher (suc i) (suc j) apart = ⊎_elim
     (λ (h : j < i). inr (omega (arith, h)))
     (lower_or_higher i j (λ e. apart (ap suc e)))
 
--- rows of so many words, one behind the other from a first place on: each word has a place of its
--- own, inside all rows
+-- rows of this number of words, one behind the other from a first place on: each word has a place
+-- of its own, inside all rows
 module _ (first width : ℕ) where
   pub places_differ : (i j k l : ℕ) → i ≢ j → k < width → l < width
       → first + width * i + k ≢ first + width * j + l
@@ -71,7 +70,7 @@ module _ (first width : ℕ) where
   place_inside count i k low small =
       let row = row_below width i count low in omega (arith, row, small)
 
-  -- and so the place tells the row and the word
+  -- and so the place determines the row and the word
   pub row_told : (i j k l : ℕ)
       → k < width → l < width → first + width * i + k ≡ first + width * j + l → i ≡ j
   row_told i j k l low high same = dite (ℕ_discrete i j)

@@ -26,12 +26,12 @@ use Rattle.rcu_live.proofs.Frames.{changed, unchanged}
 use Rattle.rcu_live.proofs.Loads.{load_fits}
 use Rattle.rcu_live.proofs.Numbers.{mask_inside}
 
--- what is shown of a seat of this role
+-- the shown part of a seat of this role
 abbrev client_view_of : {C : Type 0} → Role → ℕ → Option ℕ → C → ClientView C
 client_view_of role cpu section c = (if_cpu role (Some cpu), if_cpu role section, c)
 
 module _ {C : Type 0} (holds : List ℕ → Views C → Type 0) where
-  -- a seat fits where the engine's words are as before
+  -- a seat fits if the engine's words are as before
   fits_still : (cpus : ℕ) (words new : List ℕ) (owner : ℕ → ℕ) (engine : ℕ)
       (own_word_loads : List (ℕ × ℕ)) (id : ℕ) (v : View C)
       → ((i : ℕ) → i < base_of cpus → get_or new i 0 ≡ get_or words i 0)
@@ -166,7 +166,7 @@ module _ {C : Type 0} (holds : List ℕ → Views C → Type 0) where
       (λ i. (sym is i, sym there i))
       (steps_on_own_place cpus slots id p me change tells any allowed)
 
-  -- a store, of which the word is told that it stores
+  -- a store, with the word that it stores
   pub stores_client_word : (key cpus slots id p at x : ℕ) (me : Me (Unit {0}) (View C))
       (tells : ℕ → C → ℕ → C → Type 0)
       → key ≡ cpus
@@ -208,7 +208,8 @@ module _ {C : Type 0} (holds : List ℕ → Views C → Type 0) where
         ((refl, f.seen, k.number, u.2), refl),
       )
 
-  -- of what a seat of no processor knows of the client this goes to a new seat, and that is left
+  -- the knowledge about the client of a seat of no processor is split: this part goes to a new
+  -- seat, and that one is left
   hands_on : (cpus id : ℕ) (v : View C) (left new : C)
       → ((c : C) → client_view (with_client v c) ≡ (None, None, c))
       → ((words : List ℕ) (xs : Views C) → holds words xs
@@ -255,7 +256,7 @@ module _ {C : Type 0} (holds : List ℕ → Views C → Type 0) where
             (at_map client_view s.views id v at ∙ ap some (shown v.client)));
       }
 
-  -- what the engine's seat knows of the client is handed over to a new seat
+  -- the engine seat's knowledge about the client is handed over to a new seat
   pub hands_over : (idle close : C → C)
       → IsStable holds idle close → (cpus id : ℕ) (v : View C) → IsOfEngine v
       → Splits (IsKept holds cpus) id v (after_hand (idle v.client) v) (handed_seat v)
@@ -264,7 +265,7 @@ module _ {C : Type 0} (holds : List ℕ → Views C → Type 0) where
       (λ c. ap (λ (r : Role). client_view_of r v.cpu v.section c) engine)
       (λ words xs h at. stable.hands words xs id v.client h at)
 
-  -- and what a watcher knows of a part of it
+  -- and a watcher's knowledge about a part of it
   pub hands_part_over : {D : Type 0} (lens : Lens C D) (rule : List ℕ → Views D → Type 0)
       (own : List ℕ → List ℕ) (base : ℕ) (idle : D → D) (idle_whole : C → C)
       → IsPart lens holds rule own base idle idle_whole

@@ -1,4 +1,4 @@
--- What collections from the first processors leave, one after another.
+-- The engine after collections from the first processors, one after another.
 use Rattle.std.proofs.Common.{◌≡◌, ℕ, zero, suc, ◌+◌, ◌-◌, ◌<◌, ◌≤◌, ◌&&◌, ◌++◌, Bool, true, false}
 use Rattle.std.proofs.Common.{not, nat_lt, if◌then◌else◌, List, ◌∷◌, length, refl, sym, ap, ◌∙◌}
 use Rattle.std.proofs.Common.{subst, arith, inl, inr}
@@ -18,7 +18,7 @@ use Rattle.rcu_live.proofs.HeardBelow.{all_below, heard_below, none_below, none_
 use Rattle.rcu_live.proofs.HeardBelow.{one_below}
 use Rattle.rcu_live.proofs.LoadedWords.{found_here, found_there}
 
--- by these words a processor is heard of in the grace period
+-- these words report the processor in the grace period
 abbrev pub reported_by : Number → (ℕ → ℕ) → ℕ → Bool
 reported_by t word cpu = reports_quiescence t (word cpu)
 
@@ -64,7 +64,7 @@ module _ {C X : Type 0} where
             (heard_below n (reported_by (number_of e.grace.seq) word)));
       }
 
-  -- from nobody
+  -- after no collection
   pub none_collected : (e : Locked C X) (word : ℕ → ℕ) → e ≡ collected_below e 0 word
   none_collected e word =
       let loads : e.view.loads ≡ e.view.loads + 0 = omega arith in
@@ -75,7 +75,7 @@ module _ {C X : Type 0} where
         grace = with_awaited e.grace (flags i);
       }
 
-  -- those that are not passed yet are awaited where they were
+  -- those that are not passed yet are awaited if they were
   pub awaited_still : (e now : Locked C X) (n c : ℕ) (word : ℕ → ℕ)
       → n ≤ c → now ≡ collected_below e n word
       → is_in now.grace.processors.awaited c ≡ is_in e.grace.processors.awaited c

@@ -1,4 +1,4 @@
--- What an opening deals, by the seats and watchers of which it is made.
+-- The parts that an opening deals, by its seats and watchers.
 use Rattle.std.proofs.Common.{◌≡◌, ℕ, List, length, map, refl, sym, ap, ◌∙◌}
 use Rattle.std.specs.List.{range_with_len}
 use Rattle.std.proofs.lemmas.List.FromFn.{length-map-range_with_len}

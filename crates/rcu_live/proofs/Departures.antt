@@ -12,7 +12,7 @@ use Rattle.rcu_state.specs.GpState.{Grace, after_migrate, with_call}
 use Rattle.rcu_live.specs.Engine.{AwaitsTheOthers}
 use Rattle.rcu_live.specs.EngineLists.{with_departure}
 
--- a processor other than 0 departs where it is online
+-- a processor other than 0 departs if it is online
 pub departed : {X U : Type 0} (g now : Grace X) (cpu : ℕ) (o : Result U Fault)
     → cpu < cpus_of g.processors
     → cpu ≢ 0
@@ -28,13 +28,13 @@ departed g now cpu (Err fault) inside other accepted state refused unchanged =
     let gone : is_in g.processors.online cpu ≡ false = grind (arith, nat_tests) in
     unchanged ∙ sym (ap (λ (b : Bool). if b then with_call g (Depart cpu) else g) gone)
 
--- where a list moves, or stays for want of memory, the processors stay
+-- if a list moves, or stays because memory was refused, the processors stay
 pub moved_alone : {X U : Type 0} (g now : Grace X) (cpu : ℕ) (o : Result U Fault)
     → OnOk o (now ≡ after_migrate g cpu) → OnErr o (now ≡ g) → now.processors ≡ g.processors
 moved_alone g now cpu (Ok u) state unchanged = ap (λ (y : Grace _). y.processors) state
 moved_alone g now cpu (Err fault) state unchanged = ap (λ (y : Grace _). y.processors) unchanged
 
--- and who is not cleared is awaited as before
+-- and a processor that is not cleared is awaited as before
 pub moved_awaits : {X U : Type 0} (cpus : ℕ) (words : List (ℕ × ℕ)) (g now : Grace X) (cpu : ℕ)
     (o : Result U Fault) → OnOk o (now ≡ after_migrate g cpu) → OnErr o (now ≡ g)
     → AwaitsTheOthers cpus words g → AwaitsTheOthers cpus words now
@@ -43,7 +43,7 @@ moved_awaits cpus words g now cpu (Ok u) state unchanged others =
 moved_awaits cpus words g now cpu (Err fault) state unchanged others =
     subst (λ (y : Grace _). AwaitsTheOthers cpus words y) (sym unchanged) others
 
--- a migration is refused for want of memory alone
+-- a migration is refused only if memory is
 pub only_memory : {X U : Type 0} (lists : ListsWithRooms X) (cpu : ℕ) (o : Result U Fault)
     → IfErr o (λ fault. migrate_refusal lists cpu ≡ Some fault)
     → IfErr o (λ fault. fault ≡ NoMemory)

@@ -1,4 +1,4 @@
--- A cookie is not done while a section is open that was so at its taking.
+-- A cookie is not done while a section is open that was open when it was taken.
 use Rattle.std.proofs.Common.{◌≡◌, ℕ, ◌≤◌, false, List, Some, get_or, arith}
 use Rattle.std.proofs.lemmas.Bool.Decides.{nat_tests}
 use Rattle.std.specs.Prelude.{slice_index}
@@ -13,7 +13,7 @@ use Rattle.rcu_live.specs.Rule.{Fits, IsKept}
 use Rattle.rcu_live.specs.declared.view.Role.TheVariants.{Cpu}
 use Rattle.rcu_live.specs.declared.view.View.{View}
 
--- where no full grace period lies behind a number, no cookie of a taking at it or later is done
+-- if no full grace period passed since a number, no cookie that was taken at it or later is done
 taken_late : (at taken polled : Number) → is_past at polled ≡ false → at ≤ taken
     → is_done_first (cookie_at (of_first_epoch taken)) polled ≡ false
 taken_late at taken polled current up = grind (arith, nat_tests)

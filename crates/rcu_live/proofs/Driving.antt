@@ -1,4 +1,4 @@
--- What wanted steps of driving do if every word says that its processor is quiescent.
+-- Wanted steps of driving if every word reports a quiescent state.
 use Rattle.std.proofs.Common.{◌≡◌, ℕ, ◌+◌, ◌≤◌, ◌&&◌, Bool, true, false, not, nat_lt}
 use Rattle.std.proofs.Common.{if◌then◌else◌, refl, sym, ap, ◌∙◌, subst, arith, inl, inr}
 use Rattle.std.specs.Prelude.{◌==◌}
@@ -17,7 +17,7 @@ use Rattle.rcu_live.proofs.Elapsed.{moved as call_moves}
 use Rattle.rcu_live.proofs.Handing.{rises}
 use Rattle.rcu_live.proofs.Quieting.{driven, ended_then, nobody_left, two_ends_reach}
 
--- a word that says so at a number says so at each earlier one
+-- a word that reports at a number does so at each earlier one
 tells_earlier : (m n word : ℕ) → m ≤ n → reports_quiescence n word ≡ true
     → reports_quiescence m word ≡ true
 tells_earlier m n word l t = grind (arith, nat_tests)
@@ -57,7 +57,7 @@ module _ {C X : Type 0} where
       (begun e word r)
       ∙ ended_then (after_begin e word) refl z
 
-  -- a wanted step ends the grace period that runs, or one that it begins
+  -- a wanted step ends the running grace period, or one that it begins
   pub one_ends : (e : Locked C X) (word : ℕ → ℕ)
       → ((c : ℕ) → reports_quiescence (next_number e.grace) (word c) ≡ true)
       → (after_drive e true word).grace.seq

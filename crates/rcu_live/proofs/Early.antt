@@ -1,4 +1,4 @@
--- What a run hands out has waited: the marks of each callback stay timely.
+-- The callbacks that a run hands out have waited: the marks of each callback stay timely.
 use Rattle.std.proofs.Common.{◌≡◌, ℕ, zero, suc, ◌+◌, ◌≤◌, Bool, true, false, ◌&&◌, List, [], ◌∷◌}
 use Rattle.std.proofs.Common.{Some, refl, sym, ◌∙◌, subst, arith, cond, set, get_or}
 use Rattle.std.specs.Prelude.{◌==◌, if◌then◌else◌, replicate, slice_get}

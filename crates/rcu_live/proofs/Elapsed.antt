@@ -1,4 +1,5 @@
--- Between the queueing of a callback and the snapshot of its number a full grace period lies.
+-- A full grace period lies between the number at which a callback was queued and the snapshot of
+-- that number.
 use Rattle.std.proofs.Common.{◌≡◌, ℕ, ◌+◌, ◌*◌, ◌<◌, ◌≤◌, Bool, true, false, not, ◌&&◌, ◌||◌, List}
 use Rattle.std.proofs.Common.{[], ◌∷◌, ◌++◌, Option, Some, refl, sym, ap, ◌∙◌, subst, arith, inl}
 use Rattle.std.proofs.Common.{inr}
@@ -29,15 +30,15 @@ use Rattle.rcu_live.specs.Runs.{Queue, Tend, Run, BarrierBegin, Visit, BarrierTe
 abbrev pub ended : Periods → Periods
 ended p = record p { ends = p.ends + 1; running = false }
 
--- what one call does to the counter: nothing, a begin, an end, or both
+-- the effect of one call on the counter: nothing, a begin, an end, or both
 pub data Moved (old new : Periods) : Type 0 where
   Stays : new ≡ old → Moved old new
   Begins : old.running ≡ false → new ≡ record old { running = true } → Moved old new
   Ends : old.running ≡ true → new ≡ ended old → Moved old new
   Passes : old.running ≡ false → new ≡ ended old → Moved old new
 
--- where no full grace period lies in the turns since a tag, the number is below the snapshot of
--- that
+-- if no full grace period lies in the turns since a tag, the number is below the snapshot of the
+-- tag
 record Elapsed (at : Tag) (turns : List Turn) (p : Periods) : Type 0 where
   pub epoch : p.epoch ≡ at.epoch
   pub below : has_full_period turns ≡ false → number_of p < snapshot at.number
@@ -45,7 +46,7 @@ record Elapsed (at : Tag) (turns : List Turn) (p : Periods) : Type 0 where
       → number_of p + 4 ≤ snapshot at.number
   pub runs : has_full_period turns ≡ false → list_any begins turns ≡ true → p.running ≡ true
 
--- the turns between two counters, by what they are made of
+-- the turns between two counters, by their parts
 abbrev between : Bool → Bool → Bool → List Turn
 between more was is =
     if more
@@ -155,7 +156,7 @@ left_of_both : (a b : Bool) → (a && b) ≡ true → a ≡ true
 left_of_both true b e = refl
 left_of_both false b e = e
 
--- at the queueing
+-- when the callback is queued
 queued_now : (p : Periods) → Elapsed (tag_of p) [] p
 queued_now p = record {
   epoch = refl;
@@ -174,7 +175,7 @@ module _ {X : Type 0} where
   departed g cpu =
       same_grace (is_in g.processors.online cpu) g.seq (with_call g (Departs cpu)) g refl refl
 
-  -- since the queueing, or at it
+  -- since the callback was queued, or then
   queued_or : (here : Bool) (p : Periods) (turns : List Turn) (j : ℕ) (call handed : Queued X)
       (earlier : Option (Queued X))
       → call.at ≡ tag_of p
@@ -301,7 +302,7 @@ module _ {C X : Type 0} where
       elapsed handed.at _ _ _ (moved (engine_after first calls) BarrierTest is.0)
       (since first calls j handed is.1 q)
 
-  -- what has waited was queued before a full grace period
+  -- a callback that has waited was queued before a full grace period
   pub period_passed : (first : Locked C X) (calls : List (Call X)) (j : ℕ) (handed : Queued X)
       → IsRun first calls
       → queued_as j first calls ≡ Some handed

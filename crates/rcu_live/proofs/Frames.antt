@@ -1,4 +1,4 @@
--- The rule where one view changes: what the other seats, the words and the client keep.
+-- The rule if one view changes: what the other seats, the words and the client keep.
 use Rattle.std.proofs.Common.{◌≡◌, ◌≢◌, ℕ, ◌%◌, ◌<◌, ◌≤◌, List, length, get_or, set, map}
 use Rattle.std.proofs.Common.{drop}
 use Rattle.std.proofs.Common.{true, false}
@@ -18,7 +18,7 @@ use Rattle.rcu_live.specs.View.{client_view}
 use Rattle.rcu_live.specs.Words.{base_of, own_word_index, mask_index}
 use Rattle.rcu_live.specs.declared.view.View.{View}
 
--- a view that a client cannot tell from the one before leaves what is shown of all
+-- a view that a client cannot distinguish from the one before leaves all that is shown
 pub same_views : {C : Type 0} (views : List (View C)) (id : ℕ) (v w : View C)
     → get_elem? views id ≡ some v
     → client_view w ≡ client_view v
@@ -42,8 +42,8 @@ module _ {C : Type 0} (holds : List ℕ → Views C → Type 0) where
       subst (λ (y : List ℕ × Views C). holds y.0 y.1) (λ i. (sym rest i, sym back i))
       k.client
 
-  -- one view changes, and words do: the rule is kept where the others fit as before, the changed
-  -- one fits, and the client's rule is kept
+  -- one view changes, and words do: the rule is kept if the others fit as before, the changed one
+  -- fits, and the client's rule is kept
   pub changed : (cpus : ℕ) (s : State (Unit {0}) (View C)) (k : IsKept holds cpus s) (id : ℕ)
       (w : View C)
       (words : List ℕ) (own_word_loads : List (ℕ × ℕ))

@@ -66,7 +66,7 @@ snapshot_rises : (n m : ℕ) → n ≤ m → snapshot n ≤ snapshot m
 snapshot_rises n m l = omega (arith, l)
 
 module _ {C X : Type 0} where
-  -- what each callback of an engine's lists waits for is at most the snapshot of its number
+  -- each callback of an engine's lists waits for at most the snapshot of its number
   abbrev AreAllMarked : Locked C X → Type 0
   AreAllMarked e = AreMarked (snapshot (number_of e.grace.seq)) e.grace.lists
 
@@ -162,7 +162,7 @@ module _ {C X : Type 0} where
 
 module _ {C X : Type 0} (first : Locked C X) (later earlier : List (Call X)) (cpu place : ℕ)
     (new : IsNew first) where
-  -- the calls on the lists of two tends and what comes between
+  -- the calls on the lists by two tends and the calls between them
   between : List (lists.Call X)
   between = list_calls (engine_after first (Tend cpu ∷ earlier)) later
 
@@ -180,7 +180,7 @@ module _ {C X : Type 0} (first : Locked C X) (later earlier : List (Call X)) (cp
       ∷ calls)
       (calls_split first later (Tend cpu ∷ earlier))
 
-  -- none that lay in the list waits
+  -- no callback that was in the list waits
   pub none_left_waiting : IsRun first (Tend cpu ∷ later ++ Tend cpu ∷ earlier)
       → snapshot (number_of (engine_after first earlier).grace.seq)
       ≤ number_of (engine_after first (later ++ Tend cpu ∷ earlier)).grace.seq

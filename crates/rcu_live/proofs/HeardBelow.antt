@@ -1,15 +1,15 @@
--- What is awaited once those processors below one are heard of of which a test tells.
+-- The awaited set after the processors below one that pass a test reported.
 use Rattle.std.proofs.Common.{◌≡◌, ◌≢◌, ℕ, ◌+◌, ◌<◌, ◌≤◌, ◌&&◌, Bool, true, false, not, nat_lt}
 use Rattle.std.proofs.Common.{List, length, slice_set, refl, sym, ap, ◌∙◌, arith}
 use Rattle.std.proofs.lemmas.Bool.Decides.{nat_tests}
 use Rattle.rcu_node.specs.CpuSet.{is_in, unheard}
 use Rattle.rcu_node.proofs.CpuSetLemmas.{is_in-listed, length-listed, listed_same, listed_set}
 
--- heard of are the processors below n of which the test tells
+-- the processors below n that pass the test have reported
 abbrev pub heard_below : ℕ → (ℕ → Bool) → ℕ → Bool
 heard_below n test cpu = nat_lt cpu n && test cpu
 
--- nobody is below 0, and all are below the end
+-- no processor is below 0, and all are below the end
 pub none_below : (set : List Bool) (test : ℕ → Bool) → unheard set (heard_below 0 test) ≡ set
 none_below set test =
     listed_same (length set) (λ c. is_in set c && not (heard_below 0 test c)) set refl
@@ -30,7 +30,7 @@ all_below set n test long =
         → (here && not (nat_lt c n && there)) ≡ (here && not there)
     last here there c n low = grind (arith, nat_tests)
 
--- the next one is heard of, and awaited no more; those below are heard of as before
+-- the next one reports, and is no longer awaited; those below have reported as before
 pub one_below : (set : List Bool) (n : ℕ) (test other : ℕ → Bool) → n < length set → other n ≡ true
     → ((c : ℕ) → c < n → other c ≡ test c)
     → unheard set (heard_below (n + 1) other) ≡ slice_set (unheard set (heard_below n test)) n false
@@ -48,11 +48,11 @@ one_below set n test other inside told same =
         → (here && not (nat_lt c (n + 1) && new)) ≡ (here && not (nat_lt c n && there))
     others here there new c n apart is = grind (arith, nat_tests, apart, is)
 
--- of two flags not both are set where the second is not
+-- two flags are not both set if the second is not
 pub not_both : (here there : Bool) → there ≡ false → (here && there) ≡ false
 not_both here there is = grind (arith, nat_tests)
 
--- the next one is not heard of, or was not awaited
+-- the next one does not report, or was not awaited
 pub none_more : (set : List Bool) (n : ℕ) (test other : ℕ → Bool) → (is_in set n && other n) ≡ false
     → ((c : ℕ) → c < n → other c ≡ test c)
     → unheard set (heard_below (n + 1) other) ≡ unheard set (heard_below n test)
@@ -71,7 +71,7 @@ none_more set n test other out same =
         → (here && not (nat_lt c n && there)) ≡ (here && not (nat_lt c (n + 1) && new))
     stays here there new c n is out = grind (arith, nat_tests, is, out)
 
--- up to a processor before which nobody more was heard of that is in the set
+-- up to a processor before which no further one of the set reported
 pub same_below : (set : List Bool) (n m : ℕ) (test : ℕ → Bool) → n ≤ m
     → ((c : ℕ) → n ≤ c → c < m → (is_in set c && test c) ≡ false)
     → unheard set (heard_below m test) ≡ unheard set (heard_below n test)

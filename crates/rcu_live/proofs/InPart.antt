@@ -1,4 +1,4 @@
--- After a step of a part, the seat as the part sees it is what the part's step leaves of that.
+-- After a step of a part, the part sees the seat as after its own step.
 use Rattle.std.proofs.Common.{◌≡◌, ℕ, ap, ◌∙◌, subst, sym}
 use Rattle.rcu_seq.specs.Numbers.{Number}
 use Rattle.rcu_live.specs.CpuSeat.{Seated}
@@ -12,7 +12,7 @@ use Rattle.rcu_live.specs.declared.view.View.{View}
 module _ {D C : Type 0} (lens : Lens D C) (got : (d : D) (c : C) → lens.get (lens.set d c) ≡ c)
     (stays : (base : ℕ) (d : D) (c : C) → lens.begins base (lens.set d c) ≡ lens.begins base d)
   where
-    -- with this for where the part's words begin, and for what is known of the part
+    -- with this start of the part's words, and this knowledge about the part
     abbrev with_part : View D → ℕ → C → View C
     with_part v base c = record (view_part lens v) { base = base; client = c }
 
@@ -44,7 +44,7 @@ module _ {D C : Type 0} (lens : Lens D C) (got : (d : D) (c : C) → lens.get (l
         ∙ ap (λ (v : View C). record (watcher_part lens w) { view = v })
         (view_with (after_load w.view n) (lens.get x.view.client))
 
-    -- what a step told of the whole, it told of the part
+    -- a relation of a step on the whole is one on the part
     pub seat_knows : (tells : C → C → Type 0) (s t : Seated D)
         → cpu_seat.KnowsBy (of_part lens tells) s t
         → cpu_seat.KnowsBy tells (seat_part lens s) (seat_part lens t)

@@ -1,5 +1,4 @@
--- A run of the engine is a run of calls on its lists, and so what holds of each of those holds of
--- it.
+-- A run of the engine is a run of calls on its lists, so the laws of those hold for it.
 use Rattle.std.proofs.Common.{◌≡◌, ℕ, ◌+◌, ◌<◌, ◌≤◌, Bool, true, false, ◌&&◌, List, [], ◌∷◌, ◌++◌}
 use Rattle.std.proofs.Common.{refl, sym, ap, ◌∙◌, arith, subst, length, set}
 use Rattle.std.specs.Prelude.{◌==◌, if◌then◌else◌, Option, Some, slice_get}
@@ -52,7 +51,7 @@ module _ {X : Type 0} where
   tested_length all true = refl
   tested_length all false = refl
 
-  -- no call on the lists changes how many there are
+  -- no call on the lists changes their number
   as_many : (all : AllLists X) (call : lists.Call X)
       → length (lists.after_call all call).lists ≡ length all.lists
   as_many all (lists.Queue cpu at value) = length-set all.lists cpu _
@@ -67,7 +66,7 @@ module _ {X : Type 0} where
   as_many all lists.Renumber = length-map all.lists after_renumber
 
 module _ {C X : Type 0} where
-  -- what changes no list and no processor's count
+  -- a call that changes no list and no processor's count
   pub record Keeps (e f : Locked C X) : Type 0 where
     pub same : f.grace.lists ≡ e.grace.lists
     pub count : f.cpus ≡ e.cpus
@@ -146,8 +145,8 @@ module _ {C X : Type 0} where
   list_calls first (call ∷ calls) =
       on_lists (engine_after first calls) call ++ list_calls first calls
 
-  -- a run on the lists that leaves the lists of an engine, and tells of it what the run of the
-  -- engine does
+  -- a run on the lists that leaves the lists of an engine, with the same callbacks queued and
+  -- handed out as the run of the engine
   pub record Onto (first : AllLists X) (run : List (lists.Call X)) (e : Locked C X) (times : ℕ → ℕ)
       (before : ℕ) (queued : ℕ → Option (Queued X)) : Type 0 where
     pub leaves : lists.lists_after first run ≡ e.grace.lists
@@ -328,7 +327,7 @@ module _ {C X : Type 0} (first : Locked C X) (calls : List (Call X)) (place : �
       let listed = ap (λ all. lists.times_listed place all) o.leaves in
       omega (arith, once, same, listed)
 
-  -- a barrier covers what was queued before it
+  -- a barrier covers the callbacks that were queued before it
   pub earlier_are_handed : ((all : AllLists X) (run : List (lists.Call X)) (j : ℕ)
       → lists.IsNew all
       → lists.IsRun all (lists.BarrierTest ∷ run)
@@ -352,7 +351,7 @@ module _ {C X : Type 0} (first : Locked C X) (calls : List (Call X)) (place : �
       let same = o.handed place in
       omega (arith, once, same)
 
-  -- what is handed out is what was queued
+  -- a callback that is handed out is as it was queued
   pub handed_was_queued : (cpu most : ℕ) (handed : Queued X)
       → ((all : AllLists X) (run : List (lists.Call X))
       → lists.IsNew all

@@ -1,4 +1,4 @@
--- The words that loads found, and who is cleared by them.
+-- The words that loads found, and the processors that they clear.
 use Rattle.std.proofs.Common.{◌≡◌, ◌≢◌, ℕ, zero, suc, ◌+◌, ◌<◌, ◌≤◌, ◌==◌, ◌&&◌, Bool}
 use Rattle.std.proofs.Common.{true, false}
 use Rattle.std.proofs.Common.{if◌then◌else◌, List, ◌∷◌, length, slice_set, refl, sym, ap, ◌∙◌}
@@ -26,7 +26,7 @@ other_place cpu c apart =
     own_words_apart cpu c (λ e. apart (sym e)) in
     grind (arith, nat_tests, differ)
 
--- the latest load at a processor's place tells its word, and leaves those of the others
+-- the latest load at a processor's place gives its word, and leaves those of the others
 pub found_here : (own_word_loads : List (ℕ × ℕ)) (cpu word : ℕ)
     → loaded_word ((own_word_index cpu, word) ∷ own_word_loads) cpu ≡ word
 found_here own_word_loads cpu word =
@@ -52,7 +52,7 @@ in_turn_more : (word : ℕ → ℕ) (n : ℕ)
     → loads_in_turn word (n + 1) ≡ (own_word_index n, word n) ∷ loads_in_turn word n
 in_turn_more word n = ap (loads_in_turn word) (let next : n + 1 ≡ suc n = omega arith in next)
 
--- who is told of by a word that was found in turn is cleared
+-- a processor that is reported by a word that was found in turn is cleared
 pub cleared_in_turn : (t : Number) (word : ℕ → ℕ) (n c : ℕ)
     → c < n → reports_quiescence t (word c) ≡ true → is_cleared t c (loads_in_turn word n) ≡ true
 cleared_in_turn t word zero c low told = absurd (omega arith)
@@ -116,7 +116,7 @@ flags_more test flags own_word_loads n word flag inside is old c low = elim (cas
 ]
 
 module _ {C : Type 0} where
-  -- the same of what the view has after the load
+  -- the same for the view after the load
   pub found_of : (test : ℕ → Bool) (flags : List Bool) (v w : View C) (n word : ℕ)
       → w ≡ after_own_word_load v (own_word_index n) word
       → ((c : ℕ) → c < n + 1 → is_in flags c
@@ -130,7 +130,7 @@ length-in_turn : (word : ℕ → ℕ) (n : ℕ) → length (loads_in_turn word n
 length-in_turn word zero = refl
 length-in_turn word (suc n) = ap suc (length-in_turn word n)
 
--- loads that found others at 0 leave what was found of a processor
+-- loads that found others at 0 leave the word that was found for a processor
 offline_before : (from more c : ℕ) (earlier : List (ℕ × ℕ)) → c < from
     → loaded_word (offline_loads from more earlier) c ≡ loaded_word earlier c
 offline_before from zero c earlier low = refl
@@ -139,7 +139,7 @@ offline_before from (suc more) c earlier low =
     (λ e. absurd (omega (arith, e, low)))
     ∙ offline_before from more c earlier low
 
--- and tell of those that they found
+-- and give the words of those that they found
 offline_here : (from more c : ℕ) (earlier : List (ℕ × ℕ)) → from ≤ c → c < from + more
     → loaded_word (offline_loads from more earlier) c ≡ 0
 offline_here from zero c earlier far low = absurd (omega (arith, far, low))
@@ -173,7 +173,7 @@ module _ {C : Type 0} where
       ap (λ (u : View C). length u.own_word_loads) is
       ∙ length-in_turn (loaded_word v.own_word_loads) n
 
-  -- a load that found so many more at 0
+  -- a load that found this number of further ones at 0
   pub all_found : (first v w : View C) (n more : ℕ)
       → v ≡ after_own_word_loads first (loaded_word v.own_word_loads) n
       → w ≡ found_offline v n more
@@ -214,7 +214,7 @@ module _ {C : Type 0} where
       let here : v.cpu ≡ cpus = ap (λ (u : View C). u.cpu) is ∙ dealt in
       told ∙ (λ i. found_offline v (next i) (absent_from mask (next i) (here i)))
 
-  -- where it found none, nothing is seen
+  -- if it found none, the view stays
   pub none_found : (v : View C) (n more : ℕ) → more ≡ 0 → found_offline v n more ≡ v
   none_found v n more none =
       let loads : v.loads + 0 ≡ v.loads = omega arith in

@@ -34,7 +34,7 @@ the_same : {a b : ℕ} → Some a ≡ Some b → b ≡ a
 the_same e = cc
 
 module _ {C : Type 0} (holds : List ℕ → Views C → Type 0) where
-  -- a seat that saw the number fits, where it did before, and where what it has of a section holds
+  -- a seat that saw the number fits, if it did before, and if the invariant of its section holds
   seen_fits : (cpus : ℕ) (words : List ℕ) (owner : ℕ → ℕ) (engine : ℕ)
       (own_word_loads : List (ℕ × ℕ)) (id : ℕ) (v w : View C)
       → Fits cpus words owner engine own_word_loads id v

@@ -37,7 +37,8 @@ first_of [] some_seat = absurd (omega (arith, some_seat))
 first_of (x ∷ xs) some_seat = (x, refl)
 
 module _ {C : Type 0} (holds : List ℕ → Views C → Type 0) where
-  -- a step that leaves who is asked, by a seat whose view the rule of askings finds alike
+  -- a step that leaves which processor is asked, by a seat whose view is alike for the rule of
+  -- askings
   moves : (cpus slots id at : ℕ) (me : Me (Unit {0}) (View C)) (change : ℕ → ℕ)
       (tells : ℕ → Me (Unit {0}) (View C) → Type 0)
       → Allows (IsKept holds cpus) slots id me at change tells
@@ -259,7 +260,8 @@ module _ {C : Type 0} (holds : List ℕ → Views C → Type 0) where
         no_look (none_stored right none);
   }
 
-  -- a seat that is no processor's and not the engine's comes in, and who is asked changes or not
+  -- a seat that is no processor's and not the engine's comes in, and the asked processor changes or
+  -- not
   joins : (cpus : ℕ) (s : State (Unit {0}) (View C)) (k : IsKept holds cpus s) (idle close : C → C)
       → IsStable holds idle close
       → (v0 new : View C) (word : ℕ)
@@ -374,7 +376,7 @@ module _ {C : Type 0} (holds : List ℕ → Views C → Type 0) where
         (refl, is),
       )
 
-  -- a look at who is asked
+  -- a look at which processor is asked
   pub looks_at_asked : (idle close : C → C) → IsStable holds idle close
       → (cpus slots cpu : ℕ)
       → Enters (IsMoment holds cpus) slots 1 (λ n w. (w.role ≡ Looker) × (w.own_word ≡ n))

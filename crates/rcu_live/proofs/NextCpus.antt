@@ -14,7 +14,7 @@ use Rattle.rcu_live.specs.NextCpu.{IsNextFrom}
 abbrev pub AreFlags : List Bool → ℕ → ℕ → Type 0
 AreFlags set cpu word = (bit : ℕ) → has_bit word bit ≡ (nat_lt bit 64 && is_in set (cpu + bit))
 
--- nobody of a set is between
+-- no processor of a set is between
 abbrev pub NobodyIn : List Bool → ℕ → ℕ → Type 0
 NobodyIn set from end = (c : ℕ) → from ≤ c → c < end → is_in set c ≡ false
 
@@ -48,7 +48,7 @@ lowest word some fits =
       none = λ i less. ap (λ (n : ℕ). n == 1) (told.2 i less);
     }
 
--- where the word is 0, nobody of it is in the set
+-- if the word is 0, no processor of it is in the set
 pub none_of : (set : List Bool) (from cpu word : ℕ)
     → AreFlags set cpu word → word ≡ 0 → NobodyIn set from cpu → NobodyIn set from (cpu + 64)
 none_of set from cpu word flags empty before c later low = elim (cases_lt c cpu) [
@@ -74,7 +74,7 @@ none_of_few set from width word c flags empty far low =
     ∙ ap (λ (n : ℕ). has_bit n (c - from)) empty
     ∙ no_bit (c - from)
 
--- where it is not, its lowest bit is the next one's
+-- if it is not, its lowest bit is the next one's
 pub first_of : (set : List Bool) (from cpu word : ℕ)
     → AreFlags set cpu word → 0 < word → word < 2 ^ 64 → from ≤ cpu → NobodyIn set from cpu
     → IsNextFrom set from (cpu + trailing_zeros w64 word)
@@ -100,7 +100,7 @@ first_of set from cpu word flags some fits later before =
       ];
     }
 
--- where the walk is past the end, nobody is left
+-- if the walk is past the end, none is left
 pub nobody_left : (set : List Bool) (from cpu : ℕ) → length set ≤ cpu → NobodyIn set from cpu
     → (c : ℕ) → from ≤ c → is_in set c ≡ false
 nobody_left set from cpu past before c later = elim (cases_lt c cpu) [

@@ -10,7 +10,7 @@ pub own_bound : (seen : Number) (word : ℕ) → is_own_word seen word ≡ true 
     → word ≤ seen + 1
 own_bound seen word own online = grind (arith, nat_tests)
 
--- who saw a later number may store the same words
+-- a seat that saw a later number may store the same words
 pub own_later : (seen n : Number) (word : ℕ) → seen ≤ n → is_own_word seen word ≡ true
     → is_own_word n word ≡ true
 own_later seen n word up own = grind (arith, nat_tests)
@@ -43,7 +43,7 @@ mask_inside c cpus low = omega (arith, low)
 pub same_mask : (c d : ℕ) → mask_index c ≡ mask_index d → c % 64 ≡ d % 64 → c ≡ d
 same_mask c d same bit = omega (arith, same, bit)
 
--- who is asked stands at a place of its own
+-- the asked processor's word has a place of its own
 pub number_asked : ◌≢◌ {A = ℕ} 0 1
 number_asked same = absurd (omega (arith, same))
 

@@ -50,7 +50,7 @@ not_cleared_more t cpu from (suc more) earlier others cleared = ⊎_elim
     not_cleared_more t cpu from more earlier (λ c low high. others c low (omega arith)) was)
     (or_cases _ _ cleared)
 
--- a bit that is set stays so where one is set
+-- a set bit stays so if another one is set
 stays_set : (word k i : ℕ) → k < 64 → has_bit word i ≡ true
     → has_bit (bit_or word (1 * 2 ^ k % 2 ^ 64)) i ≡ true
 stays_set word k i low here = elim (cases_eq i k) [
@@ -85,14 +85,14 @@ no_bit_below word bit fits low = elim (cases_eq word 0) [
 shift_fits : (word first : ℕ) → word < 2 ^ 64 → word / 2 ^ first < 2 ^ 64
 shift_fits word first fits = grind (arith, fits)
 
--- no processor is told of that is not there
+-- the counted processors exist
 pub absent_inside : (mask cpu cpus : ℕ) → cpu < cpus → cpu + absent_from mask cpu cpus ≤ cpus
 absent_inside mask cpu cpus low =
     let rest = min-le_right (trailing_zeros w64 (mask / 2 ^ (cpu % 64)))
     (min (64 - cpu % 64) (cpus - cpu)) in
     let few = min-le_right (64 - cpu % 64) (cpus - cpu) in omega (arith, rest, few, low)
 
--- who is counted shares the online mask
+-- a counted processor shares the online mask
 pub share_mask : (mask cpu cpus d : ℕ) → cpu ≤ d → d < cpu + absent_from mask cpu cpus
     → mask_index d ≡ mask_index cpu
 share_mask mask cpu cpus d far less =
@@ -100,7 +100,7 @@ share_mask mask cpu cpus d far less =
     (min (64 - cpu % 64) (cpus - cpu)) in
     let room = min-le_left (64 - cpu % 64) (cpus - cpu) in omega (arith, far, less, rest, room)
 
--- what an online mask tells of a processor that it has no bit of, in a row
+-- a processor without a bit in an online mask, in a row of such processors
 pub record IsAbsent (mask cpu d : ℕ) : Type 0 where
   pub together : mask_index d ≡ mask_index cpu
   pub none : has_bit mask (d % 64) ≡ false
@@ -137,7 +137,7 @@ bit_behind word fits low = elim (cases_eq word 0) [
       ap (λ (n : ℕ). n == 1) (bit_at-trailing_zeros w64 word (omega (arith, full)) fits).1
 ]
 
--- the least of three is the first one where it is below the others
+-- the least of three is the first one if it is below the others
 least_first : (a b c : ℕ) → min a (min b c) < b → min a (min b c) < c → min a (min b c) ≡ a
 least_first a b c below under = elim (cases_lt a (min b c)) [
   | inl less ↦ min-eq_left (omega (arith, less))
@@ -153,7 +153,7 @@ least_first a b c below under = elim (cases_lt a (min b c)) [
       ]
 ]
 
--- who comes next has its bit
+-- the next processor has its bit
 pub next_has_bit : (mask cpu cpus : ℕ) → mask < 2 ^ 64
     → cpu + absent_from mask cpu cpus < cpus
     → cpu % 64 + absent_from mask cpu cpus < 64
@@ -171,9 +171,9 @@ bit_small : (c : ℕ) → c % 64 < 64
 bit_small c = omega arith
 
 module _ {C : Type 0} (holds : List ℕ → Views C → Type 0) where
-  -- the online mask of a processor becomes another, by a step of its seat: the rule is kept where
-  -- it has the bits of who is about to arrive, and misses only those of processors whose own word
-  -- is 0
+  -- the online mask of a processor changes, by a step of its seat: the rule is kept if the mask has
+  -- the bits of processors that are about to arrive, and misses only those of processors whose own
+  -- word is 0
   mask_changed : (cpus id new : ℕ) (s : State (Unit {0}) (View C)) (k : IsKept holds cpus s)
       (v w : View C)
       → get_elem? s.views id ≡ some v
@@ -345,7 +345,7 @@ module _ {C : Type 0} (holds : List ℕ → Views C → Type 0) where
         (refl, refl),
       ))
 
-  -- what one load of an online mask finds of processors keeps the rule
+  -- one load of an online mask, with what it finds, keeps the rule
   finds_offline : (cpus id : ℕ) (s : State (Unit {0}) (View C)) (k : IsKept holds cpus s)
       (v : View C) (from more : ℕ)
       → get_elem? s.views id ≡ some v

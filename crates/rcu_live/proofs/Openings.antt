@@ -18,7 +18,7 @@ use Rattle.rcu_live.specs.Words.{base_of, first_own_word, first_words, own_word_
 use Rattle.rcu_live.specs.Words.{mask_index}
 use Rattle.rcu_live.specs.declared.view.View.{View}
 
--- what stands behind a list of so many
+-- the rest behind a list of this length
 drop_front : {A : Type 0} (n : ℕ) (xs ys : List A) → length xs ≡ n → drop n (xs ++ ys) ≡ ys
 drop_front zero [] ys e = refl
 drop_front zero (x ∷ xs) ys e = absurd (omega arith)
@@ -36,7 +36,7 @@ length-first_words cpus =
     ∙ length-set (replicate (base_of cpus) 0) 16 1
     ∙ length-replicate (base_of cpus) 0
 
--- there is room for the engine's words
+-- the table has room for the engine's words
 pub room_at_first : (cpus : ℕ) (behind words : List ℕ) → words ≡ first_words cpus ++ behind
     → base_of cpus ≤ length words
 room_at_first cpus behind words is =
@@ -83,7 +83,7 @@ one_here : has_bit 1 0 ≡ true
 unfolding has_bit
 one_here = refl
 
--- who has no bit in its online mask is offline at the start
+-- a processor without a bit in its online mask is offline at the start
 first_absent : (words : List ℕ) (c : ℕ) → get_or words 8 0 ≡ 1
     → has_bit (get_or words (mask_index c) 0) (c % 64) ≡ false → first_own_word c ≡ 0
 first_absent words zero one none =

@@ -71,7 +71,7 @@ module _ {X : Type 0} where
   report_shrinks false g d c i = i
 
 module _ {C X : Type 0} where
-  -- where each awaited processor's word tells of it, nobody is awaited after the collections
+  -- if each awaited processor's word reports it, no processor is awaited after the collections
   pub nobody_left : (e : Locked C X) (word : ℕ → ℕ)
       → ((c : ℕ) → is_in e.grace.processors.awaited c ≡ true
       → reports_quiescence (number_of e.grace.seq) (word c) ≡ true)
@@ -257,7 +257,7 @@ module _ {C X : Type 0} where
   call_shrinks e (Visit d) c m r i = i
   call_shrinks e BarrierTest c m r i = i
 
--- as calls go on, no fewer grace periods have ended, and while as many have, the same one runs
+-- after further calls no fewer grace periods have ended, and while as many have, the same one runs
 ends_rise : (old new : Periods) → Moved old new → old.ends ≤ new.ends
 ends_rise old new (Stays is) = let e = ap (λ (p : Periods). p.ends) is in omega (arith, e)
 ends_rise old new (Begins idle is) = let e = ap (λ (p : Periods). p.ends) is in omega (arith, e)

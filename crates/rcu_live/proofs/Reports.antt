@@ -1,4 +1,4 @@
--- What is awaited once the processors of a set are reported, one after another.
+-- The awaited set after the processors of a set are reported, one after another.
 use Rattle.std.proofs.Common.{◌≡◌, ℕ, ◌+◌, ◌<◌, ◌≤◌, Bool, true, false, List, length, refl, sym, ap}
 use Rattle.std.proofs.Common.{◌∙◌, arith}
 use Rattle.rcu_node.specs.CpuSet.{is_in, unheard}

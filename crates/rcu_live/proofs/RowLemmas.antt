@@ -13,7 +13,7 @@ one_more f n old new a was is e =
     is ∙ ap (λ l. l ++ a ∷ []) was ∙ ap (λ b. map f (range_with_len 0 n) ++ b ∷ []) e
     ∙ sym (map-range_with_len_more f 0 n n (omega arith))
 
--- what holds of what is made of each number, holds of each element
+-- a property of the value made from each number holds for each element
 pub each_made : {A : Type 0} (f : ℕ → A) (n : ℕ) (xs : List A) (P : A → Type 0)
     → xs ≡ map f (range_with_len 0 n) → ((i : ℕ) → P (f i)) → All P xs
 each_made f n xs P is each = subst (All P) (sym is)

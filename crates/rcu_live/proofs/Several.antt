@@ -1,4 +1,4 @@
--- What a client's rule allows on its part, the rule of the whole allows.
+-- A step that a client's rule allows on its part is allowed by the rule of the whole.
 use Rattle.std.proofs.Common.{◌≡◌, ℕ, ◌+◌, List, Option, Some, get_or, map}
 use Rattle.std.proofs.Common.{set, refl, sym, ap, ◌∙◌, subst, arith}
 use mathlib.Core.Option.{some}
@@ -10,7 +10,7 @@ use Rattle.rcu_live.specs.Several.{shown_part, word_of_part}
 use Rattle.rcu_live.proofs.ClientLemmas.{at_map_back}
 
 module _ {D C : Type 0} (lens : Lens D C) where
-  -- what is open of the whole is open of a part, and a processor has one seat there, too
+  -- sections open in the whole are open in a part, and a processor has one seat there, too
   still_open : (number : Number) (xs : Views D) → AreOpen number xs
       → AreOpen number (map (shown_part lens) xs)
   still_open number xs are id at cpu c e =
@@ -61,7 +61,7 @@ module _ {D C : Type 0} (lens : Lens D C) where
           ),
         )
 
-    -- the same by the index in the table, where the words of the whole and those of the part begin
+    -- the same by the index in the table, if the words of the whole and those of the part begin
     -- further on
     pub allows_at : (p start from index : ℕ) (change seen : ℕ → ℕ) (tells : ℕ → C → ℕ → C → Type 0)
         → from ≡ start + base
@@ -89,7 +89,7 @@ module _ {D C : Type 0} (lens : Lens D C) where
           (ap (lens.set d) (sym same), subst (tells (lens.get d) number) (sym same) u.2),
         )
 
-  -- what a step tells of a part's word, by what it tells of the word at a place
+  -- the relation of a step on a part's word, by that on the word at a place
   pub told_word : ((base : ℕ) (d : D) → lens.begins base d ≡ base + lens.begins 0 d)
       → (tells : ℕ → C → ℕ → C → Type 0) (was : D) (x : ℕ) (now : D) (from start index word : ℕ)
       → lens.begins from was ≡ start

@@ -1,5 +1,5 @@
--- No quiescent state is slept through: what an asking and a look know of the one seat of their
--- processor.
+-- No quiescent state is slept through: the knowledge of an asking and a look about the one seat of
+-- their processor.
 use Rattle.std.proofs.Common.{◌≡◌, ◌≢◌, ◌⊎◌, ℕ, zero, suc, ◌+◌, ◌≤◌, Bool, true, List}
 use Rattle.std.proofs.Common.{[], ◌∷◌}
 use Rattle.std.proofs.Common.{if◌then◌else◌, inl, inr, ⊎_elim, refl, sym, ap, ◌∙◌, arith, eq-eqb}
@@ -19,7 +19,7 @@ use Rattle.rcu_live.specs.declared.view.View.{View}
 use Rattle.rcu_live.proofs.Askings.{alike_stored, awake_asks, awake_at_first, awake_looks}
 use Rattle.rcu_live.proofs.Askings.{awake_still}
 
--- whose seat it is
+-- the owner of a seat
 seat_is : (c : ℕ) (role : Role) (own : ℕ) → is_seat_of c role own ≡ true → (role ≡ Cpu) × (own ≡ c)
 seat_is c Cpu own is = (refl, (Decides-eqb own c).0 is)
 seat_is c Watcher own is = absurd (cc)
@@ -57,7 +57,7 @@ module _ {C : Type 0} where
       both_parts (stores_by c x) (stores_of c xs) 0 0 (counts_not c x (others 0 x refl))
       (none_of c xs (λ j u at. others (suc j) u at))
 
-  -- a processor that has one seat stored as often as that did
+  -- a processor that has one seat stored as often as that seat
   one_of : (c : ℕ) (views : List (View C)) (k : ℕ) (v : View C) → get_elem? views k ≡ some v
       → is_seat_of c v.role v.cpu ≡ true
       → ((j : ℕ) (u : View C) → get_elem? views j ≡ some u → is_seat_of c u.role u.cpu ≡ true

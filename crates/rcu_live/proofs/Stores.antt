@@ -19,7 +19,7 @@ use Rattle.rcu_live.specs.declared.view.View.{View}
 use Rattle.rcu_live.proofs.Frames.{changed, unseen}
 use Rattle.rcu_live.proofs.Numbers.{number_apart, own_words_apart, mask_apart}
 
--- who has no bit in its online mask stores 0
+-- a processor without a bit in its online mask stores 0
 here0 : (word found : ℕ) (here : Bool) → found ≡ word → (0 < word → here ≡ true) → here ≡ false
     → found ≡ 0
 here0 zero found here is on gone = is

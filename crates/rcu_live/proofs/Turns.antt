@@ -43,8 +43,8 @@ ended_rests : (n : Number) → is_running n ≡ true → is_running (n + 3) ≡ 
 ended_rests n runs = grind (arith, nat_tests)
 
 module _ {C : Type 0} (holds : List ℕ → Views C → Type 0) where
-  -- the engine stores a number that is no lower, and what it found stays or falls: the rule is kept
-  -- where each processor's seat is sound at it
+  -- the engine stores a number that is no lower, and the words that it found stay or are dropped:
+  -- the rule is kept if each processor's seat is sound at the new number
   stored : (cpus id n : ℕ) (s : State (Unit {0}) (View C)) (k : IsKept holds cpus s) (v : View C)
       (own_word_loads : List (ℕ × ℕ))
       → get_elem? s.views id ≡ some v

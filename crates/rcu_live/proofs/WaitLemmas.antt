@@ -24,7 +24,7 @@ module _ {C : Type 0} where
     state = refl;
   }
 
-  -- what a quiescent state does where the processor may pass one, and where it may not
+  -- the effect of a quiescent state if the processor may pass one, and if it may not
   abbrev rests : Seated C → ℕ → Number → Seated C
   rests s times n = record s {
     view = record s.view {
@@ -95,7 +95,7 @@ module _ {C : Type 0} where
     | inr asleep ↦ subst (HasRested s) (sym (new ∙ asleep_rests t 1 u.view.seen asleep)) r
   ]
 
-  -- quiescent states leave what is known of the client, and where its words begin
+  -- quiescent states leave the knowledge about the client, and the start of its words
   rests_know : {A : Type 0} (f : ℕ → C → A) (s : Seated C) (times : ℕ) (n : Number)
       → f (after_rests s times n).view.base (after_rests s times n).view.client
       ≡ f s.view.base s.view.client

@@ -8,7 +8,7 @@ use Rattle.rcu_cblist.specs.declared.items.Queued.{Queued}
 use Rattle.rcu_state.specs.GpState as grace
 use Rattle.rcu_live.specs.Engine.{HasWaited}
 
--- in the first epoch what waited long enough is of that epoch
+-- in the first epoch a callback that waited long enough is of that epoch
 waited_in_first : (seq : Periods) (n : ℕ) (at : Tag) → seq.epoch ≡ 0 → n ≡ number_of seq
     → grace.HasWaited (tag_of seq) at → HasWaited n at
 waited_in_first seq n at first is h =

@@ -1,5 +1,5 @@
--- Who is asked to wake who sleeps: what holds of that word, of who asked and of who looked, between
--- any two atomic steps.
+-- The processor that is asked to wake sleeping waiters: the rule of that word, of the askings and
+-- of the looks, between any two atomic steps.
 use Rattle.std.specs.Prelude.{◌≡◌, ◌⊎◌, ℕ, ◌+◌, ◌<◌, ◌≤◌, ◌==◌, Bool, false, List, [], ◌∷◌, length}
 use Rattle.std.specs.Prelude.{if◌then◌else◌, slice_index}
 use mathlib.Core.Option.{some}
@@ -21,7 +21,7 @@ is_seat_of cpu Asker own = false
 is_seat_of cpu Looker own = false
 
 module _ {C : Type 0} where
-  -- the processor that is asked, and one more; 0 where none is
+  -- the processor that is asked, and one more; 0 if none is
   abbrev pub asked_at : State (Unit {0}) (View C) → ℕ
   asked_at s = slice_index s.words asked_index
 
@@ -29,7 +29,7 @@ module _ {C : Type 0} where
   abbrev pub stores_by : ℕ → View C → ℕ
   stores_by cpu v = if is_seat_of cpu v.role v.cpu then v.stores else 0
 
-  -- how many times that was stored
+  -- how many times the own word was stored
   abbrev pub stores_of : ℕ → List (View C) → ℕ
   stores_of cpu [] = 0
   stores_of cpu (v ∷ views) = stores_by cpu v + stores_of cpu views
@@ -41,8 +41,8 @@ module _ {C : Type 0} where
     pub last : (other : ℕ) (v : View C) → get_elem? views other ≡ some v → v.role ≡ Asker
         → other ≤ id
 
-  -- the latest asking stands, and a look came behind the latest store of that processor's seat:
-  -- where that stored since the asking, the look found it asked
+  -- the latest asking is still in force, and a look came after the latest store of that processor's
+  -- seat: if the seat stored since the asking, the look found it asked
   abbrev pub IsFound : ℕ → List (View C) → View C → View C → Type 0
   IsFound word views asking look =
       word ≡ asking.cpu + 1
@@ -51,20 +51,20 @@ module _ {C : Type 0} where
       → look.stores ≡ stores_of asking.cpu views
       → (asking.stores ≡ stores_of asking.cpu views) ⊎ (look.own_word ≡ word)
 
-  -- what holds of the askings and the looks. There is a seat
+  -- the rule of the askings and the looks. There is at least one seat
   pub record IsAwake (s : State (Unit {0}) (View C)) : Type 0 where
     pub opened : 0 < length s.views
-    -- who was asked last is asked, or nobody is
+    -- the processor that was asked last is asked, or none is
     pub stands : (id : ℕ) (asking : View C) → IsLastAsking s.views id asking
         → (asked_at s ≡ 0) ⊎ (asked_at s ≡ asking.cpu + 1)
-    -- no store falls
+    -- no count of stores falls
     pub counted : (id : ℕ) (look : View C) → get_elem? s.views id ≡ some look → look.role ≡ Looker
         → look.stores ≤ stores_of look.cpu s.views
     pub found : (id other : ℕ) (asking look : View C) → IsLastAsking s.views id asking
         → get_elem? s.views other ≡ some look
         → IsFound (asked_at s) s.views asking look
 
-  -- what holds at each moment: the rule of sections, and that of who sleeps
+  -- the rules that hold at each moment: that of sections, and that of sleeping waiters
   pub record IsMoment (holds : List ℕ → Views C → Type 0) (cpus : ℕ)
       (s : State (Unit {0}) (View C)) : Type 0 where
     pub kept : IsKept holds cpus s

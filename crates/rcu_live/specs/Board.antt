@@ -4,8 +4,8 @@ use Rattle.atomic_table.specs.Seated.{TableId}
 use Rattle.rcu_seq.specs.Numbers.{Number}
 use Rattle.rcu_live.specs.Words.{base_of}
 
--- which object it is, what its client was told at the opening, how many processors it has, where
--- the client's words begin, its last number, and how many callbacks may be queued
+-- which object it is, its client's plan, how many processors it has, where the client's words
+-- begin, its last number, and how many callbacks may be queued
 pub record Object (P : Type 0) : Type 0 where
   pub table : TableId
   pub plan : P
@@ -14,13 +14,13 @@ pub record Object (P : Type 0) : Type 0 where
   pub last : Number
   pub most : ℕ
 
--- so many processors an engine may have: 1 to 4,096
+-- an engine may have this number of processors: 1 to 4,096
 pub record IsCpuCount (cpus : ℕ) : Type 0 where
   pub some : 0 < cpus
   pub few : cpus ≤ 4096
 
--- it is an object of so many processors, with this last number, in which so many callbacks may be
--- queued, with so many words of a client behind the engine's own
+-- it is an object of this number of processors, with this last number and this limit of callbacks,
+-- with `behind` words of a client behind the engine's own
 pub record IsSized {P : Type 0} (cpus : ℕ) (last : Number) (most behind : ℕ)
     (engine : Object P) : Type 0 where
   pub count : engine.cpus ≡ cpus

@@ -1,4 +1,4 @@
--- What a client of the engine sees of the seats, and what its rule owes the engine.
+-- What the engine shows a client of the seats, and what the client's rule has to keep.
 use Rattle.std.specs.Prelude.{◌≡◌, ℕ, ◌+◌, true, List, [], ◌∷◌, ◌++◌, Option, Some, None, length}
 use Rattle.std.specs.Prelude.{slice_index, slice_set}
 use mathlib.Core.Option.{some}
@@ -6,17 +6,16 @@ use lib.ListN.{get_elem?}
 use Rattle.rcu_seq.specs.Numbers.{Number}
 use Rattle.rcu_live.specs.Numbers.{is_open_at}
 
--- what is shown of a seat: its processor and the number at which its open section began, none where
--- it is no processor's, and what it knows of the client
+-- the shown part of a seat: its
 abbrev pub ClientView : Type 0 → Type 0
 ClientView C = Option ℕ × Option Number × C
 
--- what is shown of all seats
+-- the shown parts of all seats
 abbrev pub Views : Type 0 → Type 0
 Views C = List (ClientView C)
 
--- the law of a client: its rule is kept where a section opens, where one closes, where a seat is
--- dealt by another, and where what a seat with no section knows is handed over to a new seat
+-- the law of a client: its rule is kept when a section opens, when one closes, when a seat deals
+-- another, and when the knowledge of a seat without a section is handed over to a new seat
 pub record IsStable {C : Type 0} (holds : List ℕ → Views C → Type 0)
     (idle closed : C → C) : Type 0 where
   pub opens : (words : List ℕ) (xs : Views C) (id : ℕ) (number : Number)
@@ -51,9 +50,9 @@ AreLone {C} xs = (i j cpu : ℕ) (o p : Option Number) (c d : C)
 
 module _ {C : Type 0} (holds : List ℕ → Views C → Type 0) (cpu section : Option ℕ)
     (c : C) where
-  -- a client's step on its word p, which becomes `change` of what it was: wherever its rule holds,
-  -- the seat has a new view that keeps it, and what the step tells holds of the word found and of
-  -- that view
+  -- a client's step on its word p, which becomes `change` of its value: whenever the client's rule
+  -- holds, the seat has a new view that keeps it, and the meaning of the step holds for the word
+  -- found and that view
   abbrev pub AllowsWord : ℕ → (ℕ → ℕ) → (ℕ → C → Type 0) → Type 0
   AllowsWord p change tells =
       (number : Number) (words : List ℕ) (xs : Views C) (id : ℕ)
@@ -66,12 +65,12 @@ module _ {C : Type 0} (holds : List ℕ → Views C → Type 0) (cpu section : O
       (slice_set xs id (cpu, section, after))
       × tells (slice_index words p) after
 
-  -- the same by the word's index in the table, where the client's words begin at this base
+  -- the same by the word's index in the table, if the client's words begin at this base
   abbrev pub AllowsAt : ℕ → ℕ → (ℕ → ℕ) → (ℕ → ℕ → C → Type 0) → Type 0
   AllowsAt base index change tells =
       (word : ℕ) × (index ≡ base + word) × AllowsWord word change (tells word)
 
-  -- a client's look at the number
+  -- a client's load of the number
   abbrev pub AllowsNumber : (Number → C → Type 0) → Type 0
   AllowsNumber tells =
       (number : Number) (words : List ℕ) (xs : Views C) (id : ℕ)
@@ -81,8 +80,8 @@ module _ {C : Type 0} (holds : List ℕ → Views C → Type 0) (cpu section : O
       → get_elem? xs id ≡ some (cpu, section, c)
       → (after : C) × holds words (slice_set xs id (cpu, section, after)) × tells number after
 
--- a client's first words were added behind others: so many, of which its rule holds where the first
--- seat knows this
+-- a client's first words were added behind others: this number of words, for which its rule holds
+-- if the first seat has this knowledge
 pub record HasAdded {C : Type 0} (holds : List ℕ → Views C → Type 0) (first : C) (size : ℕ)
     (old new : List ℕ) : Type 0 where
   pub own : List ℕ

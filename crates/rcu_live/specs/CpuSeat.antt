@@ -1,4 +1,4 @@
--- A processor's seat: its calls, where each is accepted, and what it leaves.
+-- A processor's seat: its calls, when each is accepted, and the seat after it.
 use Rattle.std.specs.Prelude.{◌≡◌, ℕ, ◌+◌, ◌-◌, ◌≤◌, ◌^◌, ◌==◌, nat_lt, not, if◌then◌else◌, [], ◌∷◌}
 use Rattle.std.specs.Prelude.{Option}
 use Rattle.atomic_table.specs.Seated.{TableId}
@@ -15,27 +15,26 @@ use Rattle.rcu_live.specs.View.{after_close, after_load, after_open, after_store
 use Rattle.rcu_live.specs.View.{with_client}
 use Rattle.rcu_live.specs.declared.view.View.{View}
 
--- a processor's seat: of which object, of which processor, how deep its sections nest, and what it
--- has seen
+-- a processor's seat: its object, its processor, the depth of its sections, and its view
 pub record Seated (C : Type 0) : Type 0 where
   pub table : TableId
   pub cpu : ℕ
   pub depth : ℕ
   pub view : View C
 
--- the own word of a processor: 0 where it is offline, the idle word where it is idle, else one more
--- than the number that it noted
+-- the own word of a processor: 0 if it is offline, the idle word if it is idle, else one more than
+-- the number that it noted
 abbrev pub own_word_of : Processor → ℕ
 own_word_of p = if not p.online then 0 else if p.idle then idle_word else p.noted.number + 1
 
 module _ {C : Type 0} where
   -- a processor's seat of this engine: it reads the engine's words, and knows where the client's
-  -- begin
+  -- words begin
   abbrev pub IsSeatOf : {P : Type 0} → Object P → Seated C → Type 0
   IsSeatOf engine seat = (seat.table ≡ engine.table) × (seat.view.base ≡ engine.base)
 
-  -- the call was accepted at the number n, which is at least all that the seat saw before: this is
-  -- what it leaves
+  -- the call was accepted at the number n, which is at least all that the seat saw before, and this
+  -- is the seat after it
   pub record AcceptedAt (after : Seated C → Number → Seated C) (s : Seated C) (n : Number)
       (t : Seated C) : Type 0 where
     pub state : t ≡ after s n
@@ -48,7 +47,7 @@ module _ {C : Type 0} where
     pub later : s.view.seen ≤ n
     pub bounded : n ≤ 2 ^ 62
 
-  -- the seat is of the same object, and made so many loads and stores more
+  -- the seat is of the same object, and made this many more loads and stores
   pub record HasMade (loads stores : ℕ) (s t : Seated C) : Type 0 where
     pub table : t.table ≡ s.table
     pub looked : t.view.loads ≡ s.view.loads + loads
@@ -89,13 +88,13 @@ module _ {C : Type 0} where
     view = if s.depth == 1 then after_close closed s.view n else s.view;
   }
 
-  -- why a quiescent state is refused, and why the processor does not get idle
+  -- why a quiescent state is refused, and why the processor does not become idle
   abbrev pub quiesce_refusal : Seated C → Option Fault
   quiesce_refusal s =
       first_fault ((s.view.own_word == 0, Offline) ∷ (s.view.own_word == idle_word, CpuIdle)
       ∷ (nat_lt 0 s.depth, InSection) ∷ [])
 
-  -- after the processor got idle: one store more, of the idle word
+  -- after the processor became idle: one more store, of the idle word
   abbrev pub after_idle : Seated C → Seated C
   after_idle s = record s { view = after_store s.view idle_word }
 
@@ -105,13 +104,13 @@ module _ {C : Type 0} where
       first_fault
       ((s.view.own_word == 0, Offline) ∷ (not (s.view.own_word == idle_word), NotIdle) ∷ [])
 
-  -- after a quiescent state, a wake or an arrival: one load more, which saw n, and then the own
+  -- after a quiescent state, a wake or an arrival: one more load, which saw n, and then the own
   -- word is n + 1
   abbrev pub after_quiesce : Seated C → Number → Seated C
   after_quiesce s n = record s { view = after_store (after_load s.view n) (n + 1) }
 
-  -- after a quiescent state that stores only where that changes the own word: all is as after one
-  -- that stores, but for how often it stored
+  -- after a quiescent state that stores only if that changes the own word: the same as after one
+  -- that stores, except for the number of stores
   abbrev pub after_quiesce_since : Seated C → Number → Seated C
   after_quiesce_since s n = record s {
     view = record (after_store (after_load s.view n) (n + 1)) {
@@ -125,8 +124,8 @@ module _ {C : Type 0} where
       first_fault ((s.view.own_word == 0, Offline) ∷ (s.view.own_word == idle_word, CpuIdle)
       ∷ (s.depth == 0, NotOpen) ∷ (nat_lt 1 s.depth, InSection) ∷ [])
 
-  -- after a renewal: the section closed at the number n, the own word was made n + 1 where it was
-  -- another one, and the next section opened at the number m
+  -- after a renewal: the section closed at the number n, the own word was made n + 1 if it
+  -- differed, and the next section opened at the number m
   abbrev pub after_renew : (C → C) → Seated C → Number → Number → Seated C
   after_renew closed s n m = record s {
     view = after_open (record (after_close closed s.view n) {
@@ -135,9 +134,9 @@ module _ {C : Type 0} where
     }) m;
   }
 
-  -- a section was renewed: the one that was open has ended, a quiescent state was passed at the
-  -- number n, which is at least all that the seat saw before, and another section began, at a
-  -- number that is no less
+  -- a section was renewed: the open one ended, a quiescent state was passed at the number n, which
+  -- is at least all that the seat saw before, and another section began, at a number that is no
+  -- less
   pub record RenewedAt (closed : C → C) (s : Seated C) (n : Number) (t : Seated C) : Type 0 where
     pub state : t ≡ after_renew closed s n t.view.seen
     pub later : s.view.seen ≤ n
@@ -149,12 +148,11 @@ module _ {C : Type 0} where
   pin_refusal s =
       first_fault ((s.view.own_word == 0, Offline) ∷ (s.depth == deepest, NestFull) ∷ [])
 
-  -- after a wake that looks at nothing: one store more, of the word 1, by which the processor tells
-  -- of no grace period
+  -- after a wake without a load: one more store, of the word 1, which reports for no grace period
   abbrev pub after_bare_wake : Seated C → Seated C
   after_bare_wake s = record s { view = after_store s.view 1 }
 
-  -- after a pin: an enter, before which an idle processor woke; the outermost one's section began
+  -- after a pin: an enter, before which an idle processor wakes; the outermost one's section began
   -- at n
   abbrev pub after_pin : Seated C → Number → Seated C
   after_pin s n = after_enter (if s.view.own_word == idle_word then after_bare_wake s else s) n
@@ -163,7 +161,7 @@ module _ {C : Type 0} where
   abbrev pub unpin_refusal : Seated C → Option Fault
   unpin_refusal s = first_fault ((s.view.own_word == 0, Offline) ∷ (s.depth == 0, NotOpen) ∷ [])
 
-  -- after an unpin: an exit, and the processor got idle after the outermost one, whose load saw n
+  -- after an unpin: an exit, and after the outermost one, whose load saw n, the processor is idle
   abbrev pub after_unpin : (C → C) → Seated C → Number → Seated C
   after_unpin closed s n =
       if s.depth == 1 then after_idle (after_exit closed s n) else after_exit closed s n
@@ -175,16 +173,16 @@ module _ {C : Type 0} where
       first_fault ((s.view.own_word == 0, Offline) ∷ (s.depth == 0, NotOpen)
       ∷ (nat_lt 1 s.depth, InSection) ∷ [])
 
-  -- a number load more, which saw n
+  -- one more number load, which saw n
   abbrev pub after_look : Seated C → Number → Seated C
   after_look s n = record s { view = after_load s.view n }
 
-  -- after a client's step, by which it knows this
+  -- after a client's step, which left this knowledge
   abbrev pub after_word_step : Seated C → C → Seated C
   after_word_step s c = record s { view = with_client s.view c }
 
-  -- a client's step, which tells this of what the seat knew and knows then: nothing else of the
-  -- seat changes
+  -- a client's step, with this relation between the seat's knowledge before and after: nothing else
+  -- of the seat changes
   pub record KnowsBy (tells : C → C → Type 0) (s t : Seated C) : Type 0 where
     pub state : t ≡ after_word_step s t.view.client
     pub told : tells s.view.client t.view.client

@@ -1,4 +1,4 @@
--- Steps of driving: what one does to the engine, what it answers, and why it is refused.
+-- Steps of driving: the engine after a step, its answer, and why it is refused.
 use Rattle.std.specs.Prelude.{ℕ, zero, suc, ◌+◌, ◌==◌, ◌&&◌, ◌++◌, Bool, not, if◌then◌else◌, List}
 use Rattle.std.specs.Prelude.{[], ◌∷◌, Option, length}
 use Rattle.rcu_seq.specs.Fault.{first_fault}
@@ -18,8 +18,8 @@ use Rattle.rcu_live.specs.Engine.{Locked, after_begin, after_end, next_number}
 use Rattle.rcu_live.specs.Numbers.{reports_quiescence}
 use Rattle.rcu_live.specs.Words.{own_word_index}
 
--- one load of the own word of each of the first n processors that is looked at, which found these
--- words, the newest first
+-- one load of the own word of each processor that passes a test among the first n, which found
+-- these words, the newest first
 abbrev pub loads_of : (ℕ → Bool) → (ℕ → ℕ) → ℕ → List (ℕ × ℕ)
 loads_of looks_at word zero = []
 loads_of looks_at word (suc n) =
@@ -28,15 +28,15 @@ loads_of looks_at word (suc n) =
     else loads_of looks_at word n
 
 module _ {X : Type 0} where
-  -- a grace period is wanted for the cookie: it is not done yet
+  -- a grace period is requested for the cookie: it is not done yet
   abbrev pub wants_for : Cookie → Grace X → Bool
   wants_for cookie g = not (is_done_first cookie (number_of g.seq))
 
-  -- one is wanted for callbacks: none runs, and the needed number is above the number
+  -- one is requested for callbacks: none runs, and the needed number is above the number
   abbrev pub wants_begin : Grace X → Bool
   wants_begin g = periods.wants_begin (periods_of g)
 
-  -- why a step is refused: none runs, one is wanted, and the number is the last one
+  -- why a step is refused: no grace period runs, one is requested, and the number is the last one
   abbrev pub drive_refusal : Grace X → Bool → Option Fault
   drive_refusal g is_wanted =
       first_fault ((
@@ -46,8 +46,8 @@ module _ {X : Type 0} where
       ∷ [])
 
 module _ {C X : Type 0} where
-  -- the own word of each awaited processor was loaded once, which found these words: who is heard
-  -- of by its word is awaited no more
+  -- the own word of each awaited processor was loaded once, which found these words: a processor
+  -- that its word reports is no longer awaited
   abbrev pub after_collections : Locked C X → (ℕ → ℕ) → Locked C X
   after_collections e word =
       let loads = loads_of (is_in e.grace.processors.awaited) word e.cpus in
@@ -61,21 +61,21 @@ module _ {C X : Type 0} where
             (λ cpu. reports_quiescence (number_of e.grace.seq) (word cpu)));
       }
 
-  -- a running grace period heard of those that it awaits; where none runs, one began if it is
-  -- wanted
+  -- a running grace period collected from those that it awaits; if none ran, one began if it is
+  -- requested
   abbrev pub moved_on : Locked C X → Bool → (ℕ → ℕ) → Locked C X
   moved_on e is_wanted word =
       if e.grace.seq.running
       then after_collections e word
       else (if is_wanted then after_begin e word else e)
 
-  -- what a step leaves: that, and the grace period ended where nobody is awaited then
+  -- the engine after a step: that, and the grace period ended if no processor is then awaited
   abbrev pub after_drive : Locked C X → Bool → (ℕ → ℕ) → Locked C X
   after_drive e is_wanted word =
       let now = moved_on e is_wanted word in
       if now.grace.seq.running && (awaited_in now.grace == 0) then after_end now else now
 
-  -- what a step did
+  -- the answer of a step
   abbrev pub drive_answer : Locked C X → Bool → (ℕ → ℕ) → Turned
   drive_answer e is_wanted word =
       let now = moved_on e is_wanted word in

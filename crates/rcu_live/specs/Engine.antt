@@ -1,4 +1,4 @@
--- The engine, which lies under a lock: what it keeps, and what each call leaves and answers.
+-- The engine, which is under a lock: its state, and each call's effect and answer.
 use Rattle.std.specs.Prelude.{◌≡◌, ℕ, zero, suc, ◌+◌, ◌<◌, ◌≤◌, ◌==◌, true, false, not, nat_le}
 use Rattle.std.specs.Prelude.{if◌then◌else◌, Bool, List, [], ◌∷◌, Option}
 use Rattle.atomic_table.specs.Seated.{TableId}
@@ -26,15 +26,15 @@ use Rattle.rcu_live.specs.declared.grace_periods.Collected.{Collected}
 use Rattle.rcu_live.specs.declared.grace_periods.Collected.TheVariants as collected
 use Rattle.rcu_live.specs.declared.view.View.{View}
 
--- the engine: of which object, of how many processors, what its seat has seen, and the state of
--- grace periods and callbacks
+-- the engine: its object, its number of processors, its seat's view, and the state of grace periods
+-- and callbacks
 pub record Locked (C X : Type 0) : Type 0 where
   pub table : TableId
   pub cpus : ℕ
   pub view : View C
   pub grace : Grace X
 
--- the word that the latest of these loads of a processor's own word found, 0 where there is none
+-- the word that the latest of these loads of a processor's own word found, 0 if there is none
 abbrev pub loaded_word : List (ℕ × ℕ) → ℕ → ℕ
 loaded_word [] cpu = 0
 loaded_word (find ∷ earlier) cpu =
@@ -58,7 +58,7 @@ latest_word e = latest_loaded_word e.view.own_word_loads
 abbrev pub latest_words : {C X : Type 0} → Locked C X → ℕ → ℕ
 latest_words e = loaded_word e.view.own_word_loads
 
--- why a call that names a processor is refused: there is no such processor
+-- why a call that names a processor is refused: the processor does not exist
 abbrev pub cpu_refusal : {C X : Type 0} → Locked C X → ℕ → Option Fault
 cpu_refusal e cpu = first_fault ((nat_le e.cpus cpu, BadCpu) ∷ [])
 
@@ -68,7 +68,7 @@ collected_by current.Taken = collected.Taken
 collected_by current.Last = collected.Last
 collected_by current.Repeat = collected.Repeat
 
--- the number has reached the snapshot of a callback's queueing, which was in the first epoch, where
+-- the number has reached the snapshot at which a callback was queued, in the first epoch, in which
 -- the engine stays
 abbrev pub HasWaited : Number → Tag → Type 0
 HasWaited number at = (at.epoch ≡ 0) × (snapshot at.number ≤ number)
@@ -79,9 +79,9 @@ AwaitsTheOthers cpus own_word_loads g =
     g.seq.running ≡ true → (cpu : ℕ) → cpu < cpus → is_in g.processors.awaited cpu ≡ false
     → is_cleared (number_of g.seq) cpu own_word_loads ≡ true
 
--- pieces of which an engine of so many processors is made, with room for so many that a begin finds
--- quiescent: its seat, and a state of the first epoch in which no grace period runs, at the number
--- that the seat sees
+-- parts from which an engine of this number of processors is made, with sets that can hold as many:
+-- its seat, and a state of the first epoch in which no grace period runs, at the number that the
+-- seat sees
 pub record ArePieces {C X : Type 0} (cpus : ℕ) (view : View C) (grace : Grace X)
     (room : ℕ) : Type 0 where
   pub role : IsOfEngine view
@@ -93,8 +93,8 @@ pub record ArePieces {C X : Type 0} (cpus : ℕ) (view : View C) (grace : Grace 
   pub already_quiescent : room ≡ cpus
 
 module _ {C : Type 0} where
-  -- after loads of the own words of the first n processors, in turn, which found these words; none
-  -- was found before
+  -- after loads of the own words of the first n processors, in turn, which found these words; no
+  -- word was found before
   abbrev pub after_own_word_loads : View C → (ℕ → ℕ) → ℕ → View C
   after_own_word_loads v word n = record v {
     loads = v.loads + n;
@@ -102,8 +102,8 @@ module _ {C : Type 0} where
   }
 
 module _ {X : Type 0} where
-  -- online are these processors now. There are as many as before, and the number, what is needed
-  -- and the callbacks stay
+  -- these processors are online now. The number of processors, the number, the needed number and
+  -- the callbacks stay
   pub record OnlineBecomes (online : List Bool) (old new : Grace X) : Type 0 where
     pub these : new.processors.online ≡ online
     pub cpus : cpus_of new.processors ≡ cpus_of old.processors
@@ -115,8 +115,8 @@ module _ {X : Type 0} where
   abbrev pub next_number : Grace X → Number
   next_number g = number_of (record g.seq { running = true })
 
-  -- a grace period began which found these words: online and of its start set are the processors
-  -- whose word is not 0, and it awaits those of which their word does not tell
+  -- a grace period began which found these words: a processor is online and in its start set if its
+  -- word is not 0, and awaited if its word does not report it either
   abbrev pub begun_from : ℕ → (ℕ → ℕ) → Grace X → Grace X
   begun_from cpus word g = record g {
     seq = record g.seq { running = true };
@@ -129,23 +129,23 @@ module _ {X : Type 0} where
   }
 
 module _ {C X : Type 0} where
-  -- a grace period begins: its number is stored, and then each own word is found once, which are
-  -- these
+  -- a grace period begins: its number is stored, and then each own word is found once, with these
+  -- values
   abbrev pub after_begin : Locked C X → (ℕ → ℕ) → Locked C X
   after_begin e word = record e {
     view = after_own_word_loads (after_begin_store e.view (next_number e.grace)) word e.cpus;
     grace = begun_from e.cpus word e.grace;
   }
 
-  -- the grace period ends: the number that it leaves is stored
+  -- the grace period ends: the next number is stored
   abbrev pub after_end : Locked C X → Locked C X
   after_end e = record e {
     view = after_end_store e.view (number_of (grace.after_end e.grace).seq);
     grace = grace.after_end e.grace;
   }
 
-  -- what a turn does, where a begin would find these words: a running grace period ends where
-  -- nobody is awaited; where none runs, one begins if it is needed
+  -- the answer of a turn, if a begin would find these words: a running grace period ends if no
+  -- processor is awaited; if none runs, one begins if it is needed
   abbrev pub turn_answer : Locked C X → (ℕ → ℕ) → Turned
   turn_answer e word =
       if e.grace.seq.running
@@ -156,13 +156,13 @@ module _ {C X : Type 0} where
       then turned.Begun (next_number e.grace) (awaited_in (begun_from e.cpus word e.grace))
       else turned.Nothing)
 
-  -- what a turn leaves
+  -- the engine after a turn
   abbrev pub after_turn : Locked C X → (ℕ → ℕ) → Locked C X
   after_turn e word =
       if e.grace.seq.running then (if awaited_in e.grace == 0 then after_end e else e)
       else (if wants_begin (periods_of e.grace) then after_begin e word else e)
 
-  -- what a collection answers, where it loads this word
+  -- the answer of a collection, if it loads this word
   abbrev pub collect_answer : Locked C X → ℕ → ℕ → Collected
   collect_answer e cpu word =
       if e.grace.seq.running
@@ -171,8 +171,8 @@ module _ {C X : Type 0} where
       else collected.NotYet)
       else collected.Idle
 
-  -- what a collection leaves: while a grace period runs one load more, and a report where the word
-  -- tells of the processor
+  -- the engine after a collection: while a grace period runs, one more load, and a report if the
+  -- word reports the processor
   abbrev pub after_collect : Locked C X → ℕ → ℕ → Locked C X
   after_collect e cpu word =
       if e.grace.seq.running

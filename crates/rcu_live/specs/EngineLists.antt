@@ -1,5 +1,5 @@
--- The engine's processors that come and go, and its callbacks: what each call leaves, and why it is
--- refused.
+-- The engine's processors that come and go, and its callbacks: the engine after each call, and why
+-- the call is refused.
 use Rattle.std.specs.Prelude.{◌≡◌, ℕ, ◌≤◌, ◌^◌, ◌&&◌, Bool, true, false, nat_le, nat_lt, not}
 use Rattle.std.specs.Prelude.{if◌then◌else◌, List, [], ◌∷◌, All, Option, length}
 use Rattle.rcu_seq.specs.Fault.{first_fault}
@@ -17,11 +17,11 @@ use Rattle.rcu_live.specs.View.{after_own_word_load}
 use Rattle.rcu_live.specs.Words.{own_word_index}
 
 module _ {X : Type 0} where
-  -- the processor is online: it arrived, where no begin had found it
+  -- the processor is online: it arrived, if no begin had found it
   abbrev pub with_arrival : Grace X → ℕ → Grace X
   with_arrival g cpu = if is_in g.processors.online cpu then g else with_call g (Arrive cpu)
 
-  -- the processor is offline: it departed, where no begin had found it gone
+  -- the processor is offline: it departed, if no begin had found it gone
   abbrev pub with_departure : Grace X → ℕ → Grace X
   with_departure g cpu = if is_in g.processors.online cpu then with_call g (Depart cpu) else g
 
@@ -36,7 +36,7 @@ module _ {C X : Type 0} where
     view = after_own_word_load e.view (own_word_index cpu) word;
   }
 
-  -- why a leave is refused that found this word: the processor is online; or it was offline
+  -- why a leave that found this word is refused: the processor is online; or it was offline
   -- already, and its list is empty
   abbrev pub leave_refusal : Locked C X → ℕ → Bool → ℕ → Option Fault
   leave_refusal e cpu again word =
@@ -56,34 +56,34 @@ module _ {C X : Type 0} where
   after_leave e cpu word =
       on_grace (λ g. after_migrate (with_departure g cpu) cpu) (after_load_own e cpu word)
 
-  -- why a callback is not queued: the processor is not online in the engine, there are too many, or
-  -- memory was refused
+  -- why a callback is not queued: the processor is not online in the engine, the limit is reached,
+  -- or memory was refused
   abbrev pub queue_refusal : Locked C X → ℕ → Fault
   queue_refusal e cpu =
       if is_in e.grace.processors.online cpu then queue_fault e.grace.lists else fault.Offline
 
-  -- why a barrier visits no processor: there is no such processor, or no barrier runs
+  -- why a barrier visits no processor: the processor does not exist, or no barrier runs
   abbrev pub visit_refusal : Locked C X → ℕ → Option Fault
   visit_refusal e cpu =
       first_fault
       ((nat_le e.cpus cpu, fault.BadCpu) ∷ (not e.grace.lists.running, fault.NoBarrier) ∷ [])
 
--- these callbacks may be handed out at this number, at most so many: a full grace period has passed
--- since the queueing of each. The number is one that the number word may have
+-- these callbacks may be handed out at this number, at most `most` of them: a full grace period has
+-- passed since each was queued. The number is one that the number word may have
 pub record AreDue {X : Type 0} (number most : ℕ) (calls : List (Queued X)) : Type 0 where
   pub waited : All (λ call. HasWaited number call.at) calls
   pub few : length calls ≤ most
   pub bounded : number ≤ 2 ^ 62
   pub word : is_number_word number ≡ true
 
--- the faults that a departure may meet under the lock
+-- the faults that a departure may have under the lock
 abbrev pub is_leave_fault : Fault → Bool
 is_leave_fault fault.AlreadyOnline = true
 is_leave_fault fault.Offline = true
 is_leave_fault fault.NoMemory = true
 is_leave_fault _ = false
 
--- the faults that a queueing may meet under the lock
+-- the faults that a queue call may have under the lock
 abbrev pub is_queue_fault : Fault → Bool
 is_queue_fault fault.Offline = true
 is_queue_fault fault.CallbacksFull = true

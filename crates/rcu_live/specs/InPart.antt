@@ -6,7 +6,7 @@ use Rattle.rcu_live.specs.Several.{Lens}
 use Rattle.rcu_live.specs.Watcher.{Watching}
 use Rattle.rcu_live.specs.declared.view.View.{View}
 
--- the engine, whose client was told this of a part, and whose part's words begin there
+-- the engine, with the part's plan, and with the start of the part's words
 abbrev pub engine_part : {P Q : Type 0} → (P → Q) → (ℕ → P → ℕ) → Object P → Object Q
 engine_part own_plan begins engine = record {
   table = engine.table;
@@ -18,7 +18,7 @@ engine_part own_plan begins engine = record {
 }
 
 module _ {D C : Type 0} (lens : Lens D C) where
-  -- what a seat has seen
+  -- the view of a seat
   abbrev pub view_part : View D → View C
   view_part v = record {
     role = v.role;

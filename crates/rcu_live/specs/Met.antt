@@ -4,9 +4,9 @@ use Rattle.rcu_seq.specs.Numbers.{Number}
 use Rattle.rcu_live.specs.Numbers.{is_open_at}
 use Rattle.rcu_live.specs.declared.meeting.Met.{Met}
 
--- what a meeting answers, by the number at which the open section began, the one that the watcher
--- saw and the one that the seat saw then: nothing where the watcher saw more than the seat, or less
--- than the number at which the section began
+-- the answer of a meeting, by the number at which the open section began, the number that the
+-- watcher saw and the number that the seat saw then: none if the watcher saw more than the seat, or
+-- less than the number at which the section began
 abbrev pub meet_answer : Option Number → Number → Number → Option Met
 meet_answer None seen now =
     if nat_le seen now then Some record { opened = None; seen = seen } else None

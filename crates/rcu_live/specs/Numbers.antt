@@ -1,5 +1,5 @@
--- Words on the number, a processor's own word and the number at which a section began. The rule
--- speaks of them by these alone.
+-- Definitions on the number, a processor's own word and the number at which a section began. The
+-- rule uses only these.
 use Rattle.std.specs.Prelude.{ℕ, ◌+◌, ◌^◌, ◌%◌, ◌==◌, ◌&&◌, ◌||◌, Bool, not, nat_le, nat_lt}
 use Rattle.rcu_seq.specs.Numbers.{Number, snapshot}
 
@@ -11,8 +11,8 @@ is_number_word n = nat_le n (2 ^ 62) && nat_lt (n % 4) 2
 abbrev pub idle_word : ℕ
 idle_word = 2 ^ 63
 
--- an own word that a processor may store which has seen this number: 0, at most one more than it,
--- or the idle word
+-- an own word that a processor that has seen this number may store: 0, at most one more than it, or
+-- the idle word
 abbrev pub is_own_word : Number → ℕ → Bool
 is_own_word seen word = nat_le word (seen + 1) || word == idle_word
 
@@ -20,8 +20,8 @@ is_own_word seen word = nat_le word (seen + 1) || word == idle_word
 abbrev pub may_open : ℕ → Bool
 may_open own_word = not (own_word == 0) && not (own_word == idle_word)
 
--- by this own word a processor is heard of in grace period t: it is offline, passed a quiescent
--- state in it, or is idle
+-- this own word reports its processor in grace period t: it is offline, passed a quiescent state in
+-- it, or is idle
 abbrev pub reports_quiescence : Number → ℕ → Bool
 reports_quiescence t word = word == 0 || nat_lt t word
 

@@ -1,4 +1,4 @@
--- What an opening deals.
+-- The parts of an opened engine.
 use Rattle.std.specs.Prelude.{◌≡◌, ℕ, ◌≤◌, All, List, length, map}
 use Rattle.std.specs.List.{range_with_len}
 use Rattle.atomic_table.specs.Seated.{TableId}
@@ -18,8 +18,8 @@ pub record AreFanouts (leaf fan : ℕ) : Type 0 where
   pub fan_least : 2 ≤ fan
   pub fan_most : fan ≤ 64
 
--- the state of an engine of so many processors as it is opened, in which so many callbacks may be
--- queued: idle at number 0, with processor 0 alone online
+-- the state of an engine of this number of processors as it is opened, with this limit of
+-- callbacks: idle at number 0, with processor 0 alone online
 abbrev pub engine_at_first : {C X : Type 0} → TableId → ℕ → Number → ℕ → C → Locked C X
 engine_at_first table cpus last most idle = record {
   table = table;
@@ -29,17 +29,17 @@ engine_at_first table cpus last most idle = record {
 }
 
 module _ {C : Type 0} where
-  -- what an opening deals of an engine of so many processors, with this last number, in which so
-  -- many callbacks may be queued, with so many words of a client behind its own:
-  -- a seat and a watcher a processor, in order, as they are at first
+  -- the seats dealt by the opening of an engine of this number of processors, with this last number
+  -- and this limit of callbacks, with `behind` words of a client behind its own: a seat and a
+  -- watcher for each processor, in order, as they are at first
   pub record AreDealt {P : Type 0} (cpus : ℕ) (last : Number) (most behind : ℕ) (idle : C)
       (engine : Object P) (seats : List (Seated C)) (watchers : List (Watching C)) : Type 0 where
     pub size : IsSized cpus last most behind engine
     pub each_seat : seats ≡ map (at_first engine.table (base_of cpus) idle) (range_with_len 0 cpus)
     pub each_watcher : watchers
         ≡ map (λ _. watcher_at_first engine.table (base_of cpus) idle) (range_with_len 0 cpus)
-    -- so there are so many, each reads this engine's words and is of it, no section is open, and
-    -- each knows of the client what a seat knows that was dealt
+    -- so there are this many, each is of this engine and reads its words, no section is open, and
+    -- each has the knowledge of a dealt seat about the client
     pub seat_count : length seats ≡ cpus
     pub watcher_count : length watchers ≡ cpus
     pub seats_read : All (λ seat. seat.table ≡ engine.table) seats

@@ -1,4 +1,4 @@
--- Which calls of the engine put off the callbacks of a processor.
+-- The calls of the engine that delay the callbacks of a processor.
 use Rattle.std.specs.Prelude.{ℕ, ◌==◌, Bool, false}
 use Rattle.rcu_live.specs.Runs.{Call, Leave}
 

@@ -1,4 +1,4 @@
--- The rule of the shared words: what holds of them and of all seats between any two atomic steps.
+-- The rule of the shared words: an invariant of them and of all seats between any two atomic steps.
 use Rattle.std.specs.Prelude.{◌≡◌, ℕ, ◌+◌, ◌%◌, ◌<◌, ◌≤◌, ◌==◌, ◌&&◌, ◌||◌, Bool, true, false}
 use Rattle.std.specs.Prelude.{List}
 use Rattle.std.specs.Prelude.{[]}
@@ -16,29 +16,30 @@ use Rattle.rcu_live.specs.Words.{base_of, first_own_word, own_word_index, mask_i
 use Rattle.rcu_live.specs.declared.view.Role.TheVariants.{Cpu, Engine}
 use Rattle.rcu_live.specs.declared.view.View.{View}
 
--- a processor is cleared in grace period t: some load since its begin found that the own word tells
--- of it
+-- a processor is cleared in grace period t: some load since its begin found an own word that
+-- reports it
 abbrev pub is_cleared : Number → ℕ → List (ℕ × ℕ) → Bool
 is_cleared t cpu [] = false
 is_cleared t cpu (find ∷ earlier) =
     (find.0 == own_word_index cpu && reports_quiescence t find.1) || is_cleared t cpu earlier
 
--- each of so many processors is cleared in grace period t
+-- each of this number of processors is cleared in grace period t
 abbrev pub AreCleared : ℕ → Number → List (ℕ × ℕ) → Type 0
 AreCleared cpus t own_word_loads = (cpu : ℕ) → cpu < cpus → is_cleared t cpu own_word_loads ≡ true
 
 module _ {C : Type 0} where
-  -- what holds of a processor's seat, at the number n, the processor's own word, and what the
-  -- engine found
+  -- the invariant of a processor's seat, at the number n, the processor's own word, and the words
+  -- that the engine found
   pub record IsSound (n : Number) (word : ℕ) (own_word_loads : List (ℕ × ℕ))
       (v : View C) : Type 0 where
-    -- the own word is the one that the seat stored: at most one more than what it saw, or the idle
-    -- word; that of processor 0 is never 0
+    -- the own word is the one that the seat stored: at most one more than the number that it saw,
+    -- or the idle word; that of processor 0 is never 0
     pub own_word : word ≡ v.own_word
     pub bounded : is_own_word v.seen v.own_word ≡ true
     pub boot : v.cpu ≡ 0 → 0 < v.own_word
-    -- where a section is open: the processor may have one, so that it is not idle; it began from
-    -- the own word less one to what the seat saw, and no full grace period lies since
+    -- if a section is open: the processor may have one, so it is not idle; the section began
+    -- between the own word less one and the number that the seat saw, and no full grace period
+    -- passed since
     pub online : (at : Number) → v.section ≡ Some at → may_open v.own_word ≡ true
     pub from_own_word : (at : Number) → v.section ≡ Some at → v.own_word ≤ at + 1
     pub to_seen : (at : Number) → v.section ≡ Some at → at ≤ v.seen
@@ -48,15 +49,15 @@ module _ {C : Type 0} where
         → v.section ≡ Some at → is_running n ≡ true → is_cleared n v.cpu own_word_loads ≡ true
         → n ≤ at
 
-  -- of the engine's seat: the processors with no seat yet are its own, and their words as at the
-  -- start
+  -- the invariant of the engine's seat: it has the processors without a seat, and their words are
+  -- as at the start
   abbrev pub AreUndealt : ℕ → List ℕ → (ℕ → ℕ) → ℕ → View C → Type 0
   AreUndealt cpus words owner id v =
       (cpu : ℕ) → v.cpu ≤ cpu → cpu < cpus
       → (owner cpu ≡ id) × (slice_index words (own_word_index cpu) ≡ first_own_word cpu)
 
-  -- what holds of the seat id, given which seat each processor has, which is the engine's, and what
-  -- the engine found
+  -- the invariant of the seat id, given the seat of each processor, the engine's seat, and the
+  -- words that the engine found
   pub record Fits (cpus : ℕ) (words : List ℕ) (owner : ℕ → ℕ) (engine : ℕ)
       (own_word_loads : List (ℕ × ℕ)) (id : ℕ) (v : View C) : Type 0 where
     pub seen : v.seen ≤ slice_index words 0
@@ -72,7 +73,7 @@ module _ {C : Type 0} where
     pub found : v.role ≡ Engine → v.own_word_loads ≡ own_word_loads
     pub undealt : v.role ≡ Engine → AreUndealt cpus words owner id v
 
-  -- the rule. There are at least the engine's words, and what stands behind them is the client's
+  -- the rule. The table has at least the engine's words, and those behind them are the client's
   pub record IsKept (holds : List ℕ → Views C → Type 0) (cpus : ℕ)
       (s : State (Unit {0}) (View C)) : Type 0 where
     pub room : base_of cpus ≤ length s.words

@@ -1,5 +1,5 @@
--- Runs of the engine: each call that it accepted, whoever made it, one at a time. The newest call
--- stands first.
+-- Runs of the engine: each call that it accepted, by any thread, one at a time. The newest call
+-- comes first.
 use Rattle.std.specs.Prelude.{ℕ, ◌+◌, ◌≡◌, ◌<◌, ◌==◌, ◌&&◌, Bool, true, false, not, nat_lt}
 use Rattle.std.specs.Prelude.{if◌then◌else◌, List, [], ◌∷◌, ◌++◌, Option, Some, None}
 use Rattle.rcu_seq.specs.Seq.{Periods, tag_of}
@@ -14,8 +14,8 @@ use Rattle.rcu_live.specs.Engine.{Locked, after_begin, after_collect, after_end,
 use Rattle.rcu_live.specs.EngineLists.{after_departure, after_join, after_leave, after_load_own}
 use Rattle.rcu_live.specs.EngineLists.{on_grace}
 
--- a call that was accepted, with the words that it loaded. A leave moves a list; it departs alone
--- where memory was refused for that; and it looks alone where it is refused by what it found
+-- an accepted call, with the words that it loaded. A leave moves a list; it only departs if memory
+-- was refused for that; and it only loads if it is refused by the word that it found
 pub data Call (X : Type 0) : Type 0 where
   Begin : (ℕ → ℕ) → Call X
   End : Call X
@@ -36,7 +36,7 @@ pub data Call (X : Type 0) : Type 0 where
   BarrierTest : Call X
 
 module _ {C X : Type 0} where
-  -- what a call leaves
+  -- the engine after a call
   abbrev pub after_call : Locked C X → Call X → Locked C X
   after_call e (Begin word) = after_begin e word
   after_call e End = after_end e
@@ -56,9 +56,9 @@ module _ {C X : Type 0} where
   after_call e (Visit cpu) = on_grace (λ g. grace.after_visit g cpu) e
   after_call e BarrierTest = on_grace (λ g. grace.after_barrier_test g) e
 
-  -- where it is accepted, this holds: a callback's call names a processor; a leave is of another
-  -- than processor 0; no grace period and no barrier begins while one runs, and what ends, tests or
-  -- collects is of one that runs
+  -- an accepted call is allowed: a callback's call names a processor; a leave is of a processor
+  -- other than 0; no grace period and no barrier begins while one runs, and an end, a test and a
+  -- collection are of one that runs
   abbrev pub MayCall : Locked C X → Call X → Type 0
   MayCall e (Begin word) = e.grace.seq.running ≡ false
   MayCall e End = e.grace.seq.running ≡ true
@@ -72,7 +72,7 @@ module _ {C X : Type 0} where
   MayCall e BarrierTest = e.grace.lists.running ≡ true
   MayCall e _ = Unit {0}
 
-  -- the engine took a step of a run: the call may be made, and leaves this
+  -- the engine took a step of a run: the call is allowed, and this is the engine after it
   pub record Makes (call : Call X) (old new : Locked C X) : Type 0 where
     pub may : MayCall old call
     pub left : new ≡ after_call old call
@@ -81,12 +81,12 @@ module _ {C X : Type 0} where
   abbrev pub IsNew : Locked C X → Type 0
   IsNew e = e.grace.lists ≡ at_first e.cpus e.grace.lists.most
 
-  -- what a run leaves of the engine that it began with
+  -- the engine after a run that began with this one
   abbrev pub engine_after : Locked C X → List (Call X) → Locked C X
   engine_after first [] = first
   engine_after first (call ∷ calls) = after_call (engine_after first calls) call
 
-  -- each call of the run might be made where it was made
+  -- each call of the run was allowed when it was made
   abbrev pub IsRun : Locked C X → List (Call X) → Type 0
   IsRun first [] = Unit {0}
   IsRun first (call ∷ calls) = MayCall (engine_after first calls) call × IsRun first calls
@@ -115,9 +115,8 @@ module _ {C X : Type 0} where
   queued_before_barrier first (BarrierBegin ∷ calls) = (engine_after first calls).grace.lists.queued
   queued_before_barrier first (_ ∷ calls) = queued_before_barrier first calls
 
--- the begin and the end of a grace period that one call makes of a counter, the newest first: one
--- ended where the count of ends is higher; one began where none ran before, and one runs now or has
--- ended
+-- the begin and the end of a grace period that one call makes on a counter, the newest first: one
+-- ended if the count of ends is higher; one began if none ran before, and one runs now or has ended
 abbrev pub turns_between : Periods → Periods → List turn.Turn
 turns_between old new =
     if nat_lt old.ends new.ends then turn.End ∷ (if old.running then [] else turn.Begin ∷ [])

@@ -1,5 +1,5 @@
--- Where one of several clients stands, its rule is a part of the rule of the whole; and a pair of
--- clients is a client.
+-- If a client is one of several, its rule is a part of the rule of the whole; and a pair of clients
+-- is a client.
 use Rattle.std.specs.Prelude.{◌≡◌, ℕ, zero, suc, ◌+◌, ◌<◌, List, [], ◌∷◌, ◌++◌, Some, None, length}
 use Rattle.std.specs.Prelude.{map, drop, slice_index, slice_set, take}
 use Rattle.std.proofs.Common.{refl, sym, ap, ◌∙◌, subst, arith, length-append, ⊎_elim}
@@ -83,7 +83,7 @@ module _ {C : Type 0} where
     stays_closed = λ base d. refl;
   }
 
-  -- a client that stands alone is the whole
+  -- a client that is alone is the whole
   pub whole_is_part : (rule : List ℕ → Views C → Type 0) (idle closed : C → C)
       → IsStable rule idle closed → IsPart whole rule rule (λ words. words) 0 idle idle
   whole_is_part rule idle closed stable = record {
@@ -348,7 +348,7 @@ module _ {C D E : Type 0} (inner : Lens D C) (first : List ℕ → Views E → T
       behind : (p q : ℕ) → split + (p + q) ≡ split + p + q
       behind p q = omega arith
 
--- the first of a list of so many and of another, and what stands behind them
+-- the first elements of a list of this length and another behind it, and the rest
 front_of : (xs ys : List ℕ) (n : ℕ) → length xs ≡ n → take n (xs ++ ys) ≡ xs
 front_of [] ys zero e = refl
 front_of [] ys (suc n) e = absurd (omega (arith, e))
@@ -423,14 +423,15 @@ module _ {C D : Type 0} (first : List ℕ → Views C → Type 0) (second : List
 module _ {D C : Type 0} (lens : Lens D C) (idle closed : C → C) (idle_whole closed_whole : D → D)
     (is : IsLens lens idle closed idle_whole closed_whole) (begins : ℕ → ℕ) (d : D)
     (told : (base : ℕ) → lens.begins base d ≡ begins base) where
-  -- where the words of a part begin, by a first seat that tells it: so far behind those of all
+  -- the start of the words of a part, by a first seat that shows it: this far behind that of all
+  -- words
   pub begins_behind : (base : ℕ) → begins base ≡ base + begins 0
   begins_behind base =
       let far = told base in
       let near = told 0 in
       let between = is.behind base d in omega (arith, far, near, between)
 
-  -- where those of a part of the second begin: behind those of the first
+  -- the start of the words of a part of the second: behind those of the first
   pub begins_second : (split : ℕ) → begins (0 + split) ≡ split + begins 0
   begins_second split = let far = begins_behind (0 + split) in omega (arith, far)
 

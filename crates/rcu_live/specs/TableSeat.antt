@@ -1,5 +1,4 @@
--- Seats at the table of shared words: what each kind of step asks of one, and what a step leaves of
--- it.
+-- Seats at the table of shared words: the condition of each kind of step, and the seat after it.
 use Rattle.std.specs.Prelude.{◌≡◌, ℕ, ◌+◌, ◌<◌, ◌≤◌, ◌^◌, true, false, None}
 use Rattle.atomic_table.specs.Seated.{TableId}
 use Rattle.atomic_table.specs.declared.shared.Seat.{Seat}
@@ -16,16 +15,15 @@ module _ {C : Type 0} where
       pub at_table : seat.table_id ≡ table
       pub has_view : seat.me.0 ≡ view
 
-  -- a seat took a step: it is at its table and has the slots that it had, and what the step tells
-  -- holds of its two views
+  -- a seat took a step: it is at its table and has its slots as before, and its two views are in
+  -- the relation of the step
   pub record Stepped (tells : View C → View C → Type 0) (old new : Seat (Unit {0}) (View C)) : Type
       0 where
     pub table : new.table_id ≡ old.table_id
     pub slots : new.me.1 ≡ old.me.1
     pub told : tells old.me.0 new.me.0
 
-  -- a seat was split: this view is left to it, and the one that is dealt is at the same table, with
-  -- that view
+  -- a seat was split: it keeps this view, and the dealt seat is at the same table, with that view
   pub record IsSplit (rest part : View C) (old new dealt : Seat (Unit {0}) (View C)) : Type 0 where
     pub table : new.table_id ≡ old.table_id
     pub left : new.me.0 ≡ rest
@@ -33,16 +31,15 @@ module _ {C : Type 0} where
     pub seat : dealt.table_id ≡ old.table_id
 
 module _ {C : Type 0} where
-  -- a section may be opened: by a processor's seat, whose processor is online and not idle, where
-  -- none is open
+  -- a section may be opened: by a processor's seat, whose processor is online and not idle, if none
+  -- is open
   pub record MayOpen (v : View C) : Type 0 where
     pub cpu : v.role ≡ Cpu
     pub online : may_open v.own_word ≡ true
     pub shut : v.section ≡ None
 
-  -- this may be stored as the own word of a processor: by its seat, where no section is open; it is
-  -- one that the number seen allows, that of processor 0 is never 0, and that of an offline one
-  -- stays 0
+  -- this may be stored as the own word of a processor: by its seat, if no section is open; the
+  -- number seen allows it, that of processor 0 is never 0, and that of an offline one stays 0
   pub record MayStore (cpu word : ℕ) (v : View C) : Type 0 where
     pub role : v.role ≡ Cpu
     pub own : v.cpu ≡ cpu
@@ -51,8 +48,8 @@ module _ {C : Type 0} where
     pub boot : cpu ≡ 0 → 0 < word
     pub still : 0 < word → 0 < v.own_word
 
-  -- by the store of this word the processor may arrive: by its seat, where no section is open; it
-  -- is one that the number seen allows, and the processor's bit is set in its online mask
+  -- the store of this word may make the processor arrive: by its seat, if no section is open; the
+  -- number seen allows it, and the processor's bit is set in its online mask
   pub record MayArrive (cpu word : ℕ) (v : View C) : Type 0 where
     pub role : v.role ≡ Cpu
     pub own : v.cpu ≡ cpu
@@ -61,16 +58,16 @@ module _ {C : Type 0} where
     pub online : 0 < word
     pub announced : v.announced ≡ true
 
-  -- a grace period may begin by the store of this number: by the engine's seat, where none runs; it
-  -- is the next one
+  -- the store of this number may begin a grace period: by the engine's seat, if none runs; it is
+  -- the next number
   pub record MayBegin (number : Number) (v : View C) : Type 0 where
     pub engine : v.role ≡ Engine
     pub idle : is_running v.seen ≡ false
     pub next : number ≡ v.seen + 1
     pub bounded : number ≤ 2 ^ 62
 
-  -- the grace period may end by the store of this number: by the engine's seat, where one runs and
-  -- each processor is cleared in it; it is the next one
+  -- the store of this number may end the grace period: by the engine's seat, if one runs and each
+  -- processor is cleared in it; it is the next number
   pub record MayEnd (cpus : ℕ) (number : Number) (v : View C) : Type 0 where
     pub engine : v.role ≡ Engine
     pub running : is_running v.seen ≡ true

@@ -10,7 +10,7 @@ use Rattle.rcu_live.specs.declared.view.Role.{Role}
 use Rattle.rcu_live.specs.declared.view.Role.TheVariants.{Cpu, Watcher, Engine, Asker, Looker}
 use Rattle.rcu_live.specs.declared.view.View.{View}
 
--- of a processor's seat this, of another none
+-- this for a processor's seat, none for another
 abbrev pub if_cpu : Role → Option ℕ → Option ℕ
 if_cpu Cpu o = o
 if_cpu Watcher o = None
@@ -18,20 +18,21 @@ if_cpu Engine o = None
 if_cpu Asker o = None
 if_cpu Looker o = None
 
--- how many processors from this one on, in a row, have no bit in this online mask of theirs, of the
--- 64 that share it and of those that there are
+-- how many processors from this one on, in a row, have no bit in their online mask, among the 64
+-- that share it and the existing ones
 abbrev pub absent_from : ℕ → ℕ → ℕ → ℕ
 absent_from mask cpu cpus =
     min (trailing_zeros w64 (mask / 2 ^ (cpu % 64))) (min (64 - cpu % 64) (cpus - cpu))
 
--- behind other loads of own words, those of so many processors from one on, which found 0, in turn
+-- after other loads of own words, those of this number of processors from one on, in turn, which
+-- found 0
 abbrev pub offline_loads : ℕ → ℕ → List (ℕ × ℕ) → List (ℕ × ℕ)
 offline_loads from zero earlier = earlier
 offline_loads from (suc more) earlier =
     (own_word_index (from + more), 0) ∷ offline_loads from more earlier
 
 module _ {C : Type 0} where
-  -- what a client is shown of a seat
+  -- the part of a seat that a client is shown
   abbrev pub client_view : View C → ClientView C
   client_view v = (if_cpu v.role (Some v.cpu), if_cpu v.role v.section, v.client)
 
@@ -51,8 +52,7 @@ module _ {C : Type 0} where
     client = c;
   }
 
-  -- the engine's seat once these processors have theirs, from 0 up to n; the first seat of all has
-  -- n = 0
+  -- the engine's seat after the processors below n got theirs; the first seat of all has n = 0
   abbrev pub engine_seat : ℕ → ℕ → C → View C
   engine_seat cpus n c = fresh Engine n 0 (base_of cpus) c
 
@@ -72,15 +72,16 @@ module _ {C : Type 0} where
   abbrev pub watcher_seat : ℕ → C → View C
   watcher_seat base c = fresh Watcher 0 0 base c
 
-  -- an asking of a processor whose seat had stored so often
+  -- an asking of a processor whose seat had stored this often
   abbrev pub asking_of : ℕ → ℕ → ℕ → C → View C
   asking_of cpu stores base c = record (fresh Asker cpu 0 base c) { stores = stores }
 
-  -- a look at who is asked, of a processor whose seat had stored so often, which found this word
+  -- a look at which processor is asked, by one whose seat had stored this often, which found this
+  -- word
   abbrev pub look_of : ℕ → ℕ → ℕ → ℕ → C → View C
   look_of cpu stores word base c = record (fresh Looker cpu word base c) { stores = stores }
 
-  -- seat split: what is left of the engine's seat where the next processor's is dealt
+  -- seat split: the engine's seat after the next processor's is dealt
   abbrev pub after_deal : View C → View C
   after_deal v = record v { cpu = v.cpu + 1 }
 
@@ -88,7 +89,7 @@ module _ {C : Type 0} where
   abbrev pub next_cpu_seat : C → View C → View C
   next_cpu_seat c v = cpu_seat v.base v.cpu c
 
-  -- what the client knows is handed over to a watcher's seat: what is left
+  -- the knowledge about the client is handed over to a watcher's seat: the seat after that
   abbrev pub after_hand : C → View C → View C
   after_hand idle v = record v { client = idle }
 
@@ -104,7 +105,7 @@ module _ {C : Type 0} where
   abbrev pub after_open : View C → Number → View C
   after_open v n = record v { seen = n; loads = v.loads + 1; section = Some n }
 
-  -- after a section-closing load that saw n; the client keeps what is left of what it knew
+  -- after a section-closing load that saw n; the client keeps a part of its knowledge
   abbrev pub after_close : (C → C) → View C → Number → View C
   after_close closed v n = record v {
     seen = n;
@@ -125,9 +126,9 @@ module _ {C : Type 0} where
   abbrev pub after_arrive_store : View C → ℕ → View C
   after_arrive_store v word = record (after_store v word) { announced = false }
 
-  -- what a number load tells: one load more, which saw n, a number that is at least all that the
-  -- seat saw before; where a section is open at it, the section began no later than what the seat
-  -- saw, and no full grace period lies since
+  -- the relation of a number load: one more load, which saw n, a number that is at least all that
+  -- the seat saw before; if a section is open then, it began no later than the seat saw, and no
+  -- full grace period passed since
   pub record Loaded (v : View C) (n : Number) (w : View C) : Type 0 where
     pub view : w ≡ after_load v n
     pub later : v.seen ≤ n
@@ -135,27 +136,27 @@ module _ {C : Type 0} where
     pub began : v.role ≡ Cpu → (at : Number) → v.section ≡ Some at → at ≤ v.seen
     pub current : v.role ≡ Cpu → (at : Number) → v.section ≡ Some at → is_past at n ≡ false
 
-  -- what a section-opening load tells
+  -- the relation of a section-opening load
   pub record Opened (v : View C) (n : Number) (w : View C) : Type 0 where
     pub view : w ≡ after_open v n
     pub later : v.seen ≤ n
     pub number : is_number_word n ≡ true
 
-  -- what a section-closing load tells
+  -- the relation of a section-closing load
   pub record Closed (closed : C → C) (v : View C) (n : Number) (w : View C) : Type 0 where
     pub view : w ≡ after_close closed v n
     pub later : v.seen ≤ n
     pub number : is_number_word n ≡ true
 
-  -- after a processor-word load: one load more, which found a word at a place
+  -- after a processor-word load: one more load, which found a word at a place
   abbrev pub after_own_word_load : View C → ℕ → ℕ → View C
   after_own_word_load v at word = record v {
     loads = v.loads + 1;
     own_word_loads = (at, word) ∷ v.own_word_loads;
   }
 
-  -- after one load that found the own words of so many processors from one on to be 0: it counts as
-  -- a load of each
+  -- after one load that found the own words of this number of processors from one on to be 0: it
+  -- counts as a load of each
   abbrev pub found_offline : View C → ℕ → ℕ → View C
   found_offline v from more = record v {
     loads = v.loads + more;
@@ -163,12 +164,13 @@ module _ {C : Type 0} where
   }
 
   -- after a load of the online mask of the first processor whose own word was not loaded since the
-  -- latest begin: the own words of those that have no bit in it, from that one on in a row, are 0
+  -- latest begin: the own words of the processors without a bit in it, from that one on in a row,
+  -- are 0
   abbrev pub after_online_mask_load : View C → ℕ → View C
   after_online_mask_load v mask =
       let next = length v.own_word_loads in found_offline v next (absent_from mask next v.cpu)
 
-  -- after a begin store of the number n: what was found before it falls
+  -- after a begin store of the number n: the words found before it are dropped
   abbrev pub after_begin_store : View C → Number → View C
   after_begin_store v n = record v { seen = n; own_word_loads = [] }
 
@@ -176,23 +178,23 @@ module _ {C : Type 0} where
   abbrev pub after_end_store : View C → Number → View C
   after_end_store v n = record v { seen = n }
 
-  -- what a processor-word load tells: one load more, which found the word; that of processor 0 is
-  -- never 0
+  -- the relation of a processor-word load: one more load, which found the word; that of processor 0
+  -- is never 0
   pub record OwnWordLoaded (at : ℕ) (v : View C) (word : ℕ) (w : View C) : Type 0 where
     pub view : w ≡ after_own_word_load v at word
     pub boot : at ≡ own_word_index 0 → 0 < word
 
-  -- with this for what the client knows
+  -- with this knowledge about the client
   abbrev pub with_client : View C → C → View C
   with_client v c = record v { client = c }
 
-  -- what a client's step on the word at a place tells, which found or stored n: of that word among
-  -- the client's
+  -- the relation of a client's step on the word at a place, which found or stored n: that of this
+  -- word among the client's
   abbrev pub SteppedOnWord : (ℕ → C → ℕ → C → Type 0) → ℕ → View C → ℕ → View C → Type 0
   SteppedOnWord tells at v n w =
       (w ≡ with_client v w.client) × ((p : ℕ) → at ≡ v.base + p → tells p v.client n w.client)
 
-  -- what a client's look at the number tells
+  -- the relation of a client's load of the number
   abbrev pub SteppedOnNumber : (C → Number → C → Type 0) → View C → Number → View C → Type 0
   SteppedOnNumber tells v n w =
       (w ≡ with_client (after_load v n) w.client)

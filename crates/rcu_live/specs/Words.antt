@@ -1,17 +1,18 @@
--- Where the shared words stand, and what they are at the start. The number stands first, then a
--- word a processor, then the words of a client. Beside the number stands who is asked.
+-- The places of the shared words, and their values at the start. The number comes first, then a
+-- word for each processor, then the words of a client. Beside the number is the processor that is
+-- asked.
 use Rattle.std.specs.Prelude.{ℕ, zero, suc, ◌+◌, ◌*◌, ◌/◌, ◌%◌, List, replicate, slice_set}
 
--- the place of the word that says which processor is asked to wake who sleeps
+-- the place of the word with the processor that is asked to wake sleeping waiters
 abbrev pub asked_index : ℕ
 asked_index = 1
 
--- the place of a processor's own word. The words stand 16 apart
+-- the place of a processor's own word. The words are 16 apart
 abbrev pub own_word_index : ℕ → ℕ
 own_word_index cpu = 16 * (cpu + 1)
 
--- the place of a processor's online mask, which it shares with 63 others: the bit of each of them
--- that is online is set. Eight masks share a cache line, which is none of an own word
+-- the place of a processor's online mask, which it shares with 63 others: the bit of each online
+-- one is set. Eight masks share a cache line, in which no own word is
 abbrev pub mask_index : ℕ → ℕ
 mask_index cpu = 16 * (cpu / 64 / 8) + 8 + cpu / 64 % 8
 

@@ -1,4 +1,4 @@
-//! What a begin loads, and what it makes of it.
+//! The loads of a begin, and the sets that it makes of them.
 ghost use Rattle.std.specs.Prelude.{◌≡◌, ◌<◌, ◌≤◌, ◌+◌, ◌-◌, ◌%◌, ◌==◌, ℕ, [], false, not, true};
 ghost use Rattle.std.specs.Prelude.{length, min, nat_lt};
 ghost use Rattle.std.specs.Prelude.{replicate, slice_set};
@@ -17,7 +17,7 @@ use crate::word_sets::WordSets;
 use rcu_node::{Awaited, CpuSet};
 use rcu_state::GpState;
 
-/// The processor is online from now on exactly if it is here. Processor 0 is.
+/// Makes the processor online exactly if `is_here`. Processor 0 is.
 fn set_online<A: Awaited, T: Drop>(
     gp: &mut GpState<A, T>,
     online: &mut CpuSet,
@@ -35,7 +35,7 @@ fn set_online<A: Awaited, T: Drop>(
     if gp.online(cpu) == is_here {
         return;
     }
-    // Neither call is refused, since the processor is not so yet.
+    // Neither call is refused, since the processor is not in that state yet.
     let _ = if is_here {
         online.insert(cpu);
         gp.arrive(cpu)
@@ -45,7 +45,7 @@ fn set_online<A: Awaited, T: Drop>(
     };
 }
 
-/// The processors from one on and before another are offline from now on. Processor 0 never is.
+/// Takes the processors of `from..end` offline. Processor 0 is never among them.
 fn set_offline<A: Awaited, T: Drop>(
     gp: &mut GpState<A, T>,
     online: &mut CpuSet,
@@ -83,9 +83,10 @@ fn absent_from(mask: u64, cpu: u32, cpus: u32) -> u32
     mask.trailing_zeros().min((64 - cpu % 64).min(cpus - cpu))
 }
 
-/// Learns each own word, in turn: loads it, or finds that it is 0 by a load of an online mask,
-/// which covers the next processors in a row that have no bit in it. Online are the processors
-/// whose word is not 0: already quiescent if it is above the number, else awaited.
+/// Finds each own word, in turn, by a load of it, or by a load of an online mask, which shows that
+/// the own words of the next processors in a row without a bit in it are 0. A processor is online
+/// if its word is not 0: it is already quiescent if the word is above the number, and awaited
+/// otherwise.
 pub(crate) fn load_own_words<A: Awaited, T: Drop, P: Client>(
     board: &Board<P>,
     seat: &mut TableSeat<P>,

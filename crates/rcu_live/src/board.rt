@@ -1,4 +1,4 @@
-//! The shared words, and each kind of step on them in plain words.
+//! The shared words, and each kind of step on them.
 ghost use Rattle.std.specs.Prelude.{◌≡◌, ◌%◌, ◌<◌, ◌^◌, [], IfOk, false, length};
 ghost use Rattle.rcu_live.specs.declared.view.Role.TheVariants.{Cpu};
 ghost use Rattle.rcu_live.specs.Board.{IsCpuCount, IsSized};
@@ -23,7 +23,7 @@ use atomic_table::{Seat, Table};
 use std::alloc::{AllocError, Global};
 use std::marker::Model;
 
-/// The shared words: the number, a word a processor, and a client's words behind them.
+/// The shared words: the number, a word for each processor, and a client's words behind them.
 #[derive(Drop)]
 pub struct Board<P: Client = NoClient> {
     pub(crate) table: Table<(), View<P::Known>, (u32, P::Plan), Words<P>, Global>,
@@ -57,9 +57,9 @@ impl<P: Client> Model for Board<P> {
     } };
 }
 
-/// A store of an own word by which a grace period may hear of its processor. Only [`Board::store`]
-/// makes one, and it cannot be let go: behind the store, [`Shared::stored`](crate::Shared::stored)
-/// takes it and wakes the waiters that sleep until then.
+/// A store of an own word that may report a quiescent state. Only [`Board::store`] makes one, and
+/// it cannot be dropped: behind the store, [`Shared::stored`](crate::Shared::stored) takes it and
+/// wakes the waiters that sleep until then.
 pub struct Stored {
     cpu: u32,
 }
@@ -80,7 +80,7 @@ impl Stored {
         sleepers.wake_for(board, cpu);
     }
 
-    /// Nobody sleeps by the words alone.
+    /// Wakes nobody: with the words alone, no waiter sleeps.
     pub(crate) fn wakes_nobody(self) {
         let Stored { cpu: _ } = self;
     }
@@ -123,11 +123,11 @@ impl<P: Client> Board<P> {
         ))
     }
 
-    /// What the words keep: they fit in memory. Nothing is done.
+    /// Gives a proof the invariant of the words: they fit in memory. Does nothing.
     pub fn fits(&self)
         ensures { self.now.table.words < 2 ^ 64 }
     {
-        // A borrow of a field shows the prover what the type keeps.
+        // A borrow of a field gives the prover the invariant of the type.
         let _ = &self.table;
     }
 
@@ -206,8 +206,8 @@ impl<P: Client> Board<P> {
         self.table.shared.load::<Close<P>>(seat, NUMBER)
     }
 
-    /// Own-word store by which a grace period may hear of the processor. Returns what wakes the
-    /// waiters that sleep until then.
+    /// Own-word store that may report a quiescent state. Returns the value that wakes the waiters
+    /// that sleep until then.
     pub fn store(&self, seat: &mut TableSeat<P>, cpu: u32, word: u64) -> Stored
         requires table { seat.old.table_id ≡ self.now.table }
         requires inside { own_word_index cpu < seat.old.table_id.words }
@@ -219,8 +219,8 @@ impl<P: Client> Board<P> {
         Stored { cpu }
     }
 
-    /// Own-word store by which the processor arrives or wakes. Its own word was 0 or the idle word,
-    /// so that no grace period awaits it, and nobody has to be woken.
+    /// Own-word store of an arrival or a wake. The own word was 0 or the idle word, so no grace
+    /// period awaits the processor, and no waiter has to be woken.
     pub fn store_awake(&self, seat: &mut TableSeat<P>, cpu: u32, word: u64)
         requires table { seat.old.table_id ≡ self.now.table }
         requires inside { own_word_index cpu < seat.old.table_id.words }
@@ -243,7 +243,7 @@ impl<P: Client> Board<P> {
             .store::<Store>(seat, own_word_index(cpu), word)
     }
 
-    /// Online-mask step: the processor's bit is set.
+    /// Online-mask step: sets the processor's bit.
     pub fn set_online_bit(&self, seat: &mut TableSeat<P>, cpu: u32)
         requires table { seat.old.table_id ≡ self.now.table }
         requires inside { own_word_index cpu < seat.old.table_id.words }
@@ -256,7 +256,7 @@ impl<P: Client> Board<P> {
             .fetch_or::<SetOnlineBit>(seat, mask_index(cpu), 1 << (cpu % 64));
     }
 
-    /// Online-mask step: the bit of the processor, whose own word is 0, is cleared.
+    /// Online-mask step: clears the bit of the processor, whose own word is 0.
     pub fn clear_online_bit(&self, seat: &mut TableSeat<P>, cpu: u32)
         requires table { seat.old.table_id ≡ self.now.table }
         requires inside { own_word_index cpu < seat.old.table_id.words }
@@ -271,7 +271,7 @@ impl<P: Client> Board<P> {
             .fetch_and::<ClearOnlineBit>(seat, mask_index(cpu), !(1 << (cpu % 64)));
     }
 
-    /// Own-word store by which the processor arrives.
+    /// Own-word store of an arrival.
     pub fn arrive(&self, seat: &mut TableSeat<P>, cpu: u32, word: u64)
         requires table { seat.old.table_id ≡ self.now.table }
         requires inside { own_word_index cpu < seat.old.table_id.words }
@@ -283,8 +283,8 @@ impl<P: Client> Board<P> {
             .store::<Arrive>(seat, own_word_index(cpu), word)
     }
 
-    /// Online-mask load, of the first processor whose own word was not loaded since the begin:
-    /// returns the mask. The own words of the next ones in a row that have no bit in it are 0.
+    /// Online-mask load, for the first processor whose own word was not loaded since the begin:
+    /// returns the mask. The own words of the next processors in a row without a bit in it are 0.
     pub fn load_online_mask(&self, seat: &mut TableSeat<P>, cpu: u32) -> u64
         requires table { seat.old.table_id ≡ self.now.table }
         requires engine { IsOfEngine seat.old.me.0 }
@@ -309,7 +309,7 @@ impl<P: Client> Board<P> {
         self.table.shared.load::<LoadOwn>(seat, own_word_index(cpu))
     }
 
-    /// Begin store: the number becomes the next one, at which a grace period runs.
+    /// Begin store: stores the next number, at which a grace period runs.
     pub fn begin(&self, seat: &mut TableSeat<P>, number: u64)
         requires table { seat.old.table_id ≡ self.now.table }
         requires allowed { MayBegin number seat.old.me.0 }
@@ -318,7 +318,7 @@ impl<P: Client> Board<P> {
         self.table.shared.store::<Begin>(seat, NUMBER, number)
     }
 
-    /// End store: the number becomes the next one, at which none runs.
+    /// End store: stores the next number, at which no grace period runs.
     pub fn end(&self, seat: &mut TableSeat<P>, number: u64)
         requires table { seat.old.table_id ≡ self.now.table }
         requires allowed { MayEnd self.now.cpus number seat.old.me.0 }

@@ -8,7 +8,7 @@ use crate::client::Client;
 use std::alloc::{AllocError, Global};
 use std::marker::PhantomData;
 
-/// What two clients are told, and how many words the first has.
+/// The plans of two clients, and how many words the first has.
 #[derive(Clone, Copy)]
 pub struct BothPlans<A, B> {
     /// The plan of the first.
@@ -65,7 +65,8 @@ impl<A: Client, B: Client> Client for Both<A, B> {
 }
 
 impl<A: Client, B: Client> Both<A, B> {
-    /// Returns the plan of two clients of these plans: none if nobody can count their words.
+    /// Returns the plan of two clients of these plans: none if the number of their words does not
+    /// fit.
     pub fn plan(first: A::Plan, second: B::Plan) -> Option<BothPlans<A::Plan, B::Plan>>
         requires first { A.suits first }
         requires second { B.suits second }

@@ -1,10 +1,11 @@
-//! What a seat knows of two clients of one engine.
+//! The knowledge of a seat about two clients of one engine.
 
-/// What a seat knows of a pair of clients. It exists in proofs alone: no value of it is made.
+/// The knowledge of a seat about a pair of clients. It exists only in proofs: no value of it is
+/// made.
 pub struct BothKnown<C, D> {
-    /// Of the first.
+    /// The knowledge about the first.
     pub first: C,
-    /// Of the second.
+    /// The knowledge about the second.
     pub second: D,
     /// How many words the first has: those of the second are behind them.
     pub split: u64,

@@ -4,30 +4,30 @@ ghost use Rattle.rcu_live.specs.Client.{HasAdded, IsStable, Views};
 
 use std::alloc::{AllocError, Global};
 
-/// A client of the engine. Its words are behind the engine's, and each seat's view has a part of
-/// the client's. What it is told once, at the opening, is its plan.
+/// A client of the engine. Its words are behind the engine's, and each seat's view has a part for
+/// the client. Its plan is fixed when its engine is opened.
 ///
-/// One law ties it to the engine: opening and closing a section, dealing a seat and handing over
-/// what the first seat knows keep its rule.
+/// Its law: its rule is kept when a section opens or closes, when a seat is dealt, and when the
+/// knowledge of the first seat is handed over.
 pub trait Client {
-    /// What it is told once, when its engine is opened: how large it is, say.
+    /// The configuration of the client, fixed when its engine is opened: its size, for example.
     type Plan: Copy;
 
-    /// What a seat knows of the client. It exists in proofs alone: no value of it is made.
+    /// The knowledge of a seat about the client. It exists only in proofs: no value of it is made.
     type Known;
 
-    // The rule, of the plan, of the client's words, and of what is shown of each seat.
+    // The rule, over the plan, the client's words, and the shown part of each seat.
     ghost holds: { Self.Plan → List ℕ → Views Self.Known → Type 0 };
 
-    // What the first seat knows of the client, by the plan; what a seat knows that one with this
-    // knowledge dealt; and what is left of what a seat knew when its section closes.
+    // The knowledge of the first seat about the client, by the plan; the knowledge of a seat that a
+    // seat with this knowledge dealt; and the knowledge that a seat keeps when its section closes.
     ghost first: { Self.Plan → Self.Known };
 
     ghost idle: { Self.Known → Self.Known };
 
     ghost closed: { Self.Known → Self.Known };
 
-    // For which plans it has words, and how many.
+    // The plans for which it has words, and how many.
     ghost suits: { Self.Plan → Type 0 };
 
     ghost size: { Self.Plan → ℕ };
@@ -37,7 +37,7 @@ pub trait Client {
         requires { suits plan }
         ensures { result ≡ size plan };
 
-    /// Adds its first words behind others.
+    /// Appends its first words to others.
     fn add_words(alloc: Global, plan: Self::Plan, words: &mut Vec<u64>) -> Result<(), AllocError>
         requires { suits plan }
         ensures { OnOk result (HasAdded (holds plan) (first plan) (size plan) words.old.items
@@ -46,20 +46,20 @@ pub trait Client {
     ghost stable: { (plan : Self.Plan) → IsStable (holds plan) idle closed };
 }
 
-/// What a client's step on one of its words says.
+/// The meaning of a client's step on one of its words.
 pub trait WordStep<C> {
-    // Of the word's place among the client's words, what the client knew, the word that was found
-    // or stored, and what the client knows then.
+    // A relation of the word's place among the client's words, the knowledge before, the word that
+    // was found or stored, and the knowledge after.
     ghost then: { ℕ → C → ℕ → C → Type 0 };
 }
 
-/// What a client's look at the number says.
+/// The meaning of a client's load of the number.
 pub trait NumberStep<C> {
-    // Of what the client knew, the number, and what the client knows then.
+    // A relation of the knowledge before, the number, and the knowledge after.
     ghost then: { C → ℕ → C → Type 0 };
 }
 
-/// No client: no words, nothing to know.
+/// No client: it has no words and no knowledge.
 pub struct NoClient;
 
 impl Client for NoClient {

@@ -11,7 +11,7 @@ use crate::rule::{HandOver, OnNumber, OnWord};
 use crate::words::NUMBER;
 
 impl<P: Client> Board<P> {
-    /// Seat split: a watcher's seat, which has what the client knew at the engine's.
+    /// Seat split: a watcher's seat, which gets the engine seat's knowledge about the client.
     pub fn hand_over(&self, seat: &mut TableSeat<P>) -> TableSeat<P>
         requires table { seat.old.table_id ≡ self.now.table }
         requires engine { IsOfEngine seat.old.me.0 }
@@ -54,7 +54,7 @@ impl<P: Client> Board<P> {
         self.table.shared.store::<OnWord<M>>(seat, index, value)
     }
 
-    /// Loads the number: a look of the client.
+    /// Loads the number, as a step of the client.
     pub fn load_number<M: NumberStep<P::Known>>(&self, seat: &mut TableSeat<P>) -> u64
         requires table { seat.old.table_id ≡ self.now.table }
         requires allowed { AllowsNumber (P.holds self.now.plan)

@@ -22,17 +22,17 @@ use rcu_cpu::CpuData;
 use rcu_seq::{Fault, Tag};
 use std::marker::Model;
 
-/// The own word of an idle processor: it is above each number, so that it clears its processor.
+/// The own word of an idle processor: it is above each number, so it clears its processor.
 const IDLE_WORD: u64 = 1 << 63;
 
 /// A processor's seat, for one thread.
 ///
-/// Behind each store of its own word, but that of a wake, of a pin or of an arrival, a call looks
-/// once whether it has to wake the waiters that sleep until then: [`Shared::stored`] says what that
+/// After each store of its own word, except in a wake, a pin or an arrival, a call checks once
+/// whether it has to wake the waiters that sleep until then. [`Shared::stored`] says what that
 /// costs.
 #[derive(Drop)]
 pub struct CpuSeat<P: Client = NoClient> {
-    /// Whether the processor is online and whether it is idle, how deep its sections nest, and the
+    /// Whether the processor is online and whether it is idle, the depth of its sections, and the
     /// number of its latest quiescent state, wake or arrival: its own word less one.
     data: CpuData,
     /// The number at which the open section began.
@@ -73,7 +73,7 @@ impl<P: Client> Model for CpuSeat<P> {
 }
 
 impl<P: Client> CpuSeat<P> {
-    /// The seat of a processor as it is dealt.
+    /// Returns the seat of a processor as it is dealt.
     pub(crate) fn new(seat: TableSeat<P>, cpu: u32) -> CpuSeat<P>
         requires view { seat.me.0 ≡ cpu_seat seat.me.0.base cpu seat.me.0.client }
         requires inside { own_word_index cpu < seat.table_id.words }
@@ -102,14 +102,14 @@ impl<P: Client> CpuSeat<P> {
         self.data.cpu()
     }
 
-    /// Returns how deep the read sections nest, 0 to 65,535: 0 if none is open.
+    /// Returns the depth of the read sections, 0 to 65,535: 0 if none is open.
     pub fn depth(&self) -> u32
         ensures { result ≡ self.now.depth }
     {
         self.data.depth()
     }
 
-    /// Returns whether the processor is online, be it awake or idle: its own word is not 0.
+    /// Returns whether the processor is online, awake or idle: its own word is not 0.
     pub fn is_online(&self) -> bool
         ensures { result ≡ not (self.now.view.own_word == 0) }
     {
@@ -130,8 +130,8 @@ impl<P: Client> CpuSeat<P> {
         self.opened
     }
 
-    /// Opens a read section by one load, or nests one deeper in the open one by none, and returns
-    /// the depth. It waits for nobody.
+    /// Opens a read section by one load, or nests one deeper in the open one without a load, and
+    /// returns the depth. It never waits.
     ///
     /// Faults: `Offline` (2) if the processor is offline; `CpuIdle` (23) if it is idle; `NestFull`
     /// (6) if the depth is 65,535.
@@ -151,7 +151,8 @@ impl<P: Client> CpuSeat<P> {
         Ok(depth)
     }
 
-    /// Leaves the innermost section, and returns the depth: at 0 one load closed the section.
+    /// Closes the innermost section, and returns the depth. At depth 0 one load closed the
+    /// outermost section.
     ///
     /// Fault `NotOpen` (5): no section is open.
     pub fn exit<L: Shared<P>>(&mut self, live: &L) -> Result<u32, Fault>
@@ -192,9 +193,10 @@ impl<P: Client> CpuSeat<P> {
         Ok(number)
     }
 
-    /// Passes a quiescent state, as [`quiesce`](Self::quiesce), and leaves the store out where the
-    /// processor's own word is the number and one more already: then no grace period began or ended
-    /// since it was stored. A thread that passes many does so by a load alone.
+    /// Passes a quiescent state, as [`quiesce`](Self::quiesce) does, but omits the store if the
+    /// processor's own word is already the number and one more: then no grace period began or ended
+    /// since it was stored, so the earlier report still counts. A thread that passes many quiescent
+    /// states mostly does so by a load alone.
     ///
     /// Faults: `Offline` (2) if the processor is offline; `CpuIdle` (23) if it is idle; `InSection`
     /// (4) if a section is open.
@@ -216,11 +218,11 @@ impl<P: Client> CpuSeat<P> {
         Ok(now)
     }
 
-    /// Renews the open section: closes it, passes a quiescent state, and opens the next one. So a
-    /// thread that reads all the time keeps a section open, and calls this between two looks at the
-    /// data: what it read before, it uses no more (liburcu's `rcu_quiescent_state`). Two loads, and
-    /// a store where a grace period began or ended since the last quiescent state. Returns the
-    /// number of the quiescent state.
+    /// Renews the open section: closes it, passes a quiescent state, and opens the next one. A
+    /// thread that reads all the time keeps a section open, and calls this between two reads of the
+    /// data; it must not use pointers that it read before (liburcu's `rcu_quiescent_state`). Costs
+    /// two loads, and a store if a grace period began or ended since the last quiescent state.
+    /// Returns the number of the quiescent state.
     ///
     /// Faults: `Offline` (2) if the processor is offline; `CpuIdle` (23) if it is idle; `NotOpen`
     /// (5) if no section is open; `InSection` (4) if the open one nests.
@@ -240,9 +242,8 @@ impl<P: Client> CpuSeat<P> {
         }
     }
 
-    /// Closes the open section, which does not nest, passes a quiescent state, which stores only
-    /// what changes the own word, and opens the next section. Returns the number of the quiescent
-    /// state.
+    /// Closes the open section, which does not nest, passes a quiescent state, which stores only if
+    /// the own word changes, and opens the next section. Returns the number of the quiescent state.
     #[inline]
     fn renew_outermost<L: Shared<P>>(&mut self, live: &L) -> u64
         requires table { self.old.table ≡ (L.object live.now).table }
@@ -264,7 +265,7 @@ impl<P: Client> CpuSeat<P> {
         number
     }
 
-    /// Why no section is renewed if none is open that does not nest.
+    /// Returns why no section is renewed, if the depth is not 1.
     #[cold]
     fn no_outermost(&self) -> Fault
         requires { self.now.depth ≢ 1 }
@@ -280,9 +281,9 @@ impl<P: Client> CpuSeat<P> {
     }
 
     /// Opens a read section, or nests one deeper in the open one, and returns the depth, as
-    /// [`enter`](Self::enter), also if the processor is idle: then it wakes first, by one store of
-    /// 1 in its own word, with no load before it. It waits for nobody. A thread that pins and
-    /// unpins keeps no grace period waiting between two sections, and passes no quiescent states.
+    /// [`enter`](Self::enter) does, also if the processor is idle: then it wakes first, by one
+    /// store of 1 to its own word, without a load before it. It never waits. A thread that pins and
+    /// unpins blocks no grace period between two sections, and need not report quiescent states.
     ///
     /// Faults: `Offline` (2) if the processor is offline; `NestFull` (6) if the depth is 65,535.
     pub fn pin<L: Shared<P>>(&mut self, live: &L) -> Result<u32, Fault>
@@ -312,8 +313,8 @@ impl<P: Client> CpuSeat<P> {
         Ok(depth)
     }
 
-    /// Leaves the innermost section, and returns the depth: at 0 one load closed the section, and
-    /// the processor is idle from then on, by one store of 2^63 in its own word.
+    /// Closes the innermost section, and returns the depth. At depth 0 one load closed the
+    /// outermost section, and one store of 2^63 to the processor's own word made it idle.
     ///
     /// Faults: `Offline` (2) if the processor is offline; `NotOpen` (5) if no section is open.
     pub fn unpin<L: Shared<P>>(&mut self, live: &L) -> Result<u32, Fault>
@@ -341,9 +342,9 @@ impl<P: Client> CpuSeat<P> {
         Ok(depth)
     }
 
-    /// Renews the section that a pin opened, as [`renew`](Self::renew): so a thread that stays
-    /// pinned for long keeps no grace period waiting that began before this call. Returns the
-    /// number of the quiescent state.
+    /// Renews the section that a pin opened, as [`renew`](Self::renew) does: so a thread that stays
+    /// pinned for long blocks no grace period that began before this call. Returns the number of
+    /// the quiescent state.
     ///
     /// Faults: `Offline` (2) if the processor is offline; `NotOpen` (5) if no section is open;
     /// `InSection` (4) if the open one nests.
@@ -360,8 +361,8 @@ impl<P: Client> CpuSeat<P> {
         Ok(self.renew_outermost(live))
     }
 
-    /// The processor is idle from now on, until it wakes or departs: one store of 2^63 in its own
-    /// word. It opens no section, and no grace period waits for it.
+    /// Makes the processor idle, until it wakes or departs: stores 2^63 to its own word. An idle
+    /// processor opens no section, and no grace period waits for it.
     ///
     /// Faults: `Offline` (2) if the processor is offline; `CpuIdle` (23) if it is idle; `InSection`
     /// (4) if a section is open.
@@ -378,8 +379,8 @@ impl<P: Client> CpuSeat<P> {
         Ok(())
     }
 
-    /// The processor is awake from now on: loads the number, which it returns, and stores it and
-    /// one more in the processor's own word.
+    /// Wakes the processor: loads the number, which it returns, and stores it and one more to the
+    /// processor's own word.
     ///
     /// Faults: `Offline` (2) if the processor is offline; `NotIdle` (24) if it is awake.
     pub fn wake<L: Shared<P>>(&mut self, live: &L) -> Result<u64, Fault>
@@ -398,8 +399,8 @@ impl<P: Client> CpuSeat<P> {
         Ok(seen)
     }
 
-    /// Does the seat's half of [`Live::online`](crate::live::Live): the processor is online from
-    /// now on, and its own word becomes the number seen, and one more.
+    /// Does the seat's half of [`Live::online`](crate::live::Live): brings the processor online by
+    /// storing the number seen, and one more, to its own word.
     ///
     /// Fault `AlreadyOnline` (3): the processor is online.
     pub fn arrive<L: Shared<P>>(&mut self, live: &L) -> Result<(), Fault>
@@ -420,8 +421,8 @@ impl<P: Client> CpuSeat<P> {
         Ok(())
     }
 
-    /// Does the seat's half of [`Live::offline`](crate::live::Live): the processor is offline from
-    /// now on, and its own word becomes 0. Returns whether it was offline before.
+    /// Does the seat's half of [`Live::offline`](crate::live::Live): takes the processor offline by
+    /// storing 0 to its own word. Returns whether it was offline before.
     ///
     /// Faults: `BootStays` (12) for processor 0; `InSection` (4) if a section is open.
     pub fn depart<L: Shared<P>>(&mut self, live: &L) -> Result<bool, Fault>
@@ -446,7 +447,7 @@ impl<P: Client> CpuSeat<P> {
         Ok(again)
     }
 
-    /// One load of the number.
+    /// Loads the number once.
     pub(crate) fn look(&mut self, board: &Board<P>) -> u64
         requires { self.old.table ≡ board.now.table }
         ensures look { AcceptedAt after_look self.old result self.new }
@@ -457,7 +458,7 @@ impl<P: Client> CpuSeat<P> {
         board.load(&mut self.seat)
     }
 
-    /// Loads the client's word of this place. A client's rule may look at the open section.
+    /// Loads the client's word at this place. A client's rule may depend on the open section.
     pub fn load_word<L: Shared<P>, M: WordStep<P::Known>>(&mut self, live: &L, word: usize) -> u64
         requires seat { IsSeatOf (L.object live.now) self.old }
         requires inside { HasWord (L.object live.now) word }
@@ -471,7 +472,8 @@ impl<P: Client> CpuSeat<P> {
         self.load_at::<M>(board, board.base() + word)
     }
 
-    /// Does the same by the word's index in the table, wherever the seat knows the client's words.
+    /// Does the same by the word's index in the table, wherever the seat knows the client's words
+    /// to be.
     pub(crate) fn load_at<M: WordStep<P::Known>>(&mut self, board: &Board<P>, index: usize) -> u64
         requires table { self.old.table ≡ board.now.table }
         requires inside { index < board.now.table.words }

@@ -1,4 +1,4 @@
-//! What the words of a run of the engine say, on small runs, and those of an accepted call.
+//! Laws that pin the definitions of runs of the engine, on small runs, and those of accepted calls.
 ghost use Rattle.std.specs.Prelude.{◌≡◌, ◌⊎◌, ◌+◌, ◌%◌, ◌<◌, ◌≤◌, ◌^◌, [], ◌∷◌, ℕ, All, List};
 ghost use Rattle.std.specs.Prelude.{None, Some, ◌++◌, false, length, true};
 ghost use Rattle.atomic_table.specs.Seated.{TableId};
@@ -33,9 +33,9 @@ ghost use Rattle.rcu_live.specs.declared.both_known.BothKnown.{BothKnown};
 use crate::client::Client;
 use rcu_seq::Fault;
 
-/// A callback is handed out once: it was queued and tended, a grace period began that found its
-/// processor idle, and ended, and it was tended and run. It came as it was queued, and no list has
-/// it then.
+/// A callback is handed out once: it is queued and tended, a grace period begins that finds its
+/// processor idle, and ends, and it is tended and run. It comes out as it was queued, and then no
+/// list has it.
 pub fn a_run_hands_its_callback_out<T: Drop, P: Client>()
     ensures run { (known : P.Known) (table : TableId) (last : Number) (most : ℕ) (value : T) →
         IsRun (engine_at_first table 1 last most known) (Call.Run 0 1 ∷ Call.Tend 0 ∷ Call.End
@@ -62,7 +62,7 @@ pub fn a_run_hands_its_callback_out<T: Drop, P: Client>()
         ∷ []) ≡ None }
 {}
 
-/// A run adds what it hands out to what was handed out before it.
+/// A run adds the callbacks that it hands out to those handed out before.
 pub fn a_run_adds_what_it_hands_out<T: Drop, P: Client>()
     ensures { (first : Locked P.Known T) (calls : List (Call T)) (ord cpu most : ℕ) →
         times_handed_out ord first (Call.Run cpu most ∷ calls) ≡
@@ -70,8 +70,8 @@ pub fn a_run_adds_what_it_hands_out<T: Drop, P: Client>()
         + times_handed_out ord first calls }
 {}
 
-/// A callback that waits is not handed out: its grace period began and did not end, or began before
-/// it was queued, whatever came between. It lies in its list.
+/// A waiting callback is not handed out: its grace period began and did not end, or began before it
+/// was queued, whatever came between. It stays in its list.
 pub fn a_callback_that_waits_stays_listed<T: Drop, P: Client>()
     ensures none { (known : P.Known) (table : TableId) (last : Number) (most : ℕ) (value : T) →
         times_handed_out 1 (engine_at_first table 1 last most known) (Call.Run 0 1 ∷ Call.Tend 0
@@ -92,7 +92,7 @@ pub fn a_callback_that_waits_stays_listed<T: Drop, P: Client>()
         ≡ false }
 {}
 
-/// A step of driving that finds its processor idle is a begin and an end.
+/// A step of driving that finds its processor idle is both a begin and an end.
 pub fn a_step_of_driving_may_be_a_full_grace_period<T: Drop, P: Client>()
     ensures idle { (known : P.Known) (table : TableId) (last : Number) (most : ℕ) (value : T) →
         has_full_period (turns_since 1 (engine_at_first table 1 last most known)
@@ -102,7 +102,7 @@ pub fn a_step_of_driving_may_be_a_full_grace_period<T: Drop, P: Client>()
         (Call.Drive true (λ _. 1) ∷ Call.Queue 0 value ∷ [])) ≡ false }
 {}
 
-/// A barrier counts what was queued before its begin, and nothing that comes later.
+/// A barrier counts the callbacks that were queued before its begin, and none that comes later.
 pub fn a_barrier_waits_for_what_was_before_it<T: Drop, P: Client>()
     ensures before { (known : P.Known) (table : TableId) (last : Number) (most : ℕ) (value : T) →
         queued_before_barrier (engine_at_first table 1 last most known) (Call.Queue 0 value
@@ -115,8 +115,8 @@ pub fn a_barrier_waits_for_what_was_before_it<T: Drop, P: Client>()
         ∷ [])).grace.lists ≡ BarrierState.Waits 1 }
 {}
 
-/// A run has no call of a callback for a processor that there is not, no leave of processor 0, no
-/// second grace period or barrier beside one, and no end or visit of one that does not run.
+/// A run has no callback call for a processor that does not exist, no leave of processor 0, no
+/// second grace period or barrier while one runs, and no end or visit while none runs.
 pub fn a_run_has_only_calls_that_may_be_made<T: Drop, P: Client>()
     ensures cpu { (known : P.Known) (table : TableId) (last : Number) (most : ℕ) (value : T) →
         IsRun (engine_at_first table 2 last most known) (Call.Queue 2 value ∷ []) → ⊥ }
@@ -131,8 +131,8 @@ pub fn a_run_has_only_calls_that_may_be_made<T: Drop, P: Client>()
         IsRun {X = T} (engine_at_first table 2 last most known) (Call.Visit 0 ∷ []) → ⊥ }
 {}
 
-/// An engine is new as it is opened, and is not once a callback was queued. A queueing is a step
-/// that leaves another engine.
+/// An engine is new when it is opened, and not after a callback was queued. Queuing a callback is a
+/// step that leaves another engine.
 pub fn an_engine_is_new_until_a_queueing<T: Drop, P: Client>()
     ensures new { (known : P.Known) (table : TableId) (cpus : ℕ) (last : Number) (most : ℕ) →
         IsNew {X = T} (engine_at_first table cpus last most known) }
@@ -144,8 +144,8 @@ pub fn an_engine_is_new_until_a_queueing<T: Drop, P: Client>()
         (engine_at_first table 1 last most known) → ⊥ }
 {}
 
-/// Nothing is a run. A run with one more call, which may be made where it was made, is a run; and
-/// each call of a run may be made.
+/// The empty list is a run. A run with one more call that is allowed at its end is a run; and each
+/// call of a run is allowed.
 pub fn a_run_is_made_call_by_call<T: Drop, P: Client>()
     ensures none { (first : Locked P.Known T) → IsRun first [] }
     ensures more { (first : Locked P.Known T) (call : Call T) (calls : List (Call T)) →
@@ -157,8 +157,8 @@ pub fn a_run_is_made_call_by_call<T: Drop, P: Client>()
         IsRun first (call ∷ calls) → IsRun first calls }
 {}
 
-/// A run from the engine that another one left goes on with it: both are one run, which leaves what
-/// the second one leaves.
+/// A run from the engine that another run left continues that run: together they are one run, which
+/// leaves the engine that the second one leaves.
 pub fn a_run_goes_on_from_the_end_of_another<T: Drop, P: Client>()
     ensures run { (first : Locked P.Known T) (calls more : List (Call T)) → IsRun first calls →
         IsRun (engine_after first calls) more → IsRun first (more ++ calls) }
@@ -166,7 +166,7 @@ pub fn a_run_goes_on_from_the_end_of_another<T: Drop, P: Client>()
         engine_after first (more ++ calls) ≡ engine_after (engine_after first calls) more }
 {}
 
-/// A step is a call that may be made, and leaves what it says.
+/// A step is an allowed call, and leaves the engine after that call.
 pub fn a_step_may_be_made<T: Drop, P: Client>()
     ensures may { (call : Call T) (old new : Locked P.Known T) → Makes call old new →
         MayCall old call }
@@ -179,8 +179,8 @@ pub fn a_step_may_be_made<T: Drop, P: Client>()
         Makes Call.End (engine_at_first table 1 last most known) new → ⊥ }
 {}
 
-/// What is noted is no less than what the seat saw before, and at most 2^62; the own word is one
-/// more than it. An accepted call has seen no less, too.
+/// A noted number is no less than the number that the seat saw before, and at most 2^62; the own
+/// word is one more than it. An accepted call has also seen no less.
 pub fn a_noted_number_was_seen<P: Client>()
     ensures noted { (s : Seated P.Known) (n : Number) → s.view.seen ≤ n → n ≤ 2 ^ 62 →
         NotedAt after_quiesce s n (after_quiesce s n) }
@@ -198,9 +198,8 @@ pub fn a_noted_number_was_seen<P: Client>()
         t.view.seen ≡ n }
 {}
 
-/// A renewal passes a quiescent state at a number that is no less than what the seat saw before,
-/// and at most 2^62: the own word is one more than it. Then a section begins, at a number that is
-/// no less.
+/// A renewal passes a quiescent state at a number that is no less than the seat saw before, and at
+/// most 2^62: the own word is one more than it. Then a section begins, at a number that is no less.
 pub fn a_renewal_is_a_quiescent_state<P: Client>()
     ensures earlier { (closed : P.Known → P.Known) (s t : Seated P.Known) (n : Number) →
         RenewedAt closed s n t → s.view.seen ≤ n }
@@ -217,17 +216,17 @@ pub fn a_renewal_is_a_quiescent_state<P: Client>()
         RenewedAt closed s n (after_renew closed s n m) }
 {}
 
-/// A wait has passed a full grace period: the number has reached the snapshot of that before it, as
-/// it has where the cookie of a number that is no less is done.
+/// A wait has passed a full grace period: the number has reached the snapshot of the number before
+/// it, as it has if the cookie of a number that is no less is done.
 pub fn a_wait_has_passed_a_full_grace_period()
     ensures reached { (before now : Number) → HasPassed before now → snapshot before ≤ now }
     ensures done { (before taken now : Number) → before ≤ taken →
         is_done_first (cookie_at (of_first_epoch taken)) now ≡ true → HasPassed before now }
 {}
 
-/// Over the rounds of a wait the watcher made this many looks more than the processor passed
-/// quiescent states, if it is awake and outside of sections. In a section of the caller nothing
-/// happened to its seat and its watcher.
+/// In the rounds of a wait the watcher loaded the number this many times more than the processor
+/// passed quiescent states, if it is awake and outside of sections. If a section of the caller is
+/// open, its seat and its watcher did nothing.
 pub fn a_wait_looks_and_rests_by_rounds<P: Client>()
     ensures rounds { (more : ℕ) (s t : Seated P.Known) (w v : Watching P.Known) →
         AreRounds more s t w v → s.depth ≡ 0 → may_open t.view.own_word ≡ true →
@@ -238,9 +237,9 @@ pub fn a_wait_looks_and_rests_by_rounds<P: Client>()
         HasStayedInside s t w v → 0 < s.depth → v ≡ w }
 {}
 
-/// Under the lock a departure is refused with three faults, and a queueing with three: the former
-/// where a processor is online or offline, the latter if it is offline or as many callbacks were
-/// queued as may be, and either if memory was refused.
+/// Under the lock a departure is refused with three faults, and a queue call with three: the
+/// departure if a processor is online or offline, the queue call if it is offline or the limit of
+/// callbacks is reached, and either if memory was refused.
 pub fn a_departure_and_a_queueing_have_three_faults_each()
     ensures leave { (fault : Fault) → is_leave_fault fault ≡ true →
         (fault ≡ Fault.AlreadyOnline) ⊎ ((fault ≡ Fault.Offline) ⊎ (fault ≡ Fault.NoMemory)) }
@@ -248,8 +247,8 @@ pub fn a_departure_and_a_queueing_have_three_faults_each()
         (fault ≡ Fault.Offline) ⊎ ((fault ≡ Fault.CallbacksFull) ⊎ (fault ≡ Fault.NoMemory)) }
 {}
 
-/// What is due has waited: the number has reached the snapshot of that at its queueing. It is no
-/// more than was asked for, and the number is one that the number word may have.
+/// A callback that is due has waited: the number has reached the snapshot at which it was queued.
+/// At most as many are due as were asked for, and the number is one that the number word may have.
 pub fn what_is_due_has_waited<T: Drop>()
     ensures waited { (number most : ℕ) (calls : List (Queued T)) → AreDue number most calls →
         All (λ call. HasWaited number call.at) calls }
@@ -261,15 +260,15 @@ pub fn what_is_due_has_waited<T: Drop>()
         is_number_word number ≡ true }
 {}
 
-/// A processor leaves by a leave of its own, and by no other call.
+/// A processor leaves only by its own leave call.
 pub fn a_processor_leaves_by_its_leave<T: Drop>()
     ensures leave { (cpu word : ℕ) → leaves {X = T} cpu (Call.Leave cpu word) ≡ true }
     ensures no_other { (cpu : ℕ) (call : Call T) → leaves cpu call ≡ true →
         (word : ℕ) × (call ≡ Call.Leave cpu word) }
 {}
 
-/// A pair of clients holds where each one's rule holds of its own words, the second's behind the
-/// first's, and each seat knows how many the first has.
+/// The rule of a pair of clients holds if each one's rule holds for its own words, the second's
+/// behind the first's, and each seat knows how many words the first has.
 pub fn a_pair_holds_where_each_does()
     ensures both { HoldsBoth {C = ℕ} {D = ℕ} (λ words _. words ≡ 1 ∷ []) (λ words _. words ≡ 2 ∷ [])
         1 (1 ∷ 2 ∷ []) [] }
@@ -282,7 +281,8 @@ pub fn a_pair_holds_where_each_does()
         (of_both (λ _. 0) (λ n. n) known).second ≡ known.second }
 {}
 
-/// What sets nothing is no part of what a seat knows, and a part begins at its own first word.
+/// A lens that sets nothing is no part of a seat's knowledge, and a part begins at its own first
+/// word.
 pub fn a_part_is_set_and_has_its_place()
     ensures set { IsLens {D = ℕ} {C = ℕ}
         (record { get = λ c. c; set = λ d _. d; begins = λ base _. base })
@@ -307,9 +307,9 @@ pub fn absent_processors_have_no_bit()
         → has_bit mask (cpu % 64 + absent_from mask cpu cpus) ≡ true }
 {}
 
-/// A moment meets the rule of askings if a seat stored behind an asking, and a look behind that
-/// store found it asked. None does in which such a look found nobody asked, in which a processor is
-/// asked that nobody asked, or in which a look came behind a store that was not made.
+/// A moment fulfils the rule of askings if a seat stored after an asking, and a look after that
+/// store found the processor asked. It does not if such a look found none asked, if a processor is
+/// asked that no asking named, or if a look came after a store that was not made.
 pub fn no_moment_has_slept_through_a_report()
     ensures found { IsAwake {C = Unit {0}} (record {
       words = 0 ∷ 2 ∷ [];

@@ -1,4 +1,4 @@
-//! What lies under the engine's lock.
+//! The engine, which is under its lock.
 ghost use Rattle.std.specs.Prelude.{◌≡◌, ◌<◌, ◌≤◌, ℕ, IfSome, None, false, length};
 ghost use Rattle.std.specs.Arc.{arc_value};
 ghost use Rattle.rcu_node.specs.CpuSet.{is_in};
@@ -16,18 +16,18 @@ use std::alloc::Global;
 use std::marker::Model;
 use std::sync::Arc;
 
-/// The engine: the seat by which alone the number changes, and the state of the grace periods and
-/// the callbacks.
+/// The engine: the only seat that can change the number, and the state of the grace periods and the
+/// callbacks.
 ///
-/// Between its calls a running grace period awaits each processor that is not cleared: that no load
-/// since the begin found offline, or past a quiescent state.
+/// Between its calls a running grace period awaits each processor that is not cleared: a processor
+/// is cleared if a load since the begin found it offline or past a quiescent state.
 #[derive(Drop)]
 pub struct Engine<A: Awaited, T: Drop, P: Client = NoClient> {
     pub(crate) board: Arc<Board<P>, Global>,
     pub(crate) seat: TableSeat<P>,
     pub(crate) gp: GpState<A, T>,
-    /// The processors as the last begin found them, and those awaited once more, for walks that
-    /// pass over 64 at a time.
+    /// The processors as the last begin found them, and the awaited ones again, for walks that skip
+    /// 64 at a time.
     pub(crate) by_word: WordSets,
 }
 
@@ -63,7 +63,7 @@ impl<A: Awaited, T: Drop, P: Client> Model for Engine<A, T, P> {
 }
 
 impl<A: Awaited, T: Drop, P: Client> Engine<A, T, P> {
-    /// The engine of this seat and state.
+    /// Returns the engine of this seat and state.
     pub(crate) fn new(
         board: Arc<Board<P>, Global>,
         seat: TableSeat<P>,
@@ -106,8 +106,8 @@ impl<A: Awaited, T: Drop, P: Client> Engine<A, T, P> {
         &self.gp
     }
 
-    /// The first processor from this one on that is awaited. Costs a step, and one more for every
-    /// 64 processors that it passes over.
+    /// Returns the first awaited processor from this one on. Costs a step, and one more for every
+    /// 64 processors that it skips.
     pub fn next_awaited(&self, from: u32) -> Option<u32>
         ensures first { IfSome result (λ cpu.
             IsNextFrom self.now.grace.processors.awaited from cpu) }

@@ -15,7 +15,7 @@ use rcu_node::Awaited;
 use rcu_seq::Fault;
 use rcu_state::GpState;
 
-/// The processor departs, unless a begin has found it gone, and is awaited no more.
+/// Takes the processor offline, unless a begin has found it gone; it is no longer awaited.
 #[tactic(auto, using(crate::proofs::Departures::departed))]
 fn depart<A: Awaited, T: Drop>(gp: &mut GpState<A, T>, by_word: &mut WordSets, cpu: u32)
     requires cpu { cpu < cpus_of gp.old.grace.processors }
@@ -35,8 +35,8 @@ fn depart<A: Awaited, T: Drop>(gp: &mut GpState<A, T>, by_word: &mut WordSets, c
 }
 
 impl<A: Awaited, T: Drop, P: Client> Engine<A, T, P> {
-    /// The processor is online here too, if no begin has found it. It is awaited from the next
-    /// begin on.
+    /// Brings the processor online in the engine too, if no begin has found it. It is awaited from
+    /// the next begin on.
     pub fn join(&mut self, cpu: u32)
         requires { cpu < self.old.cpus }
         ensures { Makes (Call.Join cpu) self.old self.new }
@@ -46,9 +46,9 @@ impl<A: Awaited, T: Drop, P: Client> Engine<A, T, P> {
         }
     }
 
-    /// The processor is offline here too: loads its own word, and if that is 0 the processor
-    /// departs, unless a begin has found it gone, and its list moves to processor 0's. Returns how
-    /// many callbacks moved. `again` says that it was offline before.
+    /// Takes the processor offline in the engine too: loads its own word, and if that is 0, the
+    /// processor departs, unless a begin has found it gone, and its list moves to processor 0's.
+    /// Returns how many callbacks moved. `again` says that it was offline before.
     ///
     /// Faults: `AlreadyOnline` (3) if its word is not 0; `Offline` (2) if it was offline before and
     /// its list is empty; `NoMemory` (16), only if its list is not empty: then it has departed, and

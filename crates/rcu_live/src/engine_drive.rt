@@ -1,4 +1,5 @@
-//! Steps of driving: an engine hears of all whom it awaits, ends a grace period, and begins one.
+//! Steps of driving: an engine collects from all awaited processors, ends a grace period, and
+//! begins one.
 ghost use Rattle.std.specs.Prelude.{◌≡◌, ◌<◌, IfOk, OnErr, OnOk, true};
 ghost use Rattle.std.specs.Result.{result_err};
 ghost use Rattle.rcu_seq.specs.Seq.{cookie_of};
@@ -37,8 +38,9 @@ impl<A: Awaited, T: Drop, P: Client> Engine<A, T, P> {
         }
     }
 
-    /// Returns the cookie of a taking now, whose number is needed from now on (Linux's
-    /// `start_poll_synchronize_rcu`): where none runs, the next step of driving or turn begins one.
+    /// Takes a snapshot, requests its number, and returns its cookie (Linux's
+    /// `start_poll_synchronize_rcu`). If no grace period runs, the next step of driving or turn
+    /// begins one.
     pub fn start_poll(&mut self) -> Cookie
         ensures cookie { result ≡ cookie_of self.old.grace.seq }
         ensures made { Makes Call.StartPoll self.old self.new }
@@ -46,7 +48,7 @@ impl<A: Awaited, T: Drop, P: Client> Engine<A, T, P> {
         self.gp.start_poll()
     }
 
-    /// One step of driving, whether a grace period is wanted or not.
+    /// Makes one step of driving; `is_wanted` says whether a grace period is requested.
     fn step(&mut self, is_wanted: bool) -> Result<Turned, Fault>
         ensures answer { IfOk result (λ turned.
             turned ≡ drive_answer self.old is_wanted (latest_words self.new)) }
@@ -74,11 +76,11 @@ impl<A: Awaited, T: Drop, P: Client> Engine<A, T, P> {
         Ok(Turned::Waiting(awaited))
     }
 
-    /// One step of driving: while a grace period runs, it collects from each processor that is
-    /// awaited. If none runs, one begins if callbacks need it. A grace period that awaits nobody
-    /// then ends. Costs a load a processor at most, and a step.
+    /// Makes one step of driving: while a grace period runs, it collects from each awaited
+    /// processor. If none runs, it begins one if callbacks need it. If the grace period then awaits
+    /// no processor, it ends. Costs at most a load for each processor, and a step.
     ///
-    /// Fault `Exhausted` (11): one would begin, and the number is the last one.
+    /// Fault `Exhausted` (11): a grace period would begin, and the number is the last one.
     pub fn drive(&mut self) -> Result<Turned, Fault>
         ensures answer { IfOk result (λ turned. turned ≡ drive_answer self.old
             (wants_begin self.old.grace) (latest_words self.new)) }
@@ -92,10 +94,10 @@ impl<A: Awaited, T: Drop, P: Client> Engine<A, T, P> {
         self.step(is_wanted)
     }
 
-    /// The same for a waiter for this cookie: if none runs, one begins if the cookie is not
-    /// done yet.
+    /// The same for a waiter for this cookie: if none runs, it begins one if the cookie is not done
+    /// yet.
     ///
-    /// Fault `Exhausted` (11): one would begin, and the number is the last one.
+    /// Fault `Exhausted` (11): a grace period would begin, and the number is the last one.
     pub fn drive_for(&mut self, cookie: Cookie) -> Result<Turned, Fault>
         ensures answer { IfOk result (λ turned. turned ≡ drive_answer self.old
             (wants_for cookie self.old.grace) (latest_words self.new)) }

@@ -20,21 +20,21 @@ use rcu_cblist::{Queued, Refused};
 use rcu_node::Awaited;
 use rcu_seq::Fault;
 
-/// What a run hands out.
+/// The callbacks that a run hands out.
 #[derive(Debug, Drop)]
 pub struct Ran<T: Drop> {
     /// The number at the run.
     pub number: u64,
-    /// The callbacks, in the order of their queueing.
+    /// The callbacks, in the order in which they were queued.
     pub calls: Vec<Queued<T>>,
 }
 
 impl<A: Awaited, T: Drop, P: Client> Engine<A, T, P> {
-    /// Queues a callback on a processor, at the number. Returns how many were queued, this one
-    /// among them.
+    /// Queues a callback on a processor, at the current number. Returns how many callbacks were
+    /// queued, with this one.
     ///
-    /// Faults, with the value: `Offline` (2) if the processor is not online here; `CallbacksFull`
-    /// (15) if as many were queued as may be; `NoMemory` (16).
+    /// Faults, with the value: `Offline` (2) if the processor is not online in the engine;
+    /// `CallbacksFull` (15) if as many were queued as the opening allows; `NoMemory` (16).
     pub fn queue(&mut self, cpu: u32, value: T) -> Result<u64, Refused<T>>
         requires { cpu < self.old.cpus }
         ensures count { IfOk result (λ count. count ≡ self.new.grace.lists.queued) }
@@ -55,10 +55,10 @@ impl<A: Awaited, T: Drop, P: Client> Engine<A, T, P> {
         self.gp.queue(cpu, value)
     }
 
-    /// Brings the marks of a processor's callbacks up to the number. Returns how many callbacks of
-    /// the list are done and how many wait then.
+    /// Advances and accelerates a processor's callbacks to the current number. Returns how many
+    /// callbacks of the list are done and how many wait.
     ///
-    /// Fault `BadCpu` (1): there is no such processor.
+    /// Fault `BadCpu` (1): the processor does not exist.
     pub fn tend(&mut self, cpu: u32) -> Result<(u64, u64), Fault>
         ensures fault { result_err result ≡ cpu_refusal self.old cpu }
         ensures made { OnOk result (Makes (Call.Tend cpu) self.old self.new) }
@@ -75,9 +75,9 @@ impl<A: Awaited, T: Drop, P: Client> Engine<A, T, P> {
     }
 
     /// Hands out the first callbacks of a processor's done part, at most `max`, with the number:
-    /// only such that a full grace period has passed since their queueing.
+    /// only callbacks for which a full grace period has passed since they were queued.
     ///
-    /// Faults: `BadCpu` (1); `NoMemory` (16), only if it has a callback to hand out.
+    /// Faults: `BadCpu` (1); `NoMemory` (16), only if there is a callback to hand out.
     pub fn run(&mut self, cpu: u32, max: u64) -> Result<Ran<T>, Fault>
         ensures fault { tested_fault result ≡ cpu_refusal self.old cpu }
         ensures number { IfOk result (λ ran. ran.number ≡ number_of self.old.grace.seq) }
@@ -97,8 +97,7 @@ impl<A: Awaited, T: Drop, P: Client> Engine<A, T, P> {
         Ok(Ran { number, calls })
     }
 
-    /// Returns how many callbacks the processor's done part has. Its list never begins with a
-    /// marker.
+    /// Returns how many callbacks the processor's done part has. A list never begins with a marker.
     pub fn done_count(&self, cpu: u32) -> u64
         requires { cpu < self.now.cpus }
         ensures count { result ≡ length (callbacks (front (list_of self.now.grace.lists cpu))) }
@@ -107,8 +106,9 @@ impl<A: Awaited, T: Drop, P: Client> Engine<A, T, P> {
         self.gp.done_count(cpu)
     }
 
-    /// Hands out the first callback of a processor's done part, as [`Engine::run`] of one: only one
-    /// such that a full grace period has passed since its queueing. Takes no memory.
+    /// Hands out the first callback of a processor's done part, as [`Engine::run`] with `max` 1
+    /// does: only one for which a full grace period has passed since it was queued. Needs no
+    /// memory.
     pub fn pop_done(&mut self, cpu: u32) -> Option<Queued<T>>
         requires { cpu < self.old.cpus }
         ensures call { result ≡ slice_get (take_answer (list_of self.old.grace.lists cpu) 1) 0 }
@@ -130,10 +130,10 @@ impl<A: Awaited, T: Drop, P: Client> Engine<A, T, P> {
         self.gp.barrier_begin()
     }
 
-    /// The barrier visits a processor.
+    /// Lets the barrier visit a processor.
     ///
-    /// Faults: `BadCpu` (1); `NoBarrier` (14) if none runs; `NoMemory` (16), only if it would put a
-    /// marker.
+    /// Faults: `BadCpu` (1); `NoBarrier` (14) if none runs; `NoMemory` (16), only if it would
+    /// entrain a marker.
     pub fn visit(&mut self, cpu: u32) -> Result<Visit, Fault>
         ensures fault { tested_fault result ≡ visit_refusal self.old cpu }
         ensures answer { IfOk result (λ visit. visit ≡ visit_answer self.old.grace.lists cpu) }
@@ -148,7 +148,7 @@ impl<A: Awaited, T: Drop, P: Client> Engine<A, T, P> {
         self.gp.visit(cpu)
     }
 
-    /// Returns whether the barrier is over.
+    /// Returns whether the barrier is done.
     ///
     /// Fault `NoBarrier` (14): none runs.
     pub fn barrier_test(&mut self) -> Result<BarrierState, Fault>
@@ -161,11 +161,12 @@ impl<A: Awaited, T: Drop, P: Client> Engine<A, T, P> {
         self.gp.barrier_test()
     }
 
-    /// Gives back the memory that a processor's list does not need, as
-    /// [`GpState::shrink`](rcu_state::gp_state::GpState::shrink), and returns for how many items,
-    /// callbacks and markers, it has room then. An empty list keeps none. Costs a step an item.
+    /// Frees the memory that a processor's list does not need, as
+    /// [`GpState::shrink`](rcu_state::gp_state::GpState::shrink) does. Returns for how many items,
+    /// callbacks and markers, the list then has room. An empty list keeps none. Costs a step for
+    /// each item.
     ///
-    /// Fault `BadCpu` (1): there is no such processor.
+    /// Fault `BadCpu` (1): the processor does not exist.
     pub fn shrink(&mut self, cpu: u32) -> Result<u64, Fault>
         ensures fault { result_err result ≡ cpu_refusal self.old cpu }
         ensures fits { IfOk result (λ room. length (list_of self.old.grace.lists cpu) ≤ room) }

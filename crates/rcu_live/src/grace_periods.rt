@@ -1,4 +1,5 @@
-//! The grace periods of an engine: their begins, their ends, and what is heard of processors.
+//! The grace periods of an engine: their begins, their ends, and the collection of quiescent
+//! states.
 ghost use Rattle.std.specs.Prelude.{◌≡◌, IfOk, OnErr, OnOk};
 ghost use Rattle.std.specs.Result.{result_err};
 ghost use Rattle.rcu_seq.specs.Seq.{number_of};
@@ -14,7 +15,7 @@ use rcu_node::Awaited;
 use rcu_seq::Fault;
 use rcu_state::{CurrentAnswer, Turned};
 
-/// What a collection says.
+/// The result of a collection.
 #[derive(Clone, Copy, Debug, PartialEq, Eq)]
 pub enum Collected {
     /// No grace period runs.
@@ -30,7 +31,7 @@ pub enum Collected {
 }
 
 impl Collected {
-    /// What a collection tells by the answer to its report.
+    /// Returns the result of a collection, by the answer to its report.
     fn by_report(answer: CurrentAnswer) -> Collected
         ensures { result ≡ collected_by answer }
     {
@@ -43,10 +44,10 @@ impl Collected {
 }
 
 impl<A: Awaited, T: Drop, P: Client> Engine<A, T, P> {
-    /// A grace period begins: stores its number, and then finds each processor's own word once: by
-    /// a load of it, or of an online mask, which covers the next ones in a row that are 0. Online
-    /// are the processors whose word is not 0, and awaited those of them whose word is at most the
-    /// number. Returns the number, and how many it awaits.
+    /// Begins a grace period: stores its number, and then finds each processor's own word once: by
+    /// a load of it, or of an online mask, which covers the next processors in a row whose word is
+    /// 0. A processor is online if its word is not 0, and an online one is awaited if its word is
+    /// at most the number. Returns the number, and how many processors the grace period awaits.
     ///
     /// Faults: `Running` (8) if one runs; `Exhausted` (11) if the number is the last one.
     pub fn begin(&mut self) -> Result<(u64, u32), Fault>
@@ -68,7 +69,7 @@ impl<A: Awaited, T: Drop, P: Client> Engine<A, T, P> {
         Ok((number, self.gp.awaited().count()))
     }
 
-    /// The grace period ends: stores the number that it leaves, and returns it.
+    /// Ends the grace period: stores the next number, and returns it.
     ///
     /// Faults: `Idle` (9) if none runs; `Waiting` (10) if a processor is awaited.
     pub fn end(&mut self) -> Result<u64, Fault>
@@ -82,10 +83,10 @@ impl<A: Awaited, T: Drop, P: Client> Engine<A, T, P> {
         Ok(number)
     }
 
-    /// The running grace period ends if nobody is awaited. If none runs, one begins if the needed
-    /// number is above the number.
+    /// Ends the running grace period if no processor is awaited. If none runs, begins one if the
+    /// needed number is above the number.
     ///
-    /// Fault `Exhausted` (11): one would begin, and the number is the last one.
+    /// Fault `Exhausted` (11): a grace period would begin, and the number is the last one.
     pub fn turn(&mut self) -> Result<Turned, Fault>
         ensures answer { IfOk result (λ turned.
             turned ≡ turn_answer self.old (latest_words self.new)) }
@@ -108,10 +109,10 @@ impl<A: Awaited, T: Drop, P: Client> Engine<A, T, P> {
         Ok(Turned::Begun(number, awaited))
     }
 
-    /// Loads the processor's own word, while a grace period runs, and reports the processor where
-    /// its word is 0 or above the number.
+    /// While a grace period runs, loads the processor's own word, and reports the processor if its
+    /// word is 0 or above the number.
     ///
-    /// Fault `BadCpu` (1): there is no such processor.
+    /// Fault `BadCpu` (1): the processor does not exist.
     pub fn collect(&mut self, cpu: u32) -> Result<Collected, Fault>
         ensures answer { IfOk result (λ collected.
             collected ≡ collect_answer self.old cpu (latest_word self.new)) }

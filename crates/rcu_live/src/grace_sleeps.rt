@@ -1,5 +1,5 @@
-//! How a wait for a grace period sleeps: behind its first rounds it asks a processor to wake it,
-//! collects from that one once more, and sleeps if it has not reported.
+//! How a wait for a grace period sleeps: after its first rounds it asks a processor to wake it,
+//! collects from that processor once more, and sleeps if it has not reported.
 ghost use Rattle.std.specs.Prelude.{◌≡◌, ◌<◌, ◌+◌, ℕ, IfSome, None, if◌then◌else◌, nat_lt};
 ghost use Rattle.rcu_live.specs.Waits.{IsAskedFor};
 
@@ -16,9 +16,9 @@ use std::sync::Wait;
 const ROUNDS: u32 = 100;
 
 impl<A: Awaited, T: Drop, P: Client> Engine<A, T, P> {
-    /// Whom a wait for the cookie asks to wake it, of the thread of processor `own`: the first
-    /// processor that is awaited. It asks none if the cookie is done, or its own processor is
-    /// awaited: no other thread reports that one.
+    /// Returns the processor that a wait for the cookie asks to wake it: the first awaited
+    /// processor. `own` is the processor of the waiting thread. It returns none if the cookie is
+    /// done, or `own` is awaited: no other thread reports that one.
     fn whom_to_ask(&self, own: u32, cookie: Cookie) -> Option<u32>
         ensures asked { IfSome result (λ cpu. IsAskedFor self.now own cookie cpu) }
         ensures inside { IfSome result (λ cpu. cpu < self.now.cpus) }
@@ -32,11 +32,11 @@ impl<A: Awaited, T: Drop, P: Client> Engine<A, T, P> {
 }
 
 impl<const LEAF: u32, const FAN: u32, T: Drop, P: Client> Live<LEAF, FAN, T, P> {
-    /// Asks the first processor that the engine awaits to wake this thread, which waits for the
-    /// cookie, and which alone reports processor `own`. Returns none, and asks nobody, if the
-    /// cookie is done, nobody is awaited, or `own` is.
+    /// Asks the first awaited processor to wake this thread, which waits for the cookie, and which
+    /// alone reports processor `own`. Asks no processor and returns none if the cookie is done, no
+    /// processor is awaited, or `own` is.
     ///
-    /// The engine is this one's, under its lock.
+    /// `engine` is the engine of `self`, under its lock.
     pub fn ask(
         &self,
         engine: &Engine<Tree<LEAF, FAN>, T, P>,
@@ -53,13 +53,13 @@ impl<const LEAF: u32, const FAN: u32, T: Drop, P: Client> Live<LEAF, FAN, T, P> 
         }
     }
 
-    /// Sleeps until a processor that was asked by then reports, or for no time if it has since. It
-    /// may also return for no reason. The lock has to be let go before.
+    /// Sleeps until a processor that was asked before reports; returns at once if it has since. It
+    /// may also return spuriously. The caller has to release the lock first.
     pub fn sleep(&self, rt: &impl Wait, unheard: NotHeard) {
         self.sleepers.sleep(rt, unheard);
     }
 
-    /// Asks under the lock, and collects from who was asked.
+    /// Asks a processor under the lock, and collects from it.
     fn ask_and_hear(&self, rt: &impl Wait, own: u32, cookie: Cookie) -> Option<NotHeard> {
         let mut engine = self.engine.lock(rt);
         match self.ask(&engine, own, cookie) {
@@ -68,9 +68,9 @@ impl<const LEAF: u32, const FAN: u32, T: Drop, P: Client> Live<LEAF, FAN, T, P> 
         }
     }
 
-    /// Sleeps behind a round of a wait until a processor that is awaited reports, if one is, and
-    /// not the seat's. It does not sleep behind the first 100 rounds. `rounds` is how many came
-    /// before this one, counted up to 100. Returns the count with this one.
+    /// Sleeps after a round of a wait until an awaited processor reports, if one other than the
+    /// seat's is awaited. It does not sleep after the first 100 rounds. `rounds` is the count of
+    /// rounds before this one, up to 100. Returns the count with this one.
     pub fn sleep_between(
         &self,
         rt: &impl Wait,

@@ -1,4 +1,4 @@
-//! The calls that drive the grace periods, and those that wait for one. None of them keeps the lock
+//! The calls that drive the grace periods, and those that wait for one. None of them holds the lock
 //! while it waits.
 ghost use Rattle.std.specs.Prelude.{◌≡◌, IfErr, OnErr, OnOk, false, true};
 ghost use Rattle.rcu_seq.specs.Tags.{is_done_first};
@@ -18,8 +18,8 @@ use std::thread;
 
 impl<const LEAF: u32, const FAN: u32, T: Drop, P: Client> Live<LEAF, FAN, T, P> {
     /// Drives the grace periods one step on for the callbacks, as
-    /// [`Engine::drive`](crate::engine::Engine): a collection from each processor that is awaited,
-    /// an end, a begin. A program that queues callbacks calls it from time to time, between
+    /// [`Engine::drive`](crate::engine::Engine) does: a collection from each awaited processor, an
+    /// end, a begin. A program that queues callbacks calls it from time to time, between
     /// [`Live::tend`] and [`Live::run`].
     ///
     /// Fault `Exhausted` (11): a grace period would begin, and the number is the last one.
@@ -29,7 +29,7 @@ impl<const LEAF: u32, const FAN: u32, T: Drop, P: Client> Live<LEAF, FAN, T, P> 
         self.engine.lock(rt).drive()
     }
 
-    /// The same for a waiter for this cookie, as [`Engine::drive_for`](crate::engine::Engine).
+    /// The same for a waiter for this cookie, as [`Engine::drive_for`](crate::engine::Engine) does.
     ///
     /// Fault `Exhausted` (11): a grace period would begin, and the number is the last one.
     pub fn drive_for(&self, rt: &impl Wait, cookie: Cookie) -> Result<Turned, Fault>
@@ -38,11 +38,11 @@ impl<const LEAF: u32, const FAN: u32, T: Drop, P: Client> Live<LEAF, FAN, T, P> 
         self.engine.lock(rt).drive_for(cookie)
     }
 
-    /// One round of a loop that waits for the cookie: a step of driving, then a quiescent state of
-    /// the caller's processor, if it is online and awake. Other threads run meanwhile where the
-    /// grace period goes on.
+    /// Makes one round of a loop that waits for the cookie: a step of driving, then a quiescent
+    /// state of the caller's processor, if it is online and awake. If the grace period goes on, it
+    /// lets other threads run.
     ///
-    /// Faults: `InSection` (4) if a section is open on the seat, which the caller would wait for;
+    /// Faults: `InSection` (4) if a section is open on the seat, for which the caller would wait;
     /// `Exhausted` (11) if the cookie waits for more than the last number.
     pub fn wait_once(
         &self,
@@ -74,14 +74,13 @@ impl<const LEAF: u32, const FAN: u32, T: Drop, P: Client> Live<LEAF, FAN, T, P> 
     /// Waits until the cookie is done (Linux's `cond_synchronize_rcu`): polls it, and drives until
     /// then. If it is done already, that is one load. The caller's processor passes quiescent
     /// states meanwhile, unless it is offline or idle. After 100 rounds the thread sleeps, each
-    /// time until a processor that is awaited reports.
+    /// time until an awaited processor reports.
     ///
-    /// No proof says that it returns. A section that stays open holds it up, and a processor whose
-    /// thread passes no quiescent state and is neither idle nor offline.
+    /// No proof says that it returns. A section that stays open blocks it, and so does a processor
+    /// whose thread passes no quiescent state and is neither idle nor offline.
     ///
-    /// Faults: `InSection` (4) if a section is open on the seat, which the caller would wait for,
-    /// and then nothing happened; `Exhausted` (11) if the cookie waits for more than the last
-    /// number.
+    /// Faults: `InSection` (4) if a section is open on the seat, for which the caller would wait;
+    /// then nothing happened; `Exhausted` (11) if the cookie waits for more than the last number.
     pub fn wait_for(
         &self,
         rt: &impl Wait,
@@ -116,8 +115,8 @@ impl<const LEAF: u32, const FAN: u32, T: Drop, P: Client> Live<LEAF, FAN, T, P> 
     }
 
     /// Waits until a full grace period has passed since the call (Linux's `synchronize_rcu`), as
-    /// [`Live::wait_for`] a cookie that it takes. So each section that was open at the call has
-    /// ended when it returns.
+    /// [`Live::wait_for`] with a snapshot that it takes. So each section that was open at the call
+    /// has ended when it returns.
     ///
     /// Faults: `InSection` (4) and `Exhausted` (11), as there.
     pub fn synchronize(

@@ -1,4 +1,4 @@
-//! A client's steps where it may be one of several: on its own words, by the engine's seats.
+//! The steps of a client that may be one of several: on its own words, by the engine's seats.
 ghost use Rattle.std.specs.Prelude.{◌≡◌, ◌+◌, ◌<◌, None, Some};
 ghost use Rattle.rcu_live.specs.Board.{HasWord};
 ghost use Rattle.rcu_live.specs.Client.{AllowsNumber, AllowsWord};
@@ -28,7 +28,7 @@ impl<C: Client, P: Within<C>, M: WordStep<C::Known>> WordStep<<P::Whole as Clien
     ghost then = { word_of_part P.lens M.then };
 }
 
-/// A client's look at the number, as a look of the whole.
+/// A client's load of the number, as a load of the whole.
 pub struct LookInPart<C, P, M> {
     step: PhantomData<(C, P, M)>,
 }
@@ -40,12 +40,12 @@ impl<C: Client, P: Within<C>, M: NumberStep<C::Known>> NumberStep<<P::Whole as C
     ghost then = { number_of_part P.lens M.then };
 }
 
-/// A client's word: where the client's words begin in the table, and which it is.
+/// A client's word: the start of the client's words in the table, and its index among them.
 #[derive(Clone, Copy)]
 pub struct Spot {
-    /// Where the client's words begin: a client that keeps it spares a load a step.
+    /// The start of the client's words: a client that stores it saves a load in each step.
     pub base: usize,
-    /// Which of them it is.
+    /// Its index among them.
     pub word: usize,
 }
 
@@ -60,7 +60,7 @@ fn index_of<C: Client, P: Within<C>>(board: &Board<P::Whole>, spot: Spot) -> usi
     spot.base + spot.word
 }
 
-/// Loads a client's word by a processor's seat. The client's rule may look at the open section.
+/// Loads a client's word by a processor's seat. The client's rule may depend on the open section.
 pub fn load_word<C: Client, P: Within<C>, M: WordStep<C::Known>>(
     seat: &mut CpuSeat<P::Whole>,
     board: &Board<P::Whole>,
@@ -130,7 +130,7 @@ pub fn store_word<C: Client, P: Within<C>, M: WordStep<C::Known>>(
     seat.store_at::<InPart<C, P, M>>(board, index, value);
 }
 
-/// Loads the number by a watcher: a look of the client.
+/// Loads the number by a watcher, as a step of the client.
 pub fn load_number<C: Client, P: Within<C>, M: NumberStep<C::Known>>(
     seat: &mut Watcher<P::Whole>,
     board: &Board<P::Whole>,
@@ -146,8 +146,8 @@ pub fn load_number<C: Client, P: Within<C>, M: NumberStep<C::Known>>(
     seat.load_number::<_, LookInPart<C, P, M>>(board)
 }
 
-/// Seat split: a watcher that knows of the client what this one knew, which keeps what it knew of
-/// all else.
+/// Seat split: a watcher that gets this one's knowledge about the client. This one keeps the rest
+/// of its knowledge.
 pub fn hand_over<C: Client, P: Within<C>>(
     seat: &mut Watcher<P::Whole>,
     board: &Board<P::Whole>,

@@ -1,5 +1,5 @@
-//! What meetings say of cookies, the rule of sections and cookies, that of waits that sleep, and
-//! what holds of every run of the engine, whichever threads make its calls.
+//! Laws of meetings and cookies, of the rule of sections and cookies, of waits that sleep, and of
+//! every run of the engine, whichever threads make its calls.
 ghost use Rattle.std.specs.Prelude.{◌≡◌, ◌≢◌, ◌⊎◌, ◌<◌, ◌≤◌, ◌+◌, ◌∷◌, ℕ, List, Some, slice_get};
 ghost use Rattle.std.specs.Prelude.{slice_index, true, false};
 ghost use mathlib.Core.Option.{some};
@@ -37,16 +37,16 @@ pub fn cookies_wait_for_the_section_met()
         is_done_first (cookie_at (of_first_epoch taken)) polled ≡ false }
 {}
 
-/// A watcher meets an open section. No cookie that tested done for it by then was taken at the
-/// number at which the section began, or at a later one.
+/// A watcher meets an open section. A cookie that had tested done for it by then was not taken at
+/// the number at which the section began, or at a later one.
 pub fn done_cookies_are_older_than_the_section_met()
     ensures { (met : Met) (at taken polled : ℕ) → MeetsSection met at → at ≤ taken →
         polled ≤ met.seen → is_done_first (cookie_at (of_first_epoch taken)) polled ≡ false }
 {}
 
-/// The rule holds of the words and all views, and the engine, whose seat has one of these, awaits
-/// every processor that is not cleared. Then, while a grace period runs, it awaits the processor of
-/// each section that is open and began before that.
+/// If the rule holds for the words and all views, and the engine, whose seat has one of these
+/// views, awaits every processor that is not cleared, then a running grace period awaits the
+/// processor of each section that is open and began before it.
 pub fn old_sections_are_awaited<T: Drop, P: Client>()
     ensures { (plan : P.Plan) (cpus : ℕ) (s : State (Unit {0}) (View P.Known)) (i j : ℕ)
         (engine seat : View P.Known) (g : Grace T) (at : ℕ) → IsKept (P.holds plan) cpus s →
@@ -57,9 +57,10 @@ pub fn old_sections_are_awaited<T: Drop, P: Client>()
         is_in g.processors.awaited seat.cpu ≡ true }
 {}
 
-/// A section is open when a cookie is taken, and one of the same beginning when that is polled. The
-/// rule holds of the words and all views at both moments, as at each. Then the poll does not return
-/// done: if a cookie tests done, each section that was open at its taking has ended.
+/// A section is open when a cookie is taken, and one with the same beginning when the cookie is
+/// polled. The rule holds for the words and all views at both moments, as at each. Then the poll
+/// does not return done: if a cookie tests done, each section that was open when it was taken has
+/// ended.
 pub fn readers_finish_before_done<P: Client>()
     ensures { (plan : P.Plan) (cpus : ℕ) (before after : State (Unit {0}) (View P.Known)) (i j : ℕ)
         (first later : View P.Known) (at : ℕ) → IsKept (P.holds plan) cpus before →
@@ -78,7 +79,7 @@ pub fn no_callback_runs_twice<T: Drop, P: Client>()
     run_laws::no_callback_runs_twice::<T>();
 }
 
-/// No callback is lost: each one that was queued was handed out or lies in one list, once.
+/// No callback is lost: each queued callback was handed out once, or is in one list once.
 pub fn no_callback_is_lost<T: Drop, P: Client>()
     ensures { (first : Locked P.Known T) (calls : List (Call T)) (ord : ℕ) → IsNew first →
         IsRun first calls → 0 < ord →
@@ -101,9 +102,9 @@ pub fn barrier_covers_earlier_callbacks<T: Drop, P: Client>()
     run_laws::barrier_covers_earlier_callbacks::<T>();
 }
 
-/// No callback runs early: each that is handed out was queued, is what it was then, and a full
-/// grace period lies since: one began after it and ended. The number has reached the snapshot of
-/// that at its queueing.
+/// No callback runs early: each callback that is handed out is as it was queued, and a full grace
+/// period began and ended since. The number has reached the snapshot of the number at which it was
+/// queued.
 pub fn no_callback_runs_early<T: Drop, P: Client>()
     ensures queued { (first : Locked P.Known T) (calls : List (Call T)) (cpu most at : ℕ)
         (handed : Queued T) → IsNew first → IsRun first calls →
@@ -121,11 +122,12 @@ pub fn no_callback_runs_early<T: Drop, P: Client>()
     run_laws::handed_callbacks_were_queued::<T>();
 }
 
-/// No quiescent state is slept through. A processor was asked last to wake the thread that sleeps.
-/// Its own word is always what its seat stored last: the collection behind the asking finds what
-/// was stored before. If the seat has stored since, and looked which processor is asked behind its
-/// latest store, as each report does, that look found it asked, or the asking was taken back. A
-/// thread that finds its processor asked, or takes an asking back, wakes all.
+/// No quiescent state is slept through. Take the processor that was asked last to wake the sleeping
+/// thread. Its own word is always the one that its seat stored last, so the collection after the
+/// asking finds every store before the asking. If the seat has stored since, and looked after its
+/// latest store at which processor is asked, as each report does, that look found it asked, or the
+/// asking was taken back. A thread that finds its processor asked, or takes an asking back, wakes
+/// all.
 pub fn no_quiescent_state_is_slept_through<P: Client>()
     ensures before { (plan : P.Plan) (cpus : ℕ) (s : State (Unit {0}) (View P.Known)) (k : ℕ)
         (seat : View P.Known) → IsMoment (P.holds plan) cpus s →

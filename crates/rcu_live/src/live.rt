@@ -23,8 +23,8 @@ use std::sync::{Arc, Mutex, MutexGuard, Wait};
 /// The running engine, which threads share: the number and the own words of the processors, which
 /// all threads read without a lock.
 ///
-/// `LEAF` and `FAN` are the fanouts of its tree, and `T` is what a callback carries. `P` is a
-/// client, of which the plain engine has none.
+/// `LEAF` and `FAN` are the fanouts of its tree, and `T` is the value of a callback. `P` is its
+/// client; the plain engine has none.
 #[derive(Drop)]
 pub struct Live<const LEAF: u32, const FAN: u32, T: Drop, P: Client = NoClient> {
     pub(crate) board: Arc<Board<P>, Global>,
@@ -42,7 +42,7 @@ impl<const LEAF: u32, const FAN: u32, T: Drop, P: Client> Model for Live<LEAF, F
 }
 
 impl<const LEAF: u32, const FAN: u32, T: Drop, P: Client> Live<LEAF, FAN, T, P> {
-    /// The engine of these words, put under its lock as it is opened: two of its
+    /// Returns the engine of these words, under its lock, as it is opened: two of its
     /// [`Parts`](crate::Parts).
     pub fn new(board: Arc<Board<P>, Global>, engine: Engine<Tree<LEAF, FAN>, T, P>) -> Self
         requires { engine ≡ engine_at_first (arc_value board).table (arc_value board).cpus
@@ -57,14 +57,14 @@ impl<const LEAF: u32, const FAN: u32, T: Drop, P: Client> Live<LEAF, FAN, T, P> 
         }
     }
 
-    /// Returns its words, for the clients that are in them ([`Within`](crate::Within)).
+    /// Returns its words, for the clients that use them ([`Within`](crate::Within)).
     pub fn words(&self) -> &Arc<Board<P>, Global>
         ensures { arc_value result.now ≡ self.now }
     {
         &self.board
     }
 
-    /// The watcher loads the number, and then the processor's seat does. It returns none where the
+    /// The watcher loads the number, and then the processor's seat does. Returns none if the
     /// watcher saw more than the seat, or less than the number at which the section began. No
     /// section is open on an idle processor.
     pub fn meet(&self, seat: &mut CpuSeat<P>, watcher: &mut Watcher<P>) -> Option<Met>

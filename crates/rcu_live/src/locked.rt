@@ -1,5 +1,5 @@
-//! The calls that take the engine's lock. What each does to the engine is said where it is lent
-//! the engine: no clause here can name what a lock was found to keep.
+//! The calls that take the engine's lock. The engine's own calls say what each does: no clause here
+//! can name the engine that a lock was found to hold.
 ghost use Rattle.std.specs.Prelude.{◌≡◌, Err, IfErr, None, OnErr, OnOk, Some, true};
 ghost use Rattle.std.specs.Result.{result_err};
 ghost use Rattle.rcu_seq.specs.declared.fault.Fault.{Fault};
@@ -17,16 +17,18 @@ use rcu_state::Turned;
 use std::sync::Wait;
 
 impl<const LEAF: u32, const FAN: u32, T: Drop, P: Client> Live<LEAF, FAN, T, P> {
-    /// Looks for a quiescent state of the processor, as [`Engine::collect`](crate::engine::Engine).
+    /// Collects a quiescent state of the processor, as [`Engine::collect`](crate::engine::Engine)
+    /// does.
     ///
-    /// Fault `BadCpu` (1): there is no such processor.
+    /// Fault `BadCpu` (1): the processor does not exist.
     pub fn collect(&self, rt: &impl Wait, cpu: u32) -> Result<Collected, Fault>
         ensures { IfErr result (λ fault. fault ≡ Fault.BadCpu) }
     {
         self.engine.lock(rt).collect(cpu)
     }
 
-    /// Ends the running grace period or begins one, as [`Engine::turn`](crate::engine::Engine).
+    /// Ends the running grace period or begins one, as [`Engine::turn`](crate::engine::Engine)
+    /// does.
     ///
     /// Fault `Exhausted` (11): a grace period would begin, and the number is the last one.
     pub fn turn(&self, rt: &impl Wait) -> Result<Turned, Fault>
@@ -35,15 +37,16 @@ impl<const LEAF: u32, const FAN: u32, T: Drop, P: Client> Live<LEAF, FAN, T, P> 
         self.engine.lock(rt).turn()
     }
 
-    /// Returns whether the grace period that runs awaits the processor, so that a program learns
-    /// whose thread holds it up: false too if none runs, and if there is no such processor.
+    /// Returns whether the running grace period awaits the processor, so that a program can find
+    /// the thread that blocks it. Returns false if no grace period runs, or the processor does not
+    /// exist.
     pub fn awaits(&self, rt: &impl Wait, cpu: u32) -> bool {
         let engine = self.engine.lock(rt);
         cpu < engine.cpus() && engine.grace().awaited().awaits(cpu)
     }
 
-    /// Brings the processor online: one load of the number, and one more than it in the own word;
-    /// then, under the lock, as [`Engine::join`](crate::engine::Engine).
+    /// Brings the processor online: loads the number, and stores one more than it to the own word;
+    /// then, under the lock, does as [`Engine::join`](crate::engine::Engine).
     ///
     /// Fault `AlreadyOnline` (3): the processor is online.
     pub fn online(&self, rt: &impl Wait, seat: &mut CpuSeat<P>) -> Result<(), Fault>
@@ -56,20 +59,21 @@ impl<const LEAF: u32, const FAN: u32, T: Drop, P: Client> Live<LEAF, FAN, T, P> 
         seat.arrive(self)?;
         let cpu = seat.cpu();
         let mut engine = self.engine.lock(rt);
-        // A seat's processor is one of the engine's, which no clause can say across the lock.
+        // A seat's processor is always one of the engine's, but no clause can say so across the
+        // lock.
         if cpu < engine.cpus() {
             engine.join(cpu);
         }
         Ok(())
     }
 
-    /// Takes the processor offline: its own word becomes 0, also if it is; then, under the lock, as
-    /// [`Engine::leave`](crate::engine::Engine). Returns how many callbacks moved to processor 0's
-    /// list. After fault 16 the same call again finishes that.
+    /// Takes the processor offline: stores 0 to its own word, even if it is 0 already; then, under
+    /// the lock, does as [`Engine::leave`](crate::engine::Engine). Returns how many callbacks moved
+    /// to processor 0's list. After fault 16 the same call again finishes that.
     ///
     /// Faults: `BootStays` (12) for processor 0; `InSection` (4) if a section is open; `Offline`
-    /// (2) if it was offline and its list is empty; `NoMemory` (16): then it is offline from now
-    /// on. Under the lock it passes on `AlreadyOnline` (3), which it never meets.
+    /// (2) if it was offline and its list is empty; `NoMemory` (16): then it is offline. It would
+    /// pass on `AlreadyOnline` (3) from under the lock, but that never occurs.
     pub fn offline(&self, rt: &impl Wait, seat: &mut CpuSeat<P>) -> Result<u64, Fault>
         requires { seat.old.table ≡ self.now.table }
         ensures table { seat.new.table ≡ seat.old.table }
@@ -86,7 +90,8 @@ impl<const LEAF: u32, const FAN: u32, T: Drop, P: Client> Live<LEAF, FAN, T, P> 
         let again = seat.depart(self)?;
         let cpu = seat.cpu();
         let mut engine = self.engine.lock(rt);
-        // A seat's processor is one of the engine's, which no clause can say across the lock.
+        // A seat's processor is always one of the engine's, but no clause can say so across the
+        // lock.
         if cpu < engine.cpus() {
             return engine.leave(cpu, again);
         }

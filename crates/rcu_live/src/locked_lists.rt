@@ -13,8 +13,8 @@ use rcu_seq::Fault;
 use std::sync::Wait;
 
 impl<const LEAF: u32, const FAN: u32, T: Drop, P: Client> Live<LEAF, FAN, T, P> {
-    /// Queues a callback on the processor, as [`Engine::queue`](crate::engine::Engine). Over the
-    /// engine's life at most as many are queued as its opening chose.
+    /// Queues a callback on the processor, as [`Engine::queue`](crate::engine::Engine) does. Over
+    /// the engine's life at most as many are queued as its opening allows.
     ///
     /// Faults, with the value: `Offline` (2) if the processor is not online under the lock;
     /// `CallbacksFull` (15); `NoMemory` (16).
@@ -38,10 +38,10 @@ impl<const LEAF: u32, const FAN: u32, T: Drop, P: Client> Live<LEAF, FAN, T, P> 
         })
     }
 
-    /// Brings the marks of a processor's callbacks up to the number, as
-    /// [`Engine::tend`](crate::engine::Engine).
+    /// Advances and accelerates a processor's callbacks to the current number, as
+    /// [`Engine::tend`](crate::engine::Engine) does.
     ///
-    /// Fault `BadCpu` (1): there is no such processor.
+    /// Fault `BadCpu` (1): the processor does not exist.
     pub fn tend(&self, rt: &impl Wait, cpu: u32) -> Result<(u64, u64), Fault>
         ensures { IfErr result (λ fault. fault ≡ Fault.BadCpu) }
     {
@@ -49,8 +49,8 @@ impl<const LEAF: u32, const FAN: u32, T: Drop, P: Client> Live<LEAF, FAN, T, P> 
     }
 
     /// Hands out done callbacks of a processor, at most `max`, as
-    /// [`Engine::run`](crate::engine::Engine): only such that a full grace period has passed since
-    /// their queueing.
+    /// [`Engine::run`](crate::engine::Engine) does: only callbacks for which a full grace period
+    /// has passed since they were queued.
     ///
     /// Faults: `BadCpu` (1); `NoMemory` (16).
     pub fn run(&self, rt: &impl Wait, cpu: u32, max: u64) -> Result<Ran<T>, Fault>
@@ -60,7 +60,7 @@ impl<const LEAF: u32, const FAN: u32, T: Drop, P: Client> Live<LEAF, FAN, T, P> 
         self.engine.lock(rt).run(cpu, max)
     }
 
-    /// Begins a barrier, as [`Engine::barrier_begin`](crate::engine::Engine).
+    /// Begins a barrier, as [`Engine::barrier_begin`](crate::engine::Engine) does.
     ///
     /// Fault `BarrierBusy` (13): one runs.
     pub fn barrier_begin(&self, rt: &impl Wait) -> Result<(), Fault>
@@ -69,7 +69,7 @@ impl<const LEAF: u32, const FAN: u32, T: Drop, P: Client> Live<LEAF, FAN, T, P> 
         self.engine.lock(rt).barrier_begin()
     }
 
-    /// The barrier visits a processor, as [`Engine::visit`](crate::engine::Engine).
+    /// Lets the barrier visit a processor, as [`Engine::visit`](crate::engine::Engine) does.
     ///
     /// Faults: `BadCpu` (1); `NoBarrier` (14) if no barrier runs; `NoMemory` (16).
     pub fn visit(&self, rt: &impl Wait, cpu: u32) -> Result<Visit, Fault>
@@ -78,7 +78,8 @@ impl<const LEAF: u32, const FAN: u32, T: Drop, P: Client> Live<LEAF, FAN, T, P> 
         self.engine.lock(rt).visit(cpu)
     }
 
-    /// Returns whether the barrier is over, as [`Engine::barrier_test`](crate::engine::Engine).
+    /// Returns whether the barrier is done, as [`Engine::barrier_test`](crate::engine::Engine)
+    /// does.
     ///
     /// Fault `NoBarrier` (14): none runs.
     pub fn barrier_test(&self, rt: &impl Wait) -> Result<BarrierState, Fault>
@@ -87,10 +88,10 @@ impl<const LEAF: u32, const FAN: u32, T: Drop, P: Client> Live<LEAF, FAN, T, P> 
         self.engine.lock(rt).barrier_test()
     }
 
-    /// Gives back the memory that a processor's list does not need, and returns for how many items
-    /// it has room then, as [`Engine::shrink`](crate::engine::Engine).
+    /// Frees the memory that a processor's list does not need, and returns for how many items it
+    /// then has room, as [`Engine::shrink`](crate::engine::Engine) does.
     ///
-    /// Fault `BadCpu` (1): there is no such processor.
+    /// Fault `BadCpu` (1): the processor does not exist.
     pub fn shrink(&self, rt: &impl Wait, cpu: u32) -> Result<u64, Fault>
         ensures { IfErr result (λ fault. fault ≡ Fault.BadCpu) }
     {

@@ -1,4 +1,4 @@
-//! What a meeting of a watcher with a processor's seat says.
+//! Meetings of a watcher with a processor's seat.
 ghost use Rattle.std.specs.Prelude.{◌≡◌, ℕ, IfSome, None, Some};
 ghost use Rattle.rcu_live.specs.CpuSeat.{AcceptedAt, after_look};
 ghost use Rattle.rcu_live.specs.Met.{MeetsSection, meet_answer};
@@ -10,18 +10,18 @@ use crate::client::Client;
 use crate::cpu_seat::CpuSeat;
 use crate::watcher::Watcher;
 
-/// What a meeting says.
+/// The result of a meeting.
 #[derive(Clone, Copy, Debug, PartialEq, Eq)]
 pub struct Met {
-    /// The number at which the open section began; none where none is open.
+    /// The number at which the open section began; none if no section is open.
     pub opened: Option<u64>,
     /// The number that the watcher saw.
     pub seen: u64,
 }
 
 impl<P: Client> Board<P> {
-    /// As [`Live::meet`](crate::live::Live), which hands it on: it has the words alone, and no way
-    /// to the lock.
+    /// Does the work of [`Live::meet`](crate::live::Live): it has only the words, and no access to
+    /// the lock.
     pub(crate) fn meet(&self, seat: &mut CpuSeat<P>, watcher: &mut Watcher<P>) -> Option<Met>
         requires seat { seat.old.table ≡ self.now.table }
         requires watcher { watcher.old.table ≡ self.now.table }

@@ -28,11 +28,11 @@ use std::sync::Arc;
 
 impl<const LEAF: u32, const FAN: u32, T: Drop, P: Client> Parts<LEAF, FAN, T, P> {
     /// Returns the parts of an engine of `cpus` processors, idle at number 0, with processor 0
-    /// alone online, in which `most` callbacks may be queued, from 1 to 2^62; with this plan of a
-    /// client. What the client knows first, its own watcher has.
+    /// alone online, which allows `most` callbacks to be queued, from 1 to 2^62, and has a client
+    /// with this plan. The client's own watcher has the client's first knowledge.
     ///
     /// Faults: `TooManyCpus` (17) for no processor, more than 4,096, or more than four levels hold;
-    /// `BadLast` (19) if `last` is no last number; `NoMemory` (16).
+    /// `BadLast` (19) if `last` is not a legal last number; `NoMemory` (16).
     pub fn open_for(
         alloc: Global,
         cpus: u32,
@@ -92,11 +92,11 @@ impl<const LEAF: u32, const FAN: u32, T: Drop, P: Client> Parts<LEAF, FAN, T, P>
 }
 
 impl<const LEAF: u32, const FAN: u32, T: Drop> Parts<LEAF, FAN, T> {
-    /// Returns the parts of an engine of `cpus` processors, as [`Live::open`] opens it, in which
-    /// `most` callbacks may be queued, from 1 to 2^62.
+    /// Returns the parts of an engine of `cpus` processors, as [`Live::open`] opens it, but allows
+    /// `most` callbacks to be queued, from 1 to 2^62.
     ///
     /// Faults: `TooManyCpus` (17) for no processor, more than 4,096, or more than four levels hold;
-    /// `BadLast` (19) if `last` is no last number; `NoMemory` (16).
+    /// `BadLast` (19) if `last` is not a legal last number; `NoMemory` (16).
     pub fn open(
         alloc: Global,
         cpus: u32,
@@ -114,7 +114,7 @@ impl<const LEAF: u32, const FAN: u32, T: Drop> Parts<LEAF, FAN, T> {
     }
 }
 
-/// An engine that threads share, and a seat and a watcher a processor.
+/// An engine that threads share, and a seat and a watcher for each processor.
 pub type Dealt<const LEAF: u32, const FAN: u32, T> = (
     Live<LEAF, FAN, T>,
     Vec<CpuSeat>,
@@ -123,11 +123,11 @@ pub type Dealt<const LEAF: u32, const FAN: u32, T> = (
 
 impl<const LEAF: u32, const FAN: u32, T: Drop> Live<LEAF, FAN, T> {
     /// Opens an engine of `cpus` processors, idle at number 0, with processor 0 alone online, and
-    /// deals a seat and a watcher a processor, in order. Over its life at most 1,000,000 callbacks
-    /// are queued: [`Live::open_with_most`] takes another number.
+    /// deals a seat and a watcher for each processor, in order. Over its life it allows 1,000,000
+    /// callbacks to be queued: [`Live::open_with_most`] takes another number.
     ///
     /// Faults: `TooManyCpus` (17) for no processor, more than 4,096, or more than four levels hold;
-    /// `BadLast` (19) if `last` is no last number; `NoMemory` (16).
+    /// `BadLast` (19) if `last` is not a legal last number; `NoMemory` (16).
     pub fn open(alloc: Global, cpus: u32, last: u64) -> Result<Dealt<LEAF, FAN, T>, Fault>
         requires { AreFanouts LEAF FAN }
         ensures fault { tested_fault result ≡ opening_refusal LEAF FAN cpus last }
@@ -137,10 +137,11 @@ impl<const LEAF: u32, const FAN: u32, T: Drop> Live<LEAF, FAN, T> {
         Live::open_with_most(alloc, cpus, last, MOST_QUEUED)
     }
 
-    /// Opens an engine as [`Live::open`], in which `most` callbacks may be queued, from 1 to 2^62.
+    /// Opens an engine as [`Live::open`] does, but allows `most` callbacks to be queued, from 1 to
+    /// 2^62.
     ///
     /// Faults: `TooManyCpus` (17) for no processor, more than 4,096, or more than four levels hold;
-    /// `BadLast` (19) if `last` is no last number; `NoMemory` (16).
+    /// `BadLast` (19) if `last` is not a legal last number; `NoMemory` (16).
     pub fn open_with_most(
         alloc: Global,
         cpus: u32,
@@ -158,7 +159,8 @@ impl<const LEAF: u32, const FAN: u32, T: Drop> Live<LEAF, FAN, T> {
     }
 }
 
-/// An engine that threads share, a seat and a watcher a processor, and the client's own watcher.
+/// An engine that threads share, a seat and a watcher for each processor, and the client's own
+/// watcher.
 pub type Opened<const LEAF: u32, const FAN: u32, T, P> = (
     Live<LEAF, FAN, T, P>,
     Vec<CpuSeat<P>>,
@@ -167,11 +169,11 @@ pub type Opened<const LEAF: u32, const FAN: u32, T, P> = (
 );
 
 impl<const LEAF: u32, const FAN: u32, T: Drop, P: Client> Live<LEAF, FAN, T, P> {
-    /// Opens an engine as [`Live::open`], with this plan of a client. What the client knows first,
-    /// its own watcher has.
+    /// Opens an engine as [`Live::open`] does, with a client of this plan. The client's own watcher
+    /// has the client's first knowledge.
     ///
     /// Faults: `TooManyCpus` (17) for no processor, more than 4,096, or more than four levels hold;
-    /// `BadLast` (19) if `last` is no last number; `NoMemory` (16).
+    /// `BadLast` (19) if `last` is not a legal last number; `NoMemory` (16).
     pub fn open_for(
         alloc: Global,
         cpus: u32,
@@ -200,7 +202,8 @@ impl<const LEAF: u32, const FAN: u32, T: Drop, P: Client> Live<LEAF, FAN, T, P> 
     }
 }
 
-/// Returns the state of the grace periods at first, and the processors by their words, in no set.
+/// Returns the first state of the grace periods, and the sets of processors by their words, which
+/// are empty.
 fn make_state<const LEAF: u32, const FAN: u32, T: Drop>(
     alloc: Global,
     cpus: u32,

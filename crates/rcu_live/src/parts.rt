@@ -1,4 +1,4 @@
-//! An engine taken apart, for whoever has a lock of their own.
+//! The parts of an engine, for callers with a lock of their own.
 
 use crate::board::Board;
 use crate::client::{Client, NoClient};
@@ -9,18 +9,18 @@ use rcu_node::Tree;
 use std::alloc::Global;
 use std::sync::Arc;
 
-/// The parts of a running engine, with its state under no lock: their owner makes one call at a
-/// time.
+/// The parts of a running engine, with its state under no lock: their owner has to make one call at
+/// a time.
 #[derive(Drop)]
 pub struct Parts<const LEAF: u32, const FAN: u32, T: Drop, P: Client = NoClient> {
     /// The shared words.
     pub board: Arc<Board<P>, Global>,
     /// The engine.
     pub engine: Engine<Tree<LEAF, FAN>, T, P>,
-    /// A seat a processor, in order.
+    /// A seat for each processor, in order.
     pub seats: Vec<CpuSeat<P>>,
-    /// A watcher a processor.
+    /// A watcher for each processor.
     pub watchers: Vec<Watcher<P>>,
-    /// The client's own watcher, which knows what the client knows first.
+    /// The client's own watcher, which has the client's first knowledge.
     pub own: Watcher<P>,
 }

@@ -1,5 +1,5 @@
-//! How a grace period of the engine comes to its end, by the calls of any threads. Nothing is
-//! claimed of who makes them, or when.
+//! How a grace period of the engine ends, by the calls of any threads. These laws do not say which
+//! threads make the calls, or when.
 ghost use Rattle.std.specs.Prelude.{◌≡◌, ◌≢◌, ◌⊎◌, ◌<◌, ◌≤◌, ◌+◌, ◌^◌, ◌&&◌, ◌∷◌, ◌++◌, ℕ, Bool};
 ghost use Rattle.std.specs.Prelude.{List, None, true, false, not, length};
 ghost use Rattle.std.specs.List.{list_any};
@@ -37,8 +37,9 @@ pub fn awaited_processors_only_shrink<T: Drop, P: Client>()
         is_in e.grace.processors.awaited cpu ≡ true }
 {}
 
-/// A collection from each awaited processor leaves awaited exactly those whose own word does not
-/// say that they are quiescent. If each word says so, nobody is awaited and the end is accepted.
+/// After a collection from each awaited processor, exactly those are still awaited whose own word
+/// does not report a quiescent state. If each word does, no processor is awaited and the end is
+/// accepted.
 pub fn a_collection_leaves_nobody_quiet_awaited<T: Drop, P: Client>()
     ensures left { (e : Locked P.Known T) (word : ℕ → ℕ) (cpu : ℕ) →
         is_in (after_collections e word).grace.processors.awaited cpu
@@ -55,7 +56,7 @@ pub fn a_collection_leaves_nobody_quiet_awaited<T: Drop, P: Client>()
 {}
 
 /// One step of driving ends a running grace period if the own word of each awaited processor, as
-/// the step finds it, says that it is quiescent: the step is accepted, loads each of these words
+/// the step finds it, reports a quiescent state: the step is accepted, loads each of these words
 /// once, and then no processor is awaited.
 pub fn a_step_of_driving_ends_a_quiet_grace_period<T: Drop, P: Client>()
     ensures accepted { (e : Locked P.Known T) (is_wanted : Bool) → e.grace.seq.running ≡ true →
@@ -78,9 +79,9 @@ pub fn a_step_of_driving_ends_a_quiet_grace_period<T: Drop, P: Client>()
         ≡ Turned.Ended (number_of (after_drive e is_wanted word).grace.seq) }
 {}
 
-/// If every own word says that its processor is quiescent, a step of driving that wants a grace
-/// period ends one: the running one, or one that it begins. Two such steps finish each cookie taken
-/// before them. A step is accepted below the last number, and while a grace period runs.
+/// If every own word reports a quiescent state, a step of driving that wants a grace period ends
+/// one: the running one, or one that it begins. Two such steps finish each cookie taken before
+/// them. A step is accepted below the last number, and while a grace period runs.
 pub fn two_steps_of_driving_finish_a_cookie<T: Drop, P: Client>()
     ensures accepted { (e : Locked P.Known T) (is_wanted : Bool) →
         number_of e.grace.seq ≢ e.grace.seq.last → drive_refusal e.grace is_wanted ≡ None }
@@ -95,10 +96,10 @@ pub fn two_steps_of_driving_finish_a_cookie<T: Drop, P: Client>()
         ≤ number_of (after_drive (after_drive e true first) true second).grace.seq }
 {}
 
-/// A seat can always make its word say that it is quiescent. While a section is open, an exit is
-/// accepted and leaves one depth less. Outside a section the word says so already, or going idle is
-/// accepted, and then it does. So it does after a quiescent state at the running number or a later
-/// one, and after a departure.
+/// A seat can always make its own word report a quiescent state. While a section is open, an exit
+/// is accepted and leaves one depth less. Outside a section, either the word reports one already,
+/// or going idle is accepted, and then it does. It also does after a quiescent state at the running
+/// number or a later one, and after a departure.
 pub fn a_seat_can_tell_of_itself<P: Client>()
     ensures exit { (s : Seated P.Known) → 0 < s.depth → exit_refusal s ≡ None }
     ensures less { (closed : P.Known → P.Known) (s : Seated P.Known) (n : Number) → 0 < s.depth →
@@ -115,7 +116,7 @@ pub fn a_seat_can_tell_of_itself<P: Client>()
 {}
 
 /// If two grace periods ended between two states of an engine, the number has reached the snapshot
-/// of the earlier one: a cookie taken there tests done.
+/// of the earlier one: a cookie taken at the earlier one tests done.
 pub fn two_grace_periods_reach_the_snapshot<T: Drop, P: Client>()
     ensures reached { (before after : Locked P.Known T) →
         before.grace.seq.ends + 2 ≤ after.grace.seq.ends →
@@ -127,9 +128,9 @@ pub fn two_grace_periods_reach_the_snapshot<T: Drop, P: Client>()
 {}
 
 /// Two tends and a full grace period between them finish each callback that was in the list: if the
-/// number has reached the snapshot of that at the first tend, none of them waits after the second,
-/// and a run with a limit of at least as many as are done hands each out. Any threads may make any
-/// other calls between, except that the processor leaves.
+/// number has reached the snapshot of the number at the first tend, none of them waits after the
+/// second, and a run with a limit of at least as many as are done hands each out. Any threads may
+/// make any other calls between, except that the processor leaves.
 pub fn two_tends_and_a_grace_period_finish_callbacks<T: Drop, P: Client>()
     ensures done { (first : Locked P.Known T) (later earlier : List (Call T)) (cpu place : ℕ) →
         IsNew first → IsRun first (Call.Tend cpu ∷ later ++ Call.Tend cpu ∷ earlier) →

@@ -1,4 +1,5 @@
-//! A watcher that meets an open section, with no handle: nothing here waits or takes memory.
+//! A watcher that meets an open section, without a handle of threads: no call here waits or needs
+//! memory.
 ghost use Rattle.std.specs.Prelude.{◌≡◌, IfOk, IsSome, OnErr, OnOk, false};
 ghost use Rattle.std.specs.Result.{result_err};
 ghost use Rattle.rcu_live.specs.CpuSeat.{HasMade, quiesce_refusal};
@@ -34,7 +35,7 @@ pub fn is_done_beside<const LEAF: u32, const FAN: u32, T: Drop, P: Client>(
     first & again & is_done
 }
 
-/// The processor passes a quiescent state, reads beside the watcher, and passes another one.
+/// Lets the processor pass a quiescent state, read beside the watcher, and pass another one.
 ///
 /// Faults: `Offline` (2) if the processor is offline; `CpuIdle` (23) if it is idle; `InSection` (4)
 /// if a section is open.

@@ -1,4 +1,4 @@
-//! The rule of the shared words as the table takes it, and what each kind of step on them says.
+//! The rule of the shared words, for their table, and the meaning of each kind of step on them.
 ghost use Rattle.std.specs.Prelude.{◌≡◌};
 
 use crate::client::{Client, NumberStep, WordStep};
@@ -7,8 +7,8 @@ use crate::within::Within;
 use atomic_table::{Play, Split, TableRule};
 use std::marker::PhantomData;
 
-/// The rule, over a client's part. The table's key is the number of processors and the client's
-/// plan.
+/// The rule, with a client's part. The key of the table is the number of processors and the
+/// client's plan.
 pub struct Words<P> {
     client: PhantomData<P>,
 }
@@ -60,7 +60,7 @@ impl<S, C> Play<S, View<C>> for Store {
     ghost then = { λ step me _ now. (now.0 ≡ after_store me.0 step.first) × (now.1 ≡ me.1) };
 }
 
-/// Online-mask step: the processor's bit is set.
+/// Online-mask step: sets the processor's bit.
 pub struct SetOnlineBit;
 
 impl<S, C> Play<S, View<C>> for SetOnlineBit {
@@ -69,7 +69,7 @@ impl<S, C> Play<S, View<C>> for SetOnlineBit {
     ghost then = { λ _ me _ now. (now.0 ≡ after_announcement me.0) × (now.1 ≡ me.1) };
 }
 
-/// Own-word store by which the processor arrives.
+/// Own-word store of an arrival.
 pub struct Arrive;
 
 impl<S, C> Play<S, View<C>> for Arrive {
@@ -79,7 +79,7 @@ impl<S, C> Play<S, View<C>> for Arrive {
         (now.0 ≡ after_arrive_store me.0 step.first) × (now.1 ≡ me.1) };
 }
 
-/// Online-mask step: the processor's bit is cleared.
+/// Online-mask step: clears the processor's bit.
 pub struct ClearOnlineBit;
 
 impl<S, C> Play<S, View<C>> for ClearOnlineBit {
@@ -122,8 +122,8 @@ impl<S, C> Play<S, View<C>> for End {
     ghost then = { λ step me _ now. (now.0 ≡ after_end_store me.0 step.first) × (now.1 ≡ me.1) };
 }
 
-/// A processor is asked to wake the sleeping waiters: an exchange, which makes the seat of that
-/// asking.
+/// Asking: a processor is asked to wake the sleeping waiters. It is an exchange, which makes the
+/// seat of that asking.
 pub struct Ask;
 
 impl<S, C> Play<S, View<C>> for Ask {
@@ -133,7 +133,7 @@ impl<S, C> Play<S, View<C>> for Ask {
     ghost then = { λ step _ _ now. (now.0.role ≡ Asker) × (step.first ≡ now.0.cpu + 1) };
 }
 
-/// A look at which processor is asked: a load, which makes the seat of that look.
+/// Look at which processor is asked: a load, which makes the seat of that look.
 pub struct LookAtAsked;
 
 impl<S, C> Play<S, View<C>> for LookAtAsked {
@@ -142,7 +142,8 @@ impl<S, C> Play<S, View<C>> for LookAtAsked {
     ghost then = { λ _ _ n now. (now.0.role ≡ Looker) × (now.0.own_word ≡ n) };
 }
 
-/// Nobody is asked any more: an exchange, which makes a seat that knows nothing.
+/// Taking back: no processor is asked any more. It is an exchange, which makes a seat that knows
+/// nothing.
 pub struct TakeBack;
 
 impl<S, C> Play<S, View<C>> for TakeBack {
@@ -162,7 +163,7 @@ impl<S, C, M: WordStep<C>> Play<S, View<C>> for OnWord<M> {
     ghost then = { λ step me n now. SteppedOnWord M.then step.word me.0 n now.0 × (now.1 ≡ me.1) };
 }
 
-/// A client's look at the number.
+/// A client's load of the number.
 pub struct OnNumber<M> {
     step: PhantomData<M>,
 }
@@ -199,7 +200,7 @@ impl<P: Client> Split<View<P::Known>> for DealWatcher<P> {
     ghost right = { λ v. watcher_seat v.base (P.idle v.client) };
 }
 
-/// Seat split: a watcher's seat that has what the client knew here.
+/// Seat split: a watcher's seat that gets this seat's knowledge about the client.
 pub struct HandOver<P> {
     client: PhantomData<P>,
 }
@@ -212,8 +213,8 @@ impl<P: Client> Split<View<P::Known>> for HandOver<P> {
     ghost right = { handed_seat };
 }
 
-/// Seat split: a watcher's seat that has what a part of the client knew here, and of all else what
-/// a seat knows that is dealt.
+/// Seat split: a watcher's seat that gets this seat's knowledge about a part of the client, and for
+/// the rest has the knowledge of a dealt seat.
 pub struct HandPartOver<C, P> {
     place: PhantomData<(C, P)>,
 }

@@ -1,4 +1,4 @@
-//! The seats of an engine as it is opened: a processor's and a watcher's for each processor.
+//! The seats of an engine as it is opened: one for each processor, and a watcher's for each.
 ghost use Rattle.std.specs.Prelude.{◌≡◌, ◌+◌, ◌<◌, [], ◌∷◌, IfOk, None, OnOk};
 ghost use Rattle.std.specs.Prelude.{length, map};
 ghost use Rattle.std.specs.Arc.{arc_value};
@@ -18,18 +18,18 @@ use crate::watcher::Watcher;
 use std::alloc::{AllocError, Global};
 use std::sync::Arc;
 
-/// The shared words of an engine, and what is dealt of them.
+/// The shared words of an engine, and the seats dealt from them.
 #[derive(Drop)]
 pub(crate) struct BoardParts<P: Client> {
     /// The words.
     pub board: Arc<Board<P>, Global>,
     /// The engine's seat.
     pub engine_seat: TableSeat<P>,
-    /// A seat a processor, in order.
+    /// A seat for each processor, in order.
     pub seats: Vec<CpuSeat<P>>,
-    /// A watcher a processor.
+    /// A watcher for each processor.
     pub watchers: Vec<Watcher<P>>,
-    /// The client's own watcher, which knows what the client knows first.
+    /// The client's own watcher, which has the client's first knowledge.
     pub own: Watcher<P>,
 }
 
@@ -86,8 +86,8 @@ fn deal_next<P: Client>(
     (seat, Watcher::new(board.deal_watcher(engine)))
 }
 
-/// Returns a seat and a watcher for each processor, in order, from the first seat of all. The
-/// engine's is left.
+/// Deals a seat and a watcher for each processor, in order, from the first seat of all, and returns
+/// them. The engine's seat is left.
 fn deal<P: Client>(
     alloc: Global,
     board: &Board<P>,

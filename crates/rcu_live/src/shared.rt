@@ -1,11 +1,10 @@
-//! What the shared words are reached through.
+//! Access to the shared words.
 use crate::board::{Board, Stored};
 use crate::client::Client;
 
-/// What has an engine's shared words: the words alone, or the engine that threads share.
+/// Access to an engine's shared words: by the words alone, or by the engine that threads share.
 ///
-/// The calls of seats take it, and have no more of the engine than the words: none of them has a
-/// way to the lock.
+/// The calls of seats take it. They can reach only the words of the engine, and never the lock.
 pub trait Shared<P: Client> {
     ghost use Rattle.std.specs.Prelude.{◌≡◌};
     ghost use Rattle.rcu_live.specs.Board.{Object};
@@ -17,10 +16,10 @@ pub trait Shared<P: Client> {
     fn board(&self) -> &Board<P>
         ensures { result.now ≡ object self.now };
 
-    /// What a seat calls once behind each store by which an awaited processor is heard of: it wakes
-    /// the waiters that sleep until then, if there are any. With a [`Live`](crate::Live) that costs
-    /// one load, and if the processor is asked to wake the sleeping waiters, an exchange, an
-    /// addition and a wake. By the words alone it costs nothing.
+    /// Called by a seat once after each store that may report a quiescent state: wakes the waiters
+    /// that sleep until then, if there are any. With a [`Live`](crate::Live) it costs one load, and
+    /// if the processor is asked to wake the sleeping waiters, an exchange, an addition and a wake.
+    /// With the words alone it costs nothing.
     fn stored(&self, stored: Stored);
 }
 
@@ -31,7 +30,7 @@ impl<P: Client> Shared<P> for Board<P> {
         self
     }
 
-    /// Nobody sleeps by the words alone.
+    /// With the words alone, no waiter sleeps.
     fn stored(&self, stored: Stored) {
         stored.wakes_nobody();
     }

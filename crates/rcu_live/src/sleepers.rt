@@ -1,5 +1,5 @@
-//! How a wait sleeps until a processor is heard of. `bindings/model/waits.py` reads the steps, and
-//! walks all of their interleavings.
+//! How a wait sleeps until a processor reports. `bindings/model/waits.py` reads the steps, and
+//! explores all of their interleavings.
 ghost use Rattle.std.specs.Prelude.{◌≡◌};
 
 use crate::board::Board;
@@ -7,19 +7,19 @@ use crate::client::Client;
 use crate::wake_words::{Asked, NotHeard, WakeCount};
 use std::sync::Wait;
 
-/// The word that wakes sleeping waiters. The processor that is asked to do so is in a word beside
-/// the number.
+/// The word by which sleeping waiters are woken. The word beside the number has the processor that
+/// is asked to wake them.
 #[derive(Drop)]
 #[repr(C)]
 pub(crate) struct Sleepers {
-    // Nothing that readers look at stands within 128 bytes of the word.
+    // Padding: no word that readers load is within 128 bytes of the wake word.
     before: [u64; 16],
     wakes: WakeCount,
     behind: [u64; 16],
 }
 
 impl Sleepers {
-    /// Nobody sleeps.
+    /// Returns the word, with no sleeping waiter.
     pub(crate) fn new() -> Sleepers {
         Sleepers {
             before: [0; 16],
@@ -28,8 +28,8 @@ impl Sleepers {
         }
     }
 
-    /// Asks this processor to wake the sleeping waiters. Waiters that sleep since another one was
-    /// asked are woken.
+    /// Asks this processor to wake the sleeping waiters. Wakes waiters that sleep since another
+    /// processor was asked.
     pub(crate) fn ask<P: Client>(&self, board: &Board<P>, cpu: u32) -> Asked
         ensures { result ≡ cpu }
     {
@@ -54,7 +54,7 @@ impl Sleepers {
         }
     }
 
-    /// Nobody is asked from now on, and all are woken.
+    /// Takes the asking back, and wakes all.
     #[cold]
     fn answer<P: Client>(&self, board: &Board<P>) {
         let taken_back = board.take_back();

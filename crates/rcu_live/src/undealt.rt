@@ -1,4 +1,4 @@
-//! A processor's seat before a thread has it for the first time.
+//! A processor's seat before a thread first takes it.
 ghost use Rattle.std.specs.Prelude.{◌≡◌};
 ghost use Rattle.rcu_live.specs.CpuSeat.{at_first};
 
@@ -7,8 +7,8 @@ use crate::client::{Client, NoClient};
 use crate::cpu_seat::CpuSeat;
 use std::marker::Model;
 
-/// A processor's seat as it is opened, put away in the bytes of the processor's number until a
-/// thread has it.
+/// A processor's seat as it is opened, stored in the bytes of the processor's number until a thread
+/// takes it.
 #[derive(Drop)]
 pub struct UndealtSeat<P: Client = NoClient> {
     cpu: u32,
@@ -37,7 +37,7 @@ impl<P: Client> Model for UndealtSeat<P> {
 }
 
 impl<P: Client> UndealtSeat<P> {
-    /// Puts away a seat that is as it was opened.
+    /// Stores a seat that is as it was opened.
     pub fn of(seat: CpuSeat<P>) -> UndealtSeat<P>
         requires { seat ≡ at_first seat.table seat.view.base seat.view.client seat.cpu }
         ensures { result ≡ seat }

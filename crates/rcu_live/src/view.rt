@@ -1,33 +1,33 @@
-//! What a seat at the shared words has seen.
+//! The views of seats at the shared words.
 use std::collections::LinkedList;
 
-/// Whose a seat is.
+/// The owner of a seat.
 pub enum Role {
     Cpu,
     Watcher,
     Engine,
-    /// An asking: it is made by that step, and takes no other.
+    /// An asking: that step makes the seat, which takes no other step.
     Asker,
-    /// A look at which processor is asked: so is it.
+    /// A look at which processor is asked: likewise.
     Looker,
 }
 
-/// What a seat has seen. It exists in proofs alone: no value of it is made.
+/// The view of a seat: what it has seen. It exists only in proofs: no value of it is made.
 pub struct View<C> {
     pub role: Role,
-    /// Of a processor's seat its processor; of the engine's the first processor with no seat yet.
-    /// Of an asking and of a look at which processor is asked, the processor that was asked, or
-    /// looked so.
+    /// For a processor's seat, its processor; for the engine's, the first processor without a seat.
+    /// For an asking, and for a look at which processor is asked, the processor that was asked, or
+    /// that looked.
     pub cpu: u32,
-    /// The greatest number seen; of the engine's seat the number.
+    /// The greatest number seen; for the engine's seat, the number.
     pub seen: u64,
-    /// How many loads the seat made. One of an online mask counts once for each own word of which
-    /// it says.
+    /// How many loads the seat made. A load of an online mask counts once for each own word that it
+    /// shows.
     pub loads: u64,
-    /// How many times the seat stored its processor's own word. Of an asking, and of a look at
+    /// How many times the seat stored its processor's own word. For an asking, and for a look at
     /// which processor is asked, how many times that had happened by then.
     pub stores: u64,
-    /// The processor's own word. Of a look at which processor is asked, what it found.
+    /// The processor's own word. For a look at which processor is asked, the word that it found.
     pub own_word: u64,
     /// The number at which the open section began.
     pub section: Option<u64>,
@@ -37,6 +37,6 @@ pub struct View<C> {
     pub announced: bool,
     /// The place where the client's words begin.
     pub base: u64,
-    /// What the client has seen.
+    /// The client's part of the view.
     pub client: C,
 }

@@ -1,7 +1,8 @@
-//! The two words by which sleeping waiters are woken, and what a step on one of them gives to the
-//! next step: nothing else makes it, so no body takes the steps in another order. Each step is
-//! sequentially consistent, and so is each store of an own word: either the look behind that finds
-//! who is asked, or the collection behind the asking finds what was stored.
+//! The two words by which sleeping waiters are woken. Each step on one of them makes a value that
+//! the next step takes, and nothing else makes it, so no body can take the steps in another order.
+//! Each step is sequentially consistent, and so is each store of an own word. So either the look
+//! after that store finds which processor is asked, or the collection after the asking finds the
+//! store.
 ghost use Rattle.std.specs.Prelude.{◌≡◌, ◌≢◌, ◌<◌, IfSome, None};
 ghost use Rattle.rcu_live.specs.Engine.{after_collect, collect_answer, latest_word};
 ghost use Rattle.rcu_live.specs.declared.grace_periods.Collected.TheVariants.{NotYet};
@@ -17,27 +18,27 @@ use std::marker::Model;
 use std::sync::Wait;
 use std::sync::atomic::{AtomicU64, Ordering};
 
-/// How often all had been woken before an asking. A later count would miss a wake behind a store of
-/// an older number.
+/// The count of wakes before an asking. A later count would miss a wake after a store of an older
+/// number.
 #[derive(Drop)]
 pub(crate) struct Counted {
     wakes: u64,
 }
 
-/// Whoever relies on an asking that was taken back has to be woken: [`WakeCount::wake_all`] alone
-/// takes this.
+/// An asking that was taken back. Waiters that rely on it have to be woken: only
+/// [`WakeCount::wake_all`] takes this.
 pub(crate) struct TakenBack {
     asked: u64,
 }
 
-/// A processor that is asked to wake the sleeping waiters. [`hear`](Asked::hear) alone takes it.
+/// A processor that is asked to wake the sleeping waiters. Only [`hear`](Asked::hear) takes it.
 pub struct Asked {
     cpu: u32,
     counted: Counted,
 }
 
-/// The processor that was asked had not reported by then: the caller may sleep until it does.
-/// [`Live::sleep`](crate::Live::sleep) alone takes it.
+/// Evidence that the asked processor had not reported after the asking: the caller may sleep until
+/// it does. Only [`Live::sleep`](crate::Live::sleep) takes it.
 pub struct NotHeard {
     counted: Counted,
 }
@@ -51,8 +52,8 @@ impl Model for Asked {
 }
 
 impl Asked {
-    /// Collects from the processor that was asked, behind the asking: it may have stored before it
-    /// could see that. Returns leave to sleep, if it has not reported.
+    /// After the asking, collects from the asked processor, which may have stored before it could
+    /// see the asking. Returns leave to sleep, if it has not reported.
     pub fn hear<A: Awaited, T: Drop, P: Client>(
         self,
         engine: &mut Engine<A, T, P>,
@@ -72,7 +73,7 @@ impl Asked {
     }
 }
 
-/// How often all were woken.
+/// The count of wakes.
 #[derive(Drop)]
 pub(crate) struct WakeCount {
     word: AtomicU64,
@@ -85,22 +86,23 @@ impl WakeCount {
         }
     }
 
-    /// Returns how often all were woken until now.
+    /// Returns the count of wakes so far.
     pub(crate) fn count(&self) -> Counted {
         Counted {
             wakes: self.word.load(Ordering::SeqCst),
         }
     }
 
-    /// Wakes all, once the asking was taken back: who counted the wake already may ask anew.
+    /// Wakes all, after an asking was taken back: a waiter that has counted this wake may ask
+    /// again.
     pub(crate) fn wake_all(&self, taken_back: TakenBack) {
         let TakenBack { asked: _ } = taken_back;
         self.word.fetch_add(1, Ordering::SeqCst);
         self.word.wake_all();
     }
 
-    /// Sleeps until all are woken once more, or for no time where they were meanwhile. It may also
-    /// return for no reason.
+    /// Sleeps until all are woken once more; returns at once if they were since the count. It may
+    /// also return spuriously.
     pub(crate) fn sleep(&self, rt: &impl Wait, unheard: NotHeard) {
         let NotHeard { counted } = unheard;
         self.word.park(rt, (counted.wakes & 0xffff_ffff) as u32);
@@ -108,8 +110,9 @@ impl WakeCount {
 }
 
 impl<P: Client> Board<P> {
-    /// Asks this processor to wake the sleeping waiters, once the wakes are counted. If another one
-    /// was asked, that is taken back: it may have stored, and find somebody else asked.
+    /// Asks this processor to wake the sleeping waiters, after the wakes were counted. If another
+    /// processor was asked, that asking is taken back: it may have stored, and found another one
+    /// asked.
     pub(crate) fn ask(&self, cpu: u32, counted: Counted) -> (Asked, Option<TakenBack>)
         ensures { result.0 ≡ cpu }
     {
@@ -130,7 +133,7 @@ impl<P: Client> Board<P> {
         asked == u64::from(cpu) + 1
     }
 
-    /// Asks nobody any more.
+    /// Takes the asking back: no processor is asked any more.
     pub(crate) fn take_back(&self) -> TakenBack {
         let (asked, _seat) = self.table.shared.swap_new_seat::<TakeBack>(ASKED, 0);
         TakenBack { asked }

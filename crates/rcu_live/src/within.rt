@@ -1,4 +1,4 @@
-//! Where a client is in the client of an engine.
+//! The place of a client in the client of an engine.
 ghost use Rattle.std.specs.Prelude.{◌≡◌, ◌^◌, ◌+◌, ◌<◌, ◌≤◌, ℕ, List, drop, take};
 ghost use Rattle.rcu_live.specs.Several.{IsLens, IsPart, Lens, in_first, in_second, whole};
 ghost use Rattle.rcu_live.specs.SeveralLaws.{in_first_is_lens, in_first_is_part, in_second_is_lens};
@@ -8,13 +8,13 @@ use crate::both::Both;
 use crate::client::Client;
 use std::marker::PhantomData;
 
-/// Where a client is in the client of an engine: alone, or as one of several.
+/// The place of a client in the client of an engine: alone, or as one of several.
 pub trait Within<C: Client> {
     /// The client of the engine.
     type Whole: Client;
 
-    // The client's part of what a seat knows, of the plan, and of the words; and where its words
-    // begin, by where those of the whole do.
+    // The client's part of a seat's knowledge, of the plan, and of the words; and the start of its
+    // words, by the start of those of the whole.
     ghost lens: { Lens Self.Whole.Known C.Known };
 
     ghost own_plan: { Self.Whole.Plan → C.Plan };
@@ -27,14 +27,14 @@ pub trait Within<C: Client> {
     fn plan(plan: <Self::Whole as Client>::Plan) -> C::Plan
         ensures { result ≡ own_plan plan };
 
-    /// Returns where the client's words begin among the words of all.
+    /// Returns the start of the client's words among all words.
     fn base(plan: <Self::Whole as Client>::Plan) -> usize
         requires { begins 0 plan < 2 ^ 64 }
         ensures { result ≡ begins 0 plan };
 
     ghost is_lens: { IsLens lens C.idle C.closed Self.Whole.idle Self.Whole.closed };
 
-    // What the first seat knows.
+    // The first seat's knowledge.
     ghost is_first: { (plan : Self.Whole.Plan) →
         (lens.get (Self.Whole.first plan) ≡ C.first (own_plan plan))
         × ((base : ℕ) → lens.begins base (Self.Whole.first plan) ≡ begins base plan) };
@@ -42,7 +42,7 @@ pub trait Within<C: Client> {
     ghost is_part: { (plan : Self.Whole.Plan) → IsPart lens (Self.Whole.holds plan)
         (C.holds (own_plan plan)) (own plan) (begins 0 plan) C.idle Self.Whole.idle };
 
-    // The words of all have room for those of the part.
+    // All words together have room for those of the part.
     ghost has_room: { (plan : Self.Whole.Plan) → Self.Whole.suits plan → C.suits (own_plan plan)
         × (begins 0 plan + C.size (own_plan plan) ≤ Self.Whole.size plan) };
 }

@@ -17,12 +17,12 @@ pub(crate) struct WordSets {
     pub(crate) online: CpuSet,
     /// Those whose word is above the number: already quiescent.
     pub(crate) already_quiescent: CpuSet,
-    /// Those whose word is neither 0 nor above the number, until something is heard of them.
+    /// Those whose word is neither 0 nor above the number, until they report.
     pub(crate) awaited: CpuSet,
 }
 
 impl WordSets {
-    /// Empty sets of this many processors.
+    /// Returns empty sets of this many processors.
     pub(crate) fn new(alloc: Global, cpus: u32) -> Result<WordSets, Fault>
         ensures already_quiescent { IfOk result (λ sets. length sets.already_quiescent ≡ cpus) }
         ensures awaited { IfOk result (λ sets. sets.awaited ≡ replicate cpus false) }
@@ -39,7 +39,7 @@ impl WordSets {
         })
     }
 
-    /// Takes every processor out, for a begin of this number.
+    /// Empties the sets, for a begin of this number.
     pub(crate) fn start(&mut self, number: u64)
         ensures number { self.new.number ≡ number }
         ensures online { self.new.online ≡ self.old.online }
@@ -52,7 +52,7 @@ impl WordSets {
         self.awaited.clear();
     }
 
-    /// Puts a processor, which is in no set yet, into that of its own word.
+    /// Adds a processor, which is in no set yet, to the set of its own word.
     pub(crate) fn add(&mut self, cpu: u32, word: u64)
         requires quiescent_inside { cpu < length self.old.already_quiescent }
         requires quiescent_out { is_in self.old.already_quiescent cpu ≡ false }

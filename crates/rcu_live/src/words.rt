@@ -1,4 +1,4 @@
-//! Where the shared words are.
+//! The places of the shared words.
 ghost use Rattle.std.specs.Prelude.{◌≡◌, ◌<◌, ◌≤◌, IfOk};
 ghost use Rattle.rcu_live.specs.Words.{first_words, own_word_index, mask_index};
 
@@ -7,28 +7,28 @@ use std::alloc::{AllocError, Global};
 /// The place of the number word.
 pub const NUMBER: usize = 0;
 
-/// The place of the word that says which processor is asked to wake the sleeping waiters: in the
-/// number's cache line, which a report has loaded. It changes where a wait sleeps or is woken
-/// alone.
+/// The place of the word with the processor that is asked to wake the sleeping waiters. It is in
+/// the number's cache line, which a report has loaded. It changes only when a wait sleeps or is
+/// woken.
 pub const ASKED: usize = 1;
 
-/// How many words a cache line has. The second line of each 128 bytes is none of an own word, and
-/// has as many online masks, which change where a processor arrives or departs alone.
+/// The number of words in a cache line. The second line of each 128 bytes has no own word, but this
+/// many online masks, which change only when a processor arrives or departs.
 const LINE: u32 = 8;
 
 /// How many processors share an online mask.
 const MASK_BITS: u32 = 64;
 
-/// How far apart the words are: 128 bytes, so that no two share a cache line, nor a pair of lines
-/// that a processor fetches together. Of the words between, steps name online masks alone, and the
-/// one beside the number.
+/// The distance of the words: 128 bytes, so that no two share a cache line, or a pair of lines that
+/// a processor fetches together. Of the words between, steps use only online masks, and the one
+/// beside the number.
 const APART: usize = 16;
 
 /// The own word of processor 0 at the start: it is online, and the number is 0.
 const BOOT_WORD: u64 = 1;
 
-/// Returns the place of a processor's own word. The place that one more processor would have is
-/// where the words behind the engine's begin.
+/// Returns the place of a processor's own word. The words behind the engine's begin at the place
+/// that one more processor would have.
 pub fn own_word_index(cpu: u32) -> usize
     ensures { result ≡ own_word_index cpu }
 {

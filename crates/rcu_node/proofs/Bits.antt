@@ -1,4 +1,4 @@
--- One bit of a word: what a test tells, and what a write makes.
+-- One bit of a word: the result of a test, and the word after a write.
 use Rattle.std.proofs.Common.{◌≡◌, ◌≢◌, ℕ, ◌*◌, ◌/◌, ◌%◌, ◌^◌, ◌<◌, ◌==◌, ◌||◌, refl, sym, ◌∙◌}
 use Rattle.std.proofs.Common.{arith, true, false, bit_and, bit_or}
 use Rattle.std.specs.Int.{bit_at, bit_not, w64}

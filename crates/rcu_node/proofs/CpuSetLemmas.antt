@@ -1,5 +1,5 @@
--- Sets of processors as flags, for all who prove something of them: listed sets, empty sets, what
--- one write changes, how many are in, sets put together, and equal sets.
+-- Sets of processors as flags, for proofs about them: listed sets, empty sets, the effect of one
+-- write, sizes, intersections and unions, and equal sets.
 use Rattle.std.proofs.Common.{◌≡◌, ◌≢◌, ℕ, zero, suc, ◌+◌, ◌<◌, ◌≤◌, ◌==◌, ◌&&◌, ◌||◌, Bool, true}
 use Rattle.std.proofs.Common.{false, not, cond, if◌then◌else◌, nat_lt, List, [], ◌∷◌, length}
 use Rattle.std.proofs.Common.{slice_set, replicate, refl, sym, ◌∙◌, arith, ap, inl, inr}
@@ -23,7 +23,7 @@ use Rattle.rcu_node.proofs.RangeLemmas.{count_by-map}
 
 -- ---- flags
 
--- nobody beyond its flags is in a set
+-- no processor beyond its flags is in a set
 pub is_in-beyond : (set : List Bool) (cpu : ℕ) → length set ≤ cpu → is_in set cpu ≡ false
 is_in-beyond set cpu l = get_or_past set cpu false l
 
@@ -45,7 +45,7 @@ pub is_in-listed : (n : ℕ) (test : ℕ → Bool) (cpu : ℕ) → cpu < n
 unfolding listed
 is_in-listed n test cpu l = get_or-map-range_with_len test 0 n cpu cpu false l (omega arith)
 
--- a processor is in it where it is below the number and passes
+-- a processor is in it if it is below the number and passes
 pub is_in-listed_any : (n : ℕ) (test : ℕ → Bool) (cpu : ℕ)
     → is_in (listed n test) cpu ≡ (nat_lt cpu n && test cpu)
 is_in-listed_any n test cpu = elim (cases_lt cpu n) [
@@ -55,7 +55,7 @@ is_in-listed_any n test cpu = elim (cases_lt cpu n) [
       ∙ grind (arith, nat_tests, l)
 ]
 
--- so where only processors of a set pass, all that pass are in
+-- so if only processors of a set pass, all that pass are in
 pub is_in-listed_within : (set : List Bool) (test : ℕ → Bool) (cpu : ℕ)
     → (is_in set cpu ≡ false → test cpu ≡ false) → is_in (listed (length set) test) cpu ≡ test cpu
 is_in-listed_within set test cpu none = elim (cases_lt cpu (length set)) [
@@ -110,21 +110,21 @@ listed_first n test =
 
 -- ---- empty sets
 
--- nobody is in the empty set
+-- no processor is in the empty set
 pub in_none : (n cpu : ℕ) → is_in (replicate n false) cpu ≡ false
 in_none n cpu = elim (cases_lt cpu n) [
   | inl l ↦ get_or-replicate n cpu false false l
   | inr l ↦ is_in-beyond (replicate n false) cpu (omega (arith, l, length-replicate n false))
 ]
 
--- a set that nobody is in is the empty one
+-- a set without a processor is the empty one
 pub is_none : (set : List Bool) → ((cpu : ℕ) → is_in set cpu ≡ false)
     → set ≡ replicate (length set) false
 is_none set none =
     same_from_flags set (replicate (length set) false) (sym (length-replicate (length set) false))
     (λ cpu. none cpu ∙ sym (in_none (length set) cpu))
 
--- nobody is in a part of the empty set
+-- no processor is in a part of the empty set
 pub none_within : (part set : List Bool) (n : ℕ)
     → set ≡ replicate n false
     → ((cpu : ℕ) → is_in part cpu ≡ true → is_in set cpu ≡ true)
@@ -139,7 +139,7 @@ none_within part set n e h cpu = elim (cases_Bool (is_in part cpu)) [
 
 -- ---- one write
 
--- a processor is taken out, wherever it stands
+-- a processor is removed, whether it was in or not
 pub is_in-remove : (set : List Bool) (cpu k : ℕ)
     → is_in (slice_set set cpu false) k ≡ (is_in set k && not (cpu == k))
 is_in-remove [] cpu k = refl
@@ -173,7 +173,7 @@ is_in-insert set cpu k l = elim (cases_eq k cpu) [
 
 -- ---- how many are in
 
--- the empty set has none
+-- the empty set has size 0
 pub size_of-none : (n : ℕ) → size_of (replicate n false) ≡ 0
 size_of-none n = sum_by-replicate (λ (flag : Bool). cond flag 1 0) n false ∙ omega arith
 
@@ -183,7 +183,7 @@ none_listed test =
     ap (λ (set : List Bool). size_of set) (listed_none 0 test (λ i l. absurd (omega (arith, l))))
     ∙ size_of-none 0
 
--- a new processor makes one more
+-- a new processor adds one to the size
 pub size_of-insert : (set : List Bool) (cpu : ℕ) → cpu < length set → is_in set cpu ≡ false
     → size_of (slice_set set cpu true) ≡ size_of set + 1
 size_of-insert set cpu l e =
@@ -191,7 +191,7 @@ size_of-insert set cpu l e =
     let before : ◌≡◌ {A = ℕ} (cond (is_in set cpu) 1 0) 0 = rw e in
     omega (arith, written, before)
 
--- a processor that was there makes one less
+-- removing a processor that was in takes one from the size
 pub size_of-remove : (set : List Bool) (cpu : ℕ) → cpu < length set → is_in set cpu ≡ true
     → size_of (slice_set set cpu false) + 1 ≡ size_of set
 size_of-remove set cpu l e =
@@ -203,7 +203,7 @@ size_of-remove set cpu l e =
 pub size_of-within : (set : List Bool) → size_of set ≤ length set
 size_of-within set = count_by-le-length (λ flag. flag) set
 
--- a set that nobody is in has none
+-- a set without a processor has size 0
 pub size_of-empty : (set : List Bool) → ((cpu : ℕ) → cpu < length set → is_in set cpu ≡ false)
     → size_of set ≡ 0
 size_of-empty set h =
@@ -218,7 +218,7 @@ pub size_of-some : (set : List Bool) (cpu : ℕ) → cpu < length set → is_in 
     → 0 < size_of set
 size_of-some set cpu l e = omega (arith, size_of-remove set cpu l e)
 
--- and nobody is in a set that has none
+-- and a set of size 0 has no processor
 pub nobody_in : (set : List Bool) → size_of set ≡ 0 → (cpu : ℕ) → is_in set cpu ≡ false
 nobody_in set e cpu = elim (cases_lt cpu (length set)) [
   | inl l ↦ elim (cases_Bool (is_in set cpu)) [
@@ -242,7 +242,7 @@ count_by-is_in set n e =
 pub length-intersection : (a b : List Bool) → length (intersection a b) ≡ length a
 length-intersection a b = length-listed (length a) (λ cpu. is_in a cpu && is_in b cpu)
 
--- a processor is in an intersection where it is in both
+-- a processor is in an intersection if it is in both
 pub is_in-intersection : (a b : List Bool) (cpu : ℕ)
     → is_in (intersection a b) cpu ≡ (is_in a cpu && is_in b cpu)
 is_in-intersection a b cpu =
@@ -252,7 +252,7 @@ is_in-intersection a b cpu =
 pub length-unheard : (set : List Bool) (heard : ℕ → Bool) → length (unheard set heard) ≡ length set
 length-unheard set heard = length-listed (length set) (λ cpu. is_in set cpu && not (heard cpu))
 
--- a processor is unheard where it is in the set and was not heard
+-- a processor is unheard if it is in the set and was not heard
 pub is_in-unheard : (set : List Bool) (heard : ℕ → Bool) (cpu : ℕ)
     → is_in (unheard set heard) cpu ≡ (is_in set cpu && not (heard cpu))
 is_in-unheard set heard cpu =
@@ -260,7 +260,7 @@ is_in-unheard set heard cpu =
 
 -- ---- equal sets
 
--- the test of two sets says whether they are equal
+-- the test of two sets decides whether they are equal
 pub same_set-Decides : (a b : List Bool) → Decides (same_set a b) (a ≡ b)
 same_set-Decides a b = slice_eq-Decides booleans_Decides a b (same_set a b) refl
 

@@ -46,7 +46,7 @@ has_bit_both word next bit w = elim (cases_lt bit 64) [
       grind (arith, nat_tests, high, l))
 ]
 
--- what a cut reads
+-- the bits that a cut reads
 pub cut-is : (word next first width bit : ℕ)
     → word < 2 ^ 64
     → has_bit (bit_and ((next * 2 ^ 64 + word) / 2 ^ first) (2 ^ width - 1)) bit

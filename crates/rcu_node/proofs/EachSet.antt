@@ -93,7 +93,7 @@ filled s set (suc node) legal few =
     filled_more s set before.0 new node word.0 before.1 (omega (arith, few)) word.1 refl in
     (new, subst (λ k. AreFilled s set new k) (next node) more)
 
--- a node sets its bit in its parent, where it is not empty
+-- a node sets its bit in its parent, if it is not empty
 step : (s : Shape) (masks : List ℕ) (node : ℕ) → IsLegalShape s → 0 < node → node < nodes s
     → AreLinkedFrom s masks (node + 1) → (new : List ℕ) × IsSetAbove s masks new node
 step s masks node legal some here before = elim (cases_eq (slice_index masks node) 0) [

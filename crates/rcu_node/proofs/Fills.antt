@@ -79,7 +79,7 @@ leaf_begins s node legal leaf here =
     let below = first.1.below in
     omega (arith, whole, below)
 
--- what a leaf's bit says
+-- the processor that a leaf's bit shows
 pub record HasCpu (s : Shape) (set : List Bool) (node bit : ℕ) : Type 0 where
   pub leaf : first_leaf s ≤ node
   pub low : bit < s.leaf
@@ -246,7 +246,7 @@ nothing_set s masks node before some here empty = record {
       λ child child_some earlier child_here. before.apart child child_some (omega arith) child_here;
 }
 
--- what that leaves
+-- the masks after that
 pub record IsSetAbove (s : Shape) (masks new : List ℕ) (node : ℕ) : Type 0 where
   pub linked : AreLinkedFrom s new node
   pub members : members s new ≡ members s masks

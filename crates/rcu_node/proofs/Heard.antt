@@ -1,4 +1,4 @@
--- What is awaited by who was heard.
+-- The awaited set, by which processors were heard.
 use Rattle.std.proofs.Common.{◌≡◌, ℕ, ◌==◌, ◌&&◌, ◌||◌, ◌++◌, Bool, true, false, not, List, [], ◌∷◌}
 use Rattle.std.proofs.Common.{refl, sym, ap, ◌∙◌}
 use Rattle.std.proofs.Math.Bool.{or-false}
@@ -20,7 +20,7 @@ after_reports-unheard number set reports =
     (length-awaited_after_reports number set reports ∙ sym (length-unheard set heard)) (λ cpu.
     unreported number set reports cpu ∙ sym (is_in-unheard set heard cpu))
 
--- where the same were heard, the same are unheard
+-- if the same processors were heard, the same are unheard
 unheard-same : (set : List Bool) (heard other : ℕ → Bool) → ((cpu : ℕ) → heard cpu ≡ other cpu)
     → unheard set heard ≡ unheard set other
 unheard-same set heard other h =

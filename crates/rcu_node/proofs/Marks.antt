@@ -40,7 +40,7 @@ zeros_linked s masks zeros =
           ∙ sym (ap (λ v. not (v == 0)) (none child));
     }
 
--- and nobody is in them
+-- and no processor is in them
 pub zeros_members : (s : Shape) (masks : List ℕ) → masks ≡ replicate (nodes s) 0
     → members s masks ≡ replicate s.cpus false
 zeros_members s masks zeros =

@@ -47,7 +47,7 @@ bit_low s cpu legal =
     let below = mod_below cpu s.leaf (omega arith) in
     omega arith
 
--- the bit that was read tells whether the processor is in
+-- the bit that was read shows whether the processor is in
 pub is_member : (s : Shape) (masks : List ℕ) (cpu node bit word : ℕ)
     → cpu < s.cpus → node ≡ leaf_of s cpu → bit ≡ bit_of s cpu → word ≡ slice_index masks node
     → (bit_and (word / 2 ^ bit) 1 == 1) ≡ is_in (members s masks) cpu
@@ -74,7 +74,7 @@ members-clear s masks cpu word legal below here cleared =
           ap (λ v. has_bit v (bit_of s k)) (get_or-set_other masks leaf (leaf_of s k) word 0 apart)
     ])
 
--- a mask above the leaves says nothing of processors
+-- a mask above the leaves shows no processors
 pub members-inner : (s : Shape) (masks : List ℕ) (node word : ℕ) → node < first_leaf s
     → members s (slice_set masks node word) ≡ members s masks
 members-inner s masks node word inner =

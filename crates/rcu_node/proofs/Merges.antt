@@ -6,7 +6,7 @@ use Rattle.std.proofs.lemmas.List.{ext_get_or}
 use Rattle.rcu_node.specs.CpuSet.{is_in, intersection}
 use Rattle.rcu_node.proofs.CpuSetLemmas.{length-listed, is_in-listed}
 
--- of a set those processors below a counter are taken out that another one no longer awaits
+-- a set without those processors below a counter that another one no longer awaits
 pub record IsCutBelow (counter : ℕ) (set other now : List Bool) : Type 0 where
   pub sized : length now ≡ length set
   pub flag : (cpu : ℕ)

@@ -1,4 +1,4 @@
--- Merging is a join: for all who prove something of replicas that are merged.
+-- Merging is a join: lemmas for proofs about merged replicas.
 use Rattle.std.proofs.Common.{◌≡◌, ℕ, ◌==◌, ◌&&◌, Bool, true, false, List, length, refl, sym, ap}
 use Rattle.std.proofs.Common.{◌∙◌}
 use Rattle.std.specs.Bool.{Decides}
@@ -51,7 +51,7 @@ intersection-again a b =
     ∙ ap (λ there. is_in a cpu && there) (and_self (is_in b cpu))
     ∙ sym (is_in-intersection a b cpu))
 
--- the test of two that began alike says whether number of processors, tag and start set are equal
+-- the test that two began alike decides whether number of processors, tag and start set are equal
 abbrev pub Equals : Standing → Standing → Type 0
 Equals x y = (length x.awaited ≡ length y.awaited) × (x.tag ≡ y.tag) × (x.start_set ≡ y.start_set)
 
@@ -76,7 +76,7 @@ equals-alike x y h =
 pub are_alike-Decides : (x y : Standing) → Decides (are_alike x y) (Equals x y)
 are_alike-Decides x y = (are_alike-equals x y, equals-alike x y)
 
--- who awaits a part of its own stays alike to the same
+-- a grace period that awaits a part of its set stays alike to the same ones
 pub merged-alike_first : (x y z : Standing) → are_alike (after_merge x y) z ≡ are_alike x z
 merged-alike_first x y z = rw (length-intersection x.awaited y.awaited)
 
@@ -132,7 +132,7 @@ at_least-on x y z one two = record {
   part = λ cpu there. two.part cpu (one.part cpu there);
 }
 
--- tests that follow from one another are the same
+-- tests that imply one another are the same
 pub same_test : (a b : Bool) → (a ≡ true → b ≡ true) → (b ≡ true → a ≡ true) → a ≡ b
 same_test true b h k = sym (h refl)
 same_test false true h k = k refl

@@ -3,7 +3,7 @@ use Rattle.std.proofs.Common.{◌≡◌, ℕ, List, get_or, slice_set, map, sym,
 use Rattle.std.proofs.lemmas.List.{map-set, set-get_or}
 use Rattle.rcu_node.specs.declared.node.Node.{Node}
 
--- what stays at the node stays in the list
+-- a part that a write keeps in the node is kept in the list
 pub map_kept : (read : Node → ℕ) (nodes : List Node) (i : ℕ) (new old : Node)
     → old ≡ get_or nodes i old → read new ≡ read old
     → map read (slice_set nodes i new) ≡ map read nodes

@@ -1,4 +1,4 @@
--- The numbers below n, for all who go over the processors: one more of them, and counts over them.
+-- The numbers below n, for loops over the processors: one more of them, and counts over them.
 use Rattle.std.proofs.Common.{◌≡◌, ℕ, zero, suc, ◌+◌, Bool, cond, List, [], ◌∷◌, ◌++◌, map, refl}
 use Rattle.std.proofs.Common.{sym, ap, ◌∙◌, arith}
 use Rattle.std.specs.Prelude.{filter, count_by, sum_by}
@@ -20,7 +20,7 @@ filter-range_more p n =
     ∙ ap (λ (l : List ℕ). filter p l) (range_last 0 n n (omega arith))
     ∙ filter-append p (range_with_len 0 n) (n ∷ [])
 
--- a sum over results is one over what they are the results of
+-- a sum over mapped values is a sum over the values
 pub sum_by-map : {X Y : Type 0} (g : Y → ℕ) (f : X → Y) (xs : List X)
     → sum_by g (map f xs) ≡ sum_by (λ x. g (f x)) xs
 sum_by-map g f [] = refl

@@ -1,4 +1,4 @@
--- The root's mask is empty exactly where nobody is awaited.
+-- The root's mask is empty exactly if no processor is awaited.
 use Rattle.std.proofs.Common.{◌≡◌, ◌≢◌, ℕ, zero, suc, ◌+◌, ◌<◌, ◌≤◌, ◌==◌, Bool, true, false, not}
 use Rattle.std.proofs.Common.{List, length, slice_index, refl, sym, ap, ◌∙◌, arith, inl, inr}
 use Rattle.std.proofs.Common.{ne_eqb}
@@ -51,7 +51,7 @@ none_set word bit never = elim (cases_Bool (has_bit word bit)) [
   | inr none ↦ none
 ]
 
--- where no processor's bit is set, each mask is empty
+-- if no processor's bit is set, each mask is empty
 none_below : (s : Shape) (masks : List ℕ)
     → IsLegalShape s
     → AreLinked s masks
@@ -77,7 +77,7 @@ none_below s masks legal linked nobody (suc fuel) node enough here =
           ∙ ap (λ b. has_bit (slice_index masks node) b) found.1.bit ∙ set))
     ]))
 
--- the root tells
+-- so the root shows whether a processor is awaited
 pub root_tells : (s : Shape) (set : List Bool) (masks : List ℕ)
     → IsLegalShape s → length set ≡ s.cpus → AreMasks s set masks
     → (slice_index masks 0 == 0) ≡ (size_of set == 0)

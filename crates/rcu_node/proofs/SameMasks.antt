@@ -12,7 +12,7 @@ use Rattle.rcu_node.specs.Words.{has_bit}
 use Rattle.rcu_node.proofs.Bits.{same_word}
 use Rattle.rcu_node.proofs.MergingLemmas.{same_test}
 
--- where the masks behind a node are the same, so are its bits
+-- if the masks behind a node are the same, so are its bits
 carries : (s : Shape) (set : List Bool) (a b : List ℕ)
     → IsLegalShape s
     → AreMasks s set a

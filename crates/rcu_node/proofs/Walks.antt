@@ -16,7 +16,7 @@ use Rattle.rcu_node.specs.Words.{has_bit}
 use Rattle.rcu_node.proofs.Members.{bit_low, is_in-members, leaf_here, members-clear, members-inner}
 use Rattle.rcu_node.proofs.OneBit.{Clears, clears, not_empty}
 
--- the bits that stay where one is cleared are a processor's or a child's still
+-- if one bit is cleared, the others are still a processor's or a child's
 owned-clear : (s : Shape) (masks : List ℕ) (node word bit : ℕ)
     → Clears (slice_index masks node) word bit → node < length masks → AreOwned s masks
     → AreOwned s (slice_set masks node word)
@@ -112,7 +112,7 @@ parent-clear s masks node word legal before some empty cleared =
           (not_empty (slice_index masks up) (bit_in_parent s node) (before.over some))));
     }
 
--- the walk ends where the mask is not empty
+-- the walk ends if the mask is not empty
 pub end_here : (s : Shape) (masks : List ℕ) (node : ℕ)
     → AreLinkedBut s masks node → slice_index masks node ≢ 0 → AreLinked s masks
 end_here s masks node before some = record {
@@ -125,7 +125,7 @@ end_here s masks node before some = record {
   ];
 }
 
--- what a step leaves
+-- the masks after a step
 pub record IsStepped (s : Shape) (masks new : List ℕ) (node : ℕ) (set : List Bool) : Type 0 where
   pub cleared : AreLinkedBut s new node
   pub members : members s new ≡ set

@@ -1,4 +1,4 @@
--- Sets of processors in words of 64 bits: what a read tells, and what a write makes.
+-- Sets of processors in words of 64 bits: the result of a read, and the words after a write.
 use Rattle.std.proofs.Common.{◌≡◌, ◌≢◌, ℕ, ◌*◌, ◌+◌, ◌/◌, ◌%◌, ◌^◌, ◌<◌, ◌≤◌, ◌==◌, Bool, true}
 use Rattle.std.proofs.Common.{false, List, length, get_or, slice_index, slice_set, replicate}
 use Rattle.std.proofs.Common.{bit_and, bit_or, sym, ap, ◌∙◌, arith, inl, inr, lit<}
@@ -38,7 +38,7 @@ pub cpus-is : (cpus : ℕ) (words : List ℕ) (set : List Bool) → flags_in cpu
     → cpus ≡ length set
 cpus-is cpus words set e = sym (length-listed cpus (flag_in words)) ∙ ap length e
 
--- where a word changes at one processor's bit alone, the flags of the others stay
+-- if a word changes at one processor's bit alone, the flags of the others stay
 flag_in-set_other : (words : List ℕ) (cpu word k : ℕ) → cpu / 64 < length words → k ≢ cpu
     → ((i : ℕ) → i < 64 → i ≢ cpu % 64 → has_bit word i ≡ has_bit (slice_index words (cpu / 64)) i)
     → flag_in (slice_set words (cpu / 64) word) k ≡ flag_in words k
@@ -63,7 +63,7 @@ flags_in-set cpus words cpu word flag l m e h =
     (ap (λ v. has_bit v (cpu % 64)) now ∙ e)
     (λ k kl n. flag_in-set_other words cpu word k here n h)
 
--- where none is set from a processor beyond on, that stays
+-- if no flag is set from a processor beyond on, that stays
 none_beyond-set : (cpus : ℕ) (words : List ℕ) (cpu word : ℕ) → cpu < cpus → cpus ≤ 64 * length words
     → ((i : ℕ) → i < 64 → i ≢ cpu % 64 → has_bit word i ≡ has_bit (slice_index words (cpu / 64)) i)
     → HasNoneFrom cpus words → HasNoneFrom cpus (slice_set words (cpu / 64) word)
@@ -78,7 +78,7 @@ read_is : (cpus : ℕ) (words : List ℕ) (cpu word : ℕ) → cpu < cpus → cp
 read_is cpus words cpu word l m r =
     get_or_read words (cpu / 64) word (word_below cpus cpu (length words) l m) r 0
 
--- the bit that was read tells whether the processor is in the set
+-- the bit that was read shows whether the processor is in the set
 pub contains-is : (cpus : ℕ) (words : List ℕ) (set : List Bool) (cpu word : ℕ)
     → flags_in cpus words ≡ set
     → cpu < cpus
@@ -169,7 +169,7 @@ flags_in-zeros cpus n h =
     ap (λ v. has_bit v (cpu % 64)) (get_or-replicate n (cpu / 64) 0 0 (word_below cpus cpu n l h))
     ∙ has_bit-zero (cpu % 64))
 
--- what n words of zeros are
+-- n words of zeros
 pub zeros : (cpus n : ℕ) (words : List ℕ) → words ≡ replicate n 0 → cpus ≤ 64 * n → record {
   length : length words ≡ n;
   flags : flags_in cpus words ≡ replicate cpus false;

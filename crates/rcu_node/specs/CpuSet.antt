@@ -1,5 +1,5 @@
--- Sets of processors, as lists of flags: the processor c is in the set where flag c, counted from
--- 0, is true.
+-- Sets of processors, as lists of flags: the processor c is in the set if flag c, counted from 0,
+-- is true.
 use Rattle.std.specs.Prelude.{ℕ, ◌≡◌, ◌⊎◌, ◌<◌, ◌≤◌, Bool, false, not, ◌&&◌, ◌||◌, List, length}
 use Rattle.std.specs.Prelude.{map, count_by, slice_index_or}
 use Rattle.std.specs.List.{range_with_len}
@@ -30,8 +30,8 @@ intersection a b = listed (length a) (λ cpu. is_in a cpu && is_in b cpu)
 abbrev pub unheard : List Bool → (ℕ → Bool) → List Bool
 unheard set heard = listed (length set) (λ cpu. is_in set cpu && not (heard cpu))
 
--- the fault of a set of so many processors that is not made: there is no processor, or there are
--- more than 4,096; else memory was wanted
+-- the fault if a set of this number of processors is not made: the number is 0 or above 4,096; else
+-- memory was refused
 abbrev pub IsSetFault : ℕ → Fault → Type 0
 IsSetFault cpus fault =
     ((fault ≡ TooManyCpus) × ((cpus ≡ 0) ⊎ (4096 < cpus)))

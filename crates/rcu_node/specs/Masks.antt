@@ -1,4 +1,4 @@
--- The masks of a tree's nodes: which bits are set where a set of processors is awaited.
+-- The masks of a tree's nodes: which bits are set if a set of processors is awaited.
 use Rattle.std.specs.Prelude.{ℕ, ◌<◌, ◌≤◌, ◌≡◌, ◌==◌, ◌^◌, Bool, true, not, if◌then◌else◌, List}
 use Rattle.std.specs.Prelude.{map, length, slice_index}
 use Rattle.rcu_geometry.specs.Geometry.{Shape, nodes, parent, bit_in_parent, first_leaf, leaf_of}
@@ -40,19 +40,19 @@ pub record AreOwned (s : Shape) (masks : List ℕ) : Type 0 where
   pub leaf : (node bit : ℕ) → first_leaf s ≤ node → has_bit (slice_index masks node) bit ≡ true
       → ∥ ((cpu : ℕ) × IsCpuOf s node bit cpu) ∥₁
 
--- the bit of a child is set exactly where its own mask is not empty
+-- the bit of a child is set exactly if its own mask is not empty
 abbrev pub IsLinked : Shape → List ℕ → ℕ → Type 0
 IsLinked s masks child =
     has_bit (slice_index masks (parent s child)) (bit_in_parent s child)
     ≡ not (slice_index masks child == 0)
 
--- no other bit is set, and that of each child is
+-- the bit of each child is set as above, and no other bit is set
 pub record AreLinked (s : Shape) (masks : List ℕ) : Type 0 where
   pub owned : AreOwned s masks
   pub inner : (child : ℕ) → 0 < child → child < nodes s → IsLinked s masks child
 
--- the masks of a set: a leaf bit is set exactly where its processor is in the set, an inner bit
--- exactly where that child's mask is not empty, and no other bit is set
+-- the masks of a set: a leaf bit is set exactly if its processor is in the set, an inner bit
+-- exactly if that child's mask is not empty, and no other bit is set
 pub record AreMasks (s : Shape) (set : List Bool) (masks : List ℕ) : Type 0 where
   pub linked : AreLinked s masks
   pub leaf : (cpu : ℕ) → cpu < s.cpus

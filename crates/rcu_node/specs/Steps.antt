@@ -13,7 +13,7 @@ pub record AreLinkedBut (s : Shape) (masks : List ℕ) (node : ℕ) : Type 0 whe
   pub inner : (child : ℕ) → 0 < child → child < nodes s → child ≢ node → IsLinked s masks child
   pub over : 0 < node → has_bit (slice_index masks (parent s node)) (bit_in_parent s node) ≡ true
 
--- what a leaf's bit is to be: its processor is in the set
+-- the value that a leaf's bit has to have: whether its processor is in the set
 abbrev pub leaf_bit : Shape → List Bool → ℕ → ℕ → Bool
 leaf_bit s set node bit =
     nat_le (first_leaf s) node

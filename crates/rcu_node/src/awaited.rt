@@ -8,7 +8,7 @@ ghost use Rattle.rcu_node.specs.Reports.{report_answer, awaited_after_report};
 use crate::cpu_set::CpuSet;
 use rcu_seq::Tag;
 
-/// What a report of a quiescent state did.
+/// The answer to a report of a quiescent state.
 #[derive(Clone, Copy, Debug, PartialEq, Eq)]
 pub enum Answer {
     /// The processor was awaited, and others still are.
@@ -24,8 +24,8 @@ pub enum Answer {
 /// The processors that a grace period awaits: those of its start set, less those that reported.
 ///
 /// Contracts see its tag (the grace period's number, with its epoch), its start set and its awaited
-/// set, the sets as a flag for each processor. At making the tag is number 0 of epoch 0 and both
-/// sets are empty.
+/// set, each set as a flag for each processor. In a new one the tag is number 0 of epoch 0, and
+/// both sets are empty.
 pub trait Awaited: Drop {
     /// The tag of the latest grace period.
     ghost tag: { Self → Tag };
@@ -44,12 +44,12 @@ pub trait Awaited: Drop {
     fn tag(&self) -> Tag
         ensures { result ≡ tag self.now };
 
-    /// Whether the latest grace period awaited the processor at its start.
+    /// Returns whether the latest grace period awaited the processor at its start.
     fn starts(&self, cpu: u32) -> bool
         requires { cpu < length (awaited self.now) }
         ensures { result ≡ is_in (start_set self.now) cpu };
 
-    /// Whether the processor is awaited.
+    /// Returns whether the processor is awaited.
     fn awaits(&self, cpu: u32) -> bool
         requires { cpu < length (awaited self.now) }
         ensures { result ≡ is_in (awaited self.now) cpu };
@@ -58,13 +58,13 @@ pub trait Awaited: Drop {
     fn count(&self) -> u32
         ensures { result ≡ size_of (awaited self.now) };
 
-    /// Whether no processor is awaited.
+    /// Returns whether no processor is awaited.
     fn is_empty(&self) -> bool
         ensures { result ≡ (size_of (awaited self.now) == 0) };
 
-    /// A grace period of this tag begins, and awaits the set. The set is one of as many processors,
-    /// and the tag's number is `4k + 1`. Costs a step for every 64 processors, and in a tree one a
-    /// node.
+    /// Begins a grace period of this tag, which awaits the set. The set is one of as many
+    /// processors, and the tag's number is `4k + 1`. Costs a step for every 64 processors, and in a
+    /// tree one for each node.
     fn begin(&mut self, now: Tag, set: &CpuSet)
         requires alike { length set.now ≡ length (awaited self.old) }
         requires running { is_running now.number ≡ true }
@@ -72,9 +72,9 @@ pub trait Awaited: Drop {
         ensures start_set { start_set self.new ≡ set.now }
         ensures awaited { awaited self.new ≡ set.now };
 
-    /// A processor reports a quiescent state with the tag that it had noted. The caller answers for
-    /// the idle case: the report is compared with the tag alone. Costs a step, in a tree at most
-    /// one a level.
+    /// Delivers a processor's report of a quiescent state, with the tag that it had noted. It
+    /// compares the report with the tag alone: the caller checks that a grace period runs. Costs a
+    /// step, in a tree at most one for each level.
     fn report(&mut self, cpu: u32, noted: Tag) -> Answer
         requires { cpu < length (awaited self.old) }
         ensures answer { result ≡ report_answer (tag self.old) (awaited self.old) cpu noted }

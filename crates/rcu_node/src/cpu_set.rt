@@ -11,7 +11,7 @@ use rcu_seq::Fault;
 use std::alloc::Global;
 use std::marker::Model;
 
-/// The most processors that a set is made for.
+/// The most processors that a set can have.
 const MOST_CPUS: u32 = 4096;
 
 /// How many processors a word holds.
@@ -19,8 +19,8 @@ const WORD_BITS: u32 = 64;
 
 /// A set of processors below a fixed number, 1 to 4,096. Contracts see a flag for each processor.
 ///
-/// A bit for each processor in words of 64 (Linux's `cpumask`), and their count beside them: each
-/// call but `new`, `insert_all`, `clear` and `copy_from` costs one step, and these one a word.
+/// A bit for each processor in words of 64 (Linux's `cpumask`), and a count of the set bits. `new`,
+/// `insert_all`, `clear` and `copy_from` cost a step for each word, every other call one step.
 #[derive(Drop)]
 pub struct CpuSet {
     /// How many processors the set was made for.
@@ -51,7 +51,7 @@ impl Model for CpuSet {
 }
 
 impl CpuSet {
-    /// The empty set. Costs a step for every 64 processors.
+    /// Returns the empty set. Costs a step for every 64 processors.
     ///
     /// Faults: `TooManyCpus` (17) for no processor or more than 4,096; `NoMemory` (16).
     pub fn new(alloc: Global, cpus: u32) -> Result<Self, Fault>
@@ -80,7 +80,7 @@ impl CpuSet {
         self.cpus
     }
 
-    /// Whether the processor is in the set.
+    /// Returns whether the processor is in the set.
     pub fn contains(&self, cpu: u32) -> bool
         requires { cpu < length self.now }
         ensures { result ≡ is_in self.now cpu }
@@ -89,8 +89,8 @@ impl CpuSet {
         (word >> (cpu % WORD_BITS)) & 1 == 1
     }
 
-    /// The flags of `width` processors from `from` on, up to 64 of them, as a word whose lowest bit
-    /// is the flag of `from`; flags beyond the set are 0 (Linux's `bitmap_read`).
+    /// Returns the flags of `width` processors from `from` on, up to 64, as a word whose lowest bit
+    /// is the flag of `from`. Flags beyond the set are 0 (Linux's `bitmap_read`).
     pub fn bits_from(&self, from: u32, width: u32) -> u64
         requires from { from < length self.now }
         requires width { width ≤ 64 }

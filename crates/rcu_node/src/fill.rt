@@ -10,7 +10,7 @@ use crate::cpu_set::CpuSet;
 use crate::node::{Node, group_mask, now_mask, put_now, put_start, set as set_bits};
 use rcu_geometry::Geometry;
 
-/// The masks become those of a set.
+/// Sets the masks to those of a set.
 pub fn fill<const LEAF: u32, const FAN: u32>(
     geometry: &Geometry<LEAF, FAN>,
     nodes: &mut Vec<Node>,
@@ -30,7 +30,7 @@ pub fn fill<const LEAF: u32, const FAN: u32>(
     link(geometry, nodes);
 }
 
-/// The leaves get the bits of a set, and the masks of the other nodes become empty.
+/// Sets the leaves to the bits of a set, and clears the masks of the other nodes.
 fn fill_leaves<const LEAF: u32, const FAN: u32>(
     geometry: &Geometry<LEAF, FAN>,
     nodes: &mut Vec<Node>,
@@ -51,7 +51,7 @@ fn fill_leaves<const LEAF: u32, const FAN: u32>(
     }
 }
 
-/// The bits of a set in a node that is a leaf, and no bits in another node.
+/// Returns the bits of a set in a leaf, and 0 for any other node.
 fn leaf_mask<const LEAF: u32, const FAN: u32>(
     geometry: &Geometry<LEAF, FAN>,
     set: &CpuSet,
@@ -70,7 +70,7 @@ fn leaf_mask<const LEAF: u32, const FAN: u32>(
     set.bits_from((node - first) * LEAF, LEAF)
 }
 
-/// Each node sets its bit in its parent where its mask is not empty, from the last one on.
+/// From the last node on, each node sets its bit in its parent if its mask is not empty.
 fn link<const LEAF: u32, const FAN: u32>(geometry: &Geometry<LEAF, FAN>, nodes: &mut Vec<Node>)
     requires legal { IsLegalShape geometry.now }
     requires masks { AreLinkedFrom geometry.now (now_masks nodes.old.items)
@@ -89,7 +89,7 @@ fn link<const LEAF: u32, const FAN: u32>(geometry: &Geometry<LEAF, FAN>, nodes: 
     }
 }
 
-/// A node whose mask is not empty sets its bit in its parent.
+/// Sets a node's bit in its parent if its mask is not empty.
 fn set_in_parent<const LEAF: u32, const FAN: u32>(
     geometry: &Geometry<LEAF, FAN>,
     nodes: &mut Vec<Node>,
@@ -115,7 +115,7 @@ fn set_in_parent<const LEAF: u32, const FAN: u32>(
     }
 }
 
-/// The masks at the start become those of now.
+/// Copies the current masks to the masks at the start.
 pub fn keep_start(nodes: &mut Vec<Node>, count: u32)
     requires { count ≡ length nodes.old.items }
     ensures start { start_masks nodes.new.items ≡ now_masks nodes.old.items }

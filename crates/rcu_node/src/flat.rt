@@ -15,7 +15,8 @@ use std::alloc::Global;
 pub type Flat = TaggedSets<FlatSets>;
 
 impl Flat {
-    /// Nobody is awaited, at tag 0. Costs a step for every 64 processors.
+    /// Returns a set in which no processor is awaited, at tag 0. Costs a step for every 64
+    /// processors.
     ///
     /// Faults: `TooManyCpus` (17) for no processor or more than 4,096; `NoMemory` (16).
     pub fn new(alloc: Global, cpus: u32) -> Result<Flat, Fault>
@@ -38,7 +39,7 @@ impl Flat {
     }
 }
 
-/// Both sets as sets of their own.
+/// The start set and the awaited set, kept separately.
 #[derive(Drop)]
 pub struct FlatSets {
     /// The processors that were awaited at the start.

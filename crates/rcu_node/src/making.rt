@@ -8,7 +8,7 @@ use crate::node::{Node, put_group};
 use rcu_geometry::Geometry;
 use std::alloc::{AllocError, Global};
 
-/// Nodes with no bit but each one's in its parent.
+/// Returns nodes whose only bit is each one's bit in its parent.
 pub fn new_nodes<const LEAF: u32, const FAN: u32>(
     alloc: Global,
     geometry: &Geometry<LEAF, FAN>,
@@ -27,7 +27,7 @@ pub fn new_nodes<const LEAF: u32, const FAN: u32>(
     Ok(nodes)
 }
 
-/// Nodes without a bit.
+/// Returns nodes without a bit.
 fn blank(alloc: Global, count: u32) -> Result<Vec<Node>, AllocError>
     ensures now { IfOk result (λ nodes. now_masks nodes.items ≡ replicate count 0) }
     ensures start { IfOk result (λ nodes. start_masks nodes.items ≡ replicate count 0) }
@@ -42,7 +42,7 @@ fn blank(alloc: Global, count: u32) -> Result<Vec<Node>, AllocError>
     Ok(nodes)
 }
 
-/// A node's bit in its parent, 0 at the root.
+/// Returns a node's bit in its parent, 0 for the root.
 fn own_bit<const LEAF: u32, const FAN: u32>(geometry: &Geometry<LEAF, FAN>, node: u32) -> u64
     requires legal { IsLegalShape geometry.now }
     requires here { node < nodes_of geometry.now }

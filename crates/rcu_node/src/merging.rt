@@ -7,11 +7,12 @@ ghost use Rattle.rcu_node.specs.Merging.{are_alike, after_merge, same_set, stand
 use crate::awaited::Awaited;
 use rcu_seq::Fault;
 
-/// Takes in what another replica of the same grace period has heard: it awaits then whom both
-/// await, and tag and start set stay. Neither has to be of the other's kind or fanouts, nor has a
-/// grace period to run. It costs a step a processor, and a report of each that is heard.
+/// Merges another replica of the same grace period: the first then awaits only the processors that
+/// both await, and keeps its tag and start set. The two may be of different kinds and fanouts, and
+/// the grace period may have ended. Costs a step for each processor, and a report for each one that
+/// is heard.
 ///
-/// Fault: `NotAlike` (20) where number of processors, tag or start set differ.
+/// Fault: `NotAlike` (20) if number of processors, tag or start set differ.
 pub fn merge<A: Awaited, B: Awaited>(to: &mut A, from: &B) -> Result<(), Fault>
     ensures fault { IfErr result (λ fault. fault ≡ Fault.NotAlike) }
     ensures state { OnOk result (standing (A.tag to.new) (A.start_set to.new) (A.awaited to.new)
@@ -38,7 +39,7 @@ pub fn merge<A: Awaited, B: Awaited>(to: &mut A, from: &B) -> Result<(), Fault>
     Ok(())
 }
 
-/// Whether two have as many processors, the same tag and the same start set.
+/// Returns whether two have the same number of processors, tag and start set.
 fn began_alike<A: Awaited, B: Awaited>(first: &A, second: &B) -> bool
     ensures { result ≡ are_alike
         (standing (A.tag first.now) (A.start_set first.now) (A.awaited first.now))
@@ -47,7 +48,7 @@ fn began_alike<A: Awaited, B: Awaited>(first: &A, second: &B) -> bool
     first.cpus() == second.cpus() && first.tag() == second.tag() && started_alike(first, second)
 }
 
-/// Whether two of as many processors have the same start set.
+/// Returns whether two of as many processors have the same start set.
 fn started_alike<A: Awaited, B: Awaited>(first: &A, second: &B) -> bool
     requires { length (A.awaited first.now) ≡ length (B.awaited second.now) }
     ensures { result ≡ same_set (A.start_set first.now) (B.start_set second.now) }
@@ -60,7 +61,7 @@ fn started_alike<A: Awaited, B: Awaited>(first: &A, second: &B) -> bool
     true
 }
 
-/// Reports a processor to the first that the first awaits and the second no longer awaits.
+/// Reports a processor to the first if the first awaits it and the second does not.
 fn report_heard<A: Awaited, B: Awaited>(to: &mut A, from: &B, cpu: u32)
     requires first { cpu < length (A.awaited to.old) }
     requires second { cpu < length (B.awaited from.now) }

@@ -3,7 +3,7 @@ ghost use Rattle.std.specs.Prelude.{◌≡◌, ◌<◌, length, slice_index, sli
 ghost use Rattle.std.specs.Int.{bit_not, w64};
 ghost use Rattle.rcu_node.specs.Masks.{group_masks, now_masks, start_masks};
 
-/// What a node knows of its children, which are processors at a leaf (Linux's `rcu_node`).
+/// The masks of a node over its children, which are processors in a leaf (Linux's `rcu_node`).
 #[derive(Clone, Copy, Drop)]
 pub struct Node {
     /// The children that are awaited now.

@@ -21,7 +21,7 @@ use std::alloc::Global;
 /// The nodes of a tree in the geometry's order, and how many processors are awaited.
 #[derive(Drop)]
 pub struct Nodes<const LEAF: u32, const FAN: u32> {
-    /// Where each node and each processor lies.
+    /// The shape of the tree.
     geometry: Geometry<LEAF, FAN>,
     /// The masks of each node.
     nodes: Vec<Node>,
@@ -42,10 +42,9 @@ pub struct Nodes<const LEAF: u32, const FAN: u32> {
 }
 
 impl<const LEAF: u32, const FAN: u32> Nodes<LEAF, FAN> {
-    /// Nobody is awaited.
+    /// Returns nodes in which no processor is awaited.
     ///
-    /// Faults: `BadFanout` (18) and `TooManyCpus` (17) as [`Geometry::new`] has them; `NoMemory`
-    /// (16).
+    /// Faults: `BadFanout` (18) and `TooManyCpus` (17) as in [`Geometry::new`]; `NoMemory` (16).
     pub fn new(alloc: Global, cpus: u32) -> Result<Self, Fault>
         ensures fault { tested_fault result ≡ refusal (shape LEAF FAN cpus) }
         ensures awaited { IfOk result (λ tree.
@@ -62,7 +61,7 @@ impl<const LEAF: u32, const FAN: u32> Nodes<LEAF, FAN> {
         })
     }
 
-    /// How many nodes there are.
+    /// Returns the number of nodes.
     pub fn nodes(&self) -> u32
         ensures { result ≡ nodes_of self.now.geometry }
     {

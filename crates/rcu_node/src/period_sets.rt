@@ -1,4 +1,4 @@
-//! The two sets of a grace period, however they are kept.
+//! The two sets of a grace period, in any representation.
 ghost use Rattle.std.specs.Prelude.{◌≡◌, ◌<◌, ◌≤◌, ◌==◌, ℕ, List, Bool, true, false, length};
 ghost use Rattle.std.specs.Prelude.{slice_set};
 ghost use Rattle.rcu_node.specs.CpuSet.{is_in, size_of};
@@ -17,12 +17,12 @@ pub trait PeriodSets: Drop {
     fn cpus(&self) -> u32
         ensures { result ≡ length (awaited self.now) };
 
-    /// Whether the processor was awaited at the start.
+    /// Returns whether the processor was awaited at the start.
     fn starts(&self, cpu: u32) -> bool
         requires { cpu < length (awaited self.now) }
         ensures { result ≡ is_in (start_set self.now) cpu };
 
-    /// Whether the processor is awaited.
+    /// Returns whether the processor is awaited.
     fn awaits(&self, cpu: u32) -> bool
         requires { cpu < length (awaited self.now) }
         ensures { result ≡ is_in (awaited self.now) cpu };
@@ -31,27 +31,27 @@ pub trait PeriodSets: Drop {
     fn count(&self) -> u32
         ensures { result ≡ size_of (awaited self.now) };
 
-    /// Whether no processor is awaited.
+    /// Returns whether no processor is awaited.
     fn is_empty(&self) -> bool
         ensures { result ≡ (size_of (awaited self.now) == 0) };
 
-    /// Both become another set of as many processors.
+    /// Sets both to another set of as many processors.
     fn begin(&mut self, set: &CpuSet)
         requires { length set.now ≡ length (awaited self.old) }
         ensures start_set { start_set self.new ≡ set.now }
         ensures awaited { awaited self.new ≡ set.now };
 
-    /// A processor is awaited no more. Returns whether it was.
+    /// Removes a processor from the awaited set. Returns whether it was awaited.
     fn remove(&mut self, cpu: u32) -> bool
         requires { cpu < length (awaited self.old) }
         ensures there { result ≡ is_in (awaited self.old) cpu }
         ensures start_set { start_set self.new ≡ start_set self.old }
         ensures awaited { awaited self.new ≡ slice_set (awaited self.old) cpu false };
 
-    /// There is a processor.
+    /// At least one processor exists.
     ghost some: { (sets : Self) → 0 < length (awaited sets) };
 
-    /// There are at most 4,096 processors.
+    /// At most 4,096 processors exist.
     ghost few: { (sets : Self) → length (awaited sets) ≤ 4096 };
 
     /// The start set has a flag for each processor too.

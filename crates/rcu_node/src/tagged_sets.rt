@@ -1,4 +1,4 @@
-//! What a grace period awaits, whichever way its sets are kept.
+//! The processors that a grace period awaits, in any representation of its sets.
 
 use crate::awaited::{Answer, Awaited};
 use crate::cpu_set::CpuSet;
@@ -10,7 +10,7 @@ use rcu_seq::Tag;
 pub struct TaggedSets<S: PeriodSets> {
     /// The tag of the latest grace period, number 0 of epoch 0 before any.
     pub(crate) tag: Tag,
-    /// Whom it awaited at its start, and whom it awaits now.
+    /// The processors that it awaited at its start, and those that it awaits now.
     pub(crate) sets: S,
 }
 

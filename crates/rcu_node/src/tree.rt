@@ -15,16 +15,17 @@ use std::alloc::Global;
 /// The awaited processors in a tree of up to `LEAF` processors a leaf and `FAN` children an inner
 /// node (Linux's `rcu_node`, and the Data-Structures document).
 ///
-/// Each node has a mask of the children that are awaited, which are processors at a leaf. A report
-/// clears a bit in a leaf, and goes on in the parent where the mask is empty then: it costs at most
-/// a step a level. A begin costs a step a node.
+/// Each node has a mask of its awaited children, which are processors in a leaf. A report clears a
+/// bit in a leaf, and goes on in the parent if the mask is then empty. It costs at most a step for
+/// each level. A begin costs a step for each node.
 pub type Tree<const LEAF: u32, const FAN: u32> = TaggedSets<Nodes<LEAF, FAN>>;
 
 impl<const LEAF: u32, const FAN: u32> Tree<LEAF, FAN> {
-    /// Nobody is awaited, at tag 0. Costs a step for every 64 processors, and one a node.
+    /// Returns a tree in which no processor is awaited, at tag 0. Costs a step for every 64
+    /// processors, and one for each node.
     ///
-    /// Faults: `BadFanout` (18) where a fanout is outside 2..=64; `TooManyCpus` (17) for no
-    /// processor, more than 4,096, or more than four levels hold; `NoMemory` (16).
+    /// Faults: `BadFanout` (18) if a fanout is outside 2..=64; `TooManyCpus` (17) for no processor,
+    /// more than 4,096, or more than four levels hold; `NoMemory` (16).
     pub fn new(alloc: Global, cpus: u32) -> Result<Self, Fault>
         ensures fault { tested_fault result ≡ refusal (shape LEAF FAN cpus) }
         ensures tag { IfOk result (λ tree. ⟦<Tree<LEAF, FAN> as Awaited>⟧.tag tree ≡ first_tag) }

@@ -10,7 +10,7 @@ ghost use Rattle.rcu_node.specs.Steps.{AreLinkedBut};
 use crate::node::{Node, clear, group_mask, now_mask};
 use rcu_geometry::Geometry;
 
-/// Clears an awaited processor in its leaf, and walks up from there as long as masks get empty.
+/// Clears an awaited processor in its leaf, and walks up from there as long as masks become empty.
 pub fn walk<const LEAF: u32, const FAN: u32>(
     geometry: &Geometry<LEAF, FAN>,
     nodes: &mut Vec<Node>,
@@ -34,8 +34,9 @@ pub fn walk<const LEAF: u32, const FAN: u32>(
     }
 }
 
-/// One step of the walk, at a node that lost a bit: the walk ends where its mask is not empty, or
-/// at the root; else the node's bit in its parent is cleared, and the walk goes on there.
+/// One step of the walk, at a node that lost a bit. If its mask is not empty, or it is the root,
+/// the walk ends. Otherwise the step clears the node's bit in its parent, and the walk goes on
+/// there.
 fn step<const LEAF: u32, const FAN: u32>(
     geometry: &Geometry<LEAF, FAN>,
     nodes: &mut Vec<Node>,

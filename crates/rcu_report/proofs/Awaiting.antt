@@ -1,4 +1,4 @@
--- Who is awaited where an end is refused, and once a merge was tried.
+-- The awaited processors after a refused end, and after a merge was tried.
 use Rattle.std.proofs.Common.{◌≡◌, ◌⊎◌, ℕ, ◌==◌, ◌&&◌, Bool, false, List, length, Some, refl, sym}
 use Rattle.std.proofs.Common.{ap, ◌∙◌, inl, inr}
 use Rattle.std.proofs.lemmas.Bool.{cases_Bool, true≢false}
@@ -7,7 +7,7 @@ use Rattle.rcu_node.specs.CpuSet.{intersection, is_in, size_of}
 use Rattle.rcu_node.proofs.CpuSetLemmas.{is_in-intersection, length-intersection, size_of-empty}
 use Rattle.rcu_report.specs.Replica.{Replicated, End, refusal}
 
--- where a processor is awaited a grace period runs, and its end is refused for that
+-- if a processor is awaited, a grace period runs, and its end is refused for that
 pub refused_while_awaited : (r : Replicated)
     → (r.periods.running ≡ false → (cpu : ℕ) → is_in r.awaited cpu ≡ false)
     → (size_of r.awaited == 0) ≡ false → refusal r End ≡ Some Waiting
@@ -29,7 +29,7 @@ length-merged old other now h = elim h [
   | inr e ↦ ap (λ (s : List Bool). length s) e
 ]
 
--- nobody is in it where nobody was
+-- a set stays empty
 pub none_merged : (old other now : List Bool) → IsMerged old other now
     → ((cpu : ℕ) → is_in old cpu ≡ false) → (cpu : ℕ)
     → is_in now cpu ≡ false

@@ -1,4 +1,4 @@
--- What histories of calls say of the replica after them.
+-- The replica after a history of calls.
 use Rattle.std.proofs.Common.{◌≡◌, ℕ, ◌+◌, ◌==◌, ◌&&◌, ◌||◌, Bool, true, false, cond, not, count_by}
 use Rattle.std.proofs.Common.{List, [], ◌∷◌}
 use Rattle.std.proofs.Common.{None, refl, sym, ap, ◌∙◌, arith, inl, inr}
@@ -24,7 +24,7 @@ use Rattle.rcu_report.specs.History.{hears}
 use Rattle.rcu_report.specs.History.{is_heard, starts, tag}
 use Rattle.rcu_report.proofs.Replicas.{by_running, kept_at_first, kept_next, merging_agrees}
 
--- who is awaited no more stays so
+-- a processor that is no longer awaited stays so
 no_more : (there earlier latest : Bool) → (there && not earlier) ≡ false
     → (there && not (latest || earlier)) ≡ false
 no_more false earlier latest e = refl
@@ -42,7 +42,7 @@ nor_by_the_other true true false = refl
 nor_by_the_other true false true = refl
 nor_by_the_other true false false = refl
 
--- the replica keeps what always holds, is as a history says, and has so many processors
+-- the replica keeps its invariant, is as the history defines it, and has this number of processors
 record IsTold (cpus : ℕ) (r : Replicated) (h : History) : Type 0 where
   sized : cpus_of r ≡ cpus
   kept : IsSound r
@@ -59,7 +59,7 @@ ends_stay call h e =
     let none : ◌≡◌ {A = ℕ} (cond (ends call) 1 0) 0 = rw e refl in
     omega (arith, none, sum_by-cons (λ (c : Call). cond (ends c) 1 0) call h)
 
--- how many processors there are stays
+-- the number of processors stays
 cpus_of-next : (r : Replicated) (call : Call) → CanBeMade r call
     → cpus_of (after_call r call) ≡ cpus_of r
 cpus_of-next r (Begin set) made = made
@@ -112,7 +112,7 @@ says_idle_report r h other number none says = record {
       (sym (says.awaited cpu) ∙ none cpu));
 }
 
--- after an accepted call the replica is as the history with it says
+-- after an accepted call the replica is as the history with the call defines it
 says_next : (r : Replicated) (h : History) (call : Call) → refusal r call ≡ None → IsSound r
     → Represents r h
     → Represents (after_call r call) (call ∷ h)
@@ -188,23 +188,23 @@ told cpus last (call ∷ h) accepted =
       says = says_next r h call accepted.1 before.kept before.says;
     }
 
--- the replica after accepted calls is as their history says
+-- the replica after accepted calls is as their history defines it
 pub says_always : (cpus : ℕ) (last : Number) (h : History) → AreAccepted cpus last h
     → Represents (after_calls cpus last h) h
 says_always cpus last h accepted = (told cpus last h accepted).says
 
--- and keeps what always holds
+-- and keeps its invariant
 pub kept_always : (cpus : ℕ) (last : Number) (h : History) → AreAccepted cpus last h
     → IsSound (after_calls cpus last h)
 kept_always cpus last h accepted = (told cpus last h accepted).kept
 
--- started with, and awaited no more, is heard
+-- a processor of the start set that is no longer awaited was heard
 heard_since : (there earlier : Bool) → (there && not (there && not earlier)) ≡ (there && earlier)
 heard_since true true = refl
 heard_since true false = refl
 heard_since false earlier = refl
 
--- a replica that is taken in tells whom it heard
+-- a merged replica adds the processors that it heard
 pub hears_the_heard : (cpus : ℕ) (last : Number) (h : History) (cpu : ℕ) (number : Number)
     → AreAccepted cpus last h
     → hears cpu number (Merge (after_calls cpus last h))

@@ -1,4 +1,4 @@
--- Replicas that take in one another.
+-- Replicas that merge one another.
 use Rattle.std.proofs.Common.{◌≡◌, true, None, refl, sym, ap, ◌∙◌}
 use Rattle.rcu_node.specs.CpuSet.{intersection}
 use Rattle.rcu_node.specs.Merging.{Standing, are_alike, after_merge}
@@ -18,7 +18,7 @@ other_still_alike : (x y : Replicated) → refusal x (Merge y) ≡ None
 other_still_alike x y e =
     merged-alike_second (standing_of y) (standing_of x) (standing_of y) ∙ other_alike x y e
 
--- so it may take in this one, as it was
+-- so it may merge this one, as it was
 pub accepted_back : (x y : Replicated) → refusal x (Merge y) ≡ None → refusal y (Merge x) ≡ None
 accepted_back x y e = let alike = other_alike x y e in rw alike refl
 
@@ -27,14 +27,14 @@ pub accepted_after : (x y : Replicated) → refusal x (Merge y) ≡ None
     → refusal y (Merge (after_call x (Merge y))) ≡ None
 accepted_after x y e = let alike = other_still_alike x y e in rw alike refl
 
--- both await the same, where each takes in the other as it was
+-- both await the same, if each merges the other as it was
 pub same_apart : (x y : Replicated) → refusal x (Merge y) ≡ None
     → intersection x.awaited y.awaited ≡ intersection y.awaited x.awaited
 same_apart x y e =
     ap (λ (s : Standing). s.awaited)
     (merged-commutes (standing_of x) (standing_of y) (merging_alike x y e))
 
--- and where the other takes in what the first became
+-- and if the other merges what the first became
 pub same_in_turn : (x y : Replicated) → refusal x (Merge y) ≡ None
     → intersection x.awaited y.awaited ≡ intersection y.awaited (intersection x.awaited y.awaited)
 same_in_turn x y e =

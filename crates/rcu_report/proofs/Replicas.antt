@@ -1,4 +1,4 @@
--- What the calls of replicas keep.
+-- The calls of replicas keep their invariant.
 use Rattle.std.proofs.Common.{◌≡◌, ℕ, ◌==◌, ◌&&◌, Bool, true, false, not, if◌then◌else◌, List}
 use Rattle.std.proofs.Common.{length, slice_set}
 use Rattle.std.proofs.Common.{replicate, None, refl, sym, ap, ◌∙◌, arith, inl, inr}
@@ -31,7 +31,7 @@ pub merging_agrees : (r other : Replicated) → refusal r (Merge other) ≡ None
 merging_agrees r other e =
     (are_alike-Decides (standing_of r) (standing_of other)).0 (merging_alike r other e)
 
--- an accepted end is one of a grace period that runs, where nobody is awaited
+-- an accepted end ends a running grace period that awaits no processor
 pub end_runs : (r : Replicated) → refusal r End ≡ None → r.periods.running ≡ true
 end_runs r e = elim (cases_Bool r.periods.running) [
   | inl runs ↦ runs
@@ -44,7 +44,7 @@ end_awaits_nobody r e = elim (cases_Bool (size_of r.awaited == 0)) [
   | inr some ↦ absurd (let never : ⊥ = grind (arith, e, some, end_runs r e) in never)
 ]
 
--- what holds at first
+-- the invariant holds at first
 pub kept_at_first : (cpus : ℕ) (last : Number) → IsSound (at_first cpus last)
 kept_at_first cpus last = record {
   started = refl;
@@ -54,7 +54,7 @@ kept_at_first cpus last = record {
   idle = λ rests. in_none cpus;
 }
 
--- what holds where just the awaited set is cut down
+-- the invariant holds if only the awaited set gets smaller
 kept_cut : (r : Replicated) (less : List Bool) → length less ≡ cpus_of r
     → ((cpu : ℕ) → is_in less cpu ≡ true → is_in r.awaited cpu ≡ true)
     → IsSound r → IsSound (record r { awaited = less })
@@ -69,7 +69,8 @@ kept_cut r less sized part kept = record {
   ];
 }
 
--- what holds of what is left while a grace period runs, and while none does
+-- a property of the replica after a report holds if it does while a grace period runs and while
+-- none does
 pub by_running : (P : Replicated → Type 0) (r left : Replicated)
     → (r.periods.running ≡ true → P left)
     → (r.periods.running ≡ false → P r)
@@ -83,7 +84,7 @@ by_running P r left runs rests = go P r left r.periods.running runs rests
     go P r left true runs rests = runs refl
     go P r left false runs rests = rests refl
 
--- what an accepted call keeps
+-- an accepted call keeps the invariant
 pub kept_next : (r : Replicated) (call : Call) → CanBeMade r call → refusal r call ≡ None
     → IsSound r
     → IsSound (after_call r call)

@@ -28,13 +28,13 @@ join_refusal batch other =
 abbrev pub difference : List Bool → List Bool → List Bool
 difference set other = unheard set (is_in other)
 
--- what is awaited after the reports of a batch, where the grace period of a tag awaits this set:
--- those that no report of the batch is of, where the batch has that tag
+-- the processors that are awaited after the reports of a batch, if the grace period of a tag awaits
+-- this set: those without a report in the batch, if the batch has that tag; else the set
 abbrev pub awaited_after_batch : Tag → List Bool → Gathered → List Bool
 awaited_after_batch tag awaited batch =
     if same_tag batch.tag tag then difference awaited batch.set else awaited
 
--- where a grace period stands after the reports of a batch
+-- a grace period after the reports of a batch
 abbrev pub after_batch : Standing → Gathered → Standing
 after_batch s batch = record s { awaited = awaited_after_batch s.tag s.awaited batch }
 

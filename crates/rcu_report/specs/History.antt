@@ -1,5 +1,5 @@
--- What the accepted calls of a replica say. A history is the list of the accepted calls, the newest
--- first.
+-- The state of a replica, as a history defines it. A history is the list of the accepted calls, the
+-- newest first.
 use Rattle.std.specs.Prelude.{ℕ, ◌≡◌, ◌==◌, Bool, true, false, not, ◌&&◌, List, [], ◌∷◌, None}
 use Rattle.std.specs.Prelude.{count_by}
 use Rattle.rcu_seq.specs.Histories.{is_on, some_since}
@@ -12,7 +12,7 @@ use Rattle.rcu_report.specs.Replica.{after_call}
 abbrev pub History : Type 0
 History = List Call
 
--- the replica after a history, of so many processors and this last number
+-- the replica after a history, for this number of processors and this last number
 abbrev pub after_calls : ℕ → Number → History → Replicated
 after_calls cpus last [] = at_first cpus last
 after_calls cpus last (call ∷ h) = after_call (after_calls cpus last h) call
@@ -51,9 +51,9 @@ starts cpu [] = false
 starts cpu (Begin set ∷ h) = is_in set cpu
 starts cpu (_ ∷ h) = starts cpu h
 
--- by this call the processor is heard in the grace period of this number: it reports the number, or
--- departs, or another replica is taken in that heard it in that grace period, so that it started
--- with the processor and awaits it no more
+-- this call makes the processor heard in the grace period of this number: it reports the number, or
+-- it departs, or another replica is merged that heard it in that grace period, which means that it
+-- started with the processor and no longer awaits it
 abbrev pub hears : ℕ → Number → Call → Bool
 hears cpu number (Report c n) = c == cpu && same_number n number
 hears cpu number (Depart c) = c == cpu
@@ -70,7 +70,7 @@ is_heard cpu number h = some_since begins (λ call earlier. hears cpu number cal
 abbrev pub awaits : ℕ → History → Bool
 awaits cpu h = starts cpu h && not (is_heard cpu (tag h) h)
 
--- the replica is as a history says
+-- the replica is as the history defines it
 pub record Represents (r : Replicated) (h : History) : Type 0 where
   pub ends : r.periods.ends ≡ count_by ends h
   pub running : r.periods.running ≡ running h

@@ -1,5 +1,5 @@
--- Replicas of one grace-period engine, which stay in the first epoch: what each call leaves, and
--- when it is refused.
+-- Replicas of one grace-period engine, which stay in the first epoch: the state after each call,
+-- and why a call is refused.
 use Rattle.std.specs.Prelude.{ℕ, ◌≡◌, ◌+◌, ◌-◌, ◌==◌, Bool, true, false, not, nat_lt, if◌then◌else◌}
 use Rattle.std.specs.Prelude.{List, [], ◌∷◌}
 use Rattle.std.specs.Prelude.{length, slice_set, replicate, None, Option}
@@ -26,7 +26,7 @@ pub record Replicated : Type 0 where
   pub awaited : List Bool
 
 -- a call: a grace period of a set begins, a processor reports a number or departs, the grace period
--- ends, what another replica heard is taken in
+-- ends, another replica is merged
 pub data Call : Type 0 where
   Begin : List Bool → Call
   Report : ℕ → Number → Call
@@ -43,15 +43,15 @@ at_first cpus last = record {
   awaited = replicate cpus false;
 }
 
--- how many processors there are
+-- the number of processors
 abbrev pub cpus_of : Replicated → ℕ
 cpus_of r = length r.awaited
 
--- where the latest grace period of a replica stands
+-- the latest grace period of a replica
 abbrev pub standing_of : Replicated → Standing
 standing_of r = standing (of_first_epoch r.tag) r.start_set r.awaited
 
--- no grace period began: the tag is the first one, and none started with a processor
+-- no grace period began: the tag is the first one, and its start set is empty
 pub record IsUnused (s : Standing) : Type 0 where
   pub tag : s.tag ≡ first_tag
   pub empty : s.start_set ≡ replicate (length s.awaited) false
@@ -61,8 +61,8 @@ abbrev pub latest_of : Periods → Number
 latest_of p =
     if p.running then number_of p else (if p.ends == 0 then 0 else number_at (p.ends - 1) true)
 
--- the answer to a report: stale while no grace period runs, whatever its number, else as the
--- awaited set's
+-- the answer to a report: stale while no grace period runs, whatever its number, else the answer of
+-- the awaited set
 abbrev pub answer_of : Replicated → ℕ → Number → Answer
 answer_of r cpu number =
     if r.periods.running then report_answer (of_first_epoch r.tag) r.awaited cpu
@@ -74,7 +74,7 @@ abbrev pub CanBeMade : Replicated → Call → Type 0
 CanBeMade r (Begin set) = length set ≡ cpus_of r
 CanBeMade r _ = Unit {0}
 
--- what is tested of a call, in order: a cause, and the fault that it is answered by
+-- the tests of a call, in order: each a cause and its fault
 abbrev pub causes : Replicated → Call → List (Bool × Fault)
 causes r (Begin set) =
     (r.periods.running, Running) ∷ (number_of r.periods == r.periods.last, Exhausted) ∷ []
@@ -87,9 +87,10 @@ causes r (Merge other) = (not (are_alike (standing_of r) (standing_of other)), N
 abbrev pub refusal : Replicated → Call → Option Fault
 refusal r call = first_fault (causes r call)
 
--- what an accepted call leaves: a beginning grace period awaits its set and has the new number as
--- its tag; a report clears as reports do while a grace period runs, and nothing else; who departs
--- is awaited no more; an end is counted; whom the other replica does not await is awaited no more
+-- the replica after an accepted call: a beginning grace period awaits its set and has the new
+-- number as its tag; while a grace period runs, a report clears its processor as reports do, and
+-- changes nothing else; a departed processor is no longer awaited; an end is counted; a processor
+-- that the other replica does not await is no longer awaited
 abbrev pub after_call : Replicated → Call → Replicated
 after_call r (Begin set) = record {
   periods = record r.periods { running = true };
@@ -109,9 +110,9 @@ after_call r End =
     record r { periods = record r.periods { ends = r.periods.ends + 1; running = false } }
 after_call r (Merge other) = record r { awaited = intersection r.awaited other.awaited }
 
--- what always holds: there is a flag for each processor, only processors of the start set are
--- awaited, the tag is the latest grace period's number, none was awaited before any, and none is
--- while no grace period runs
+-- the invariant: there is a flag for each processor, only processors of the start set are awaited,
+-- the tag is the latest grace period's number, and no processor is awaited before the first grace
+-- period or while none runs
 pub record IsSound (r : Replicated) : Type 0 where
   pub started : length r.start_set ≡ cpus_of r
   pub within : (cpu : ℕ) → is_in r.awaited cpu ≡ true → is_in r.start_set cpu ≡ true
@@ -119,8 +120,8 @@ pub record IsSound (r : Replicated) : Type 0 where
   pub fresh : r.tag ≡ 0 → r.start_set ≡ replicate (cpus_of r) false
   pub idle : r.periods.running ≡ false → (cpu : ℕ) → is_in r.awaited cpu ≡ false
 
--- where one replica may take in another, the other may take in this one, as it was or as it became,
--- and both await the same then
+-- if one replica may merge another, the other may merge it, as it was or as it became, and both
+-- await the same processors then
 pub record MergesBack (x y : Replicated) : Type 0 where
   pub both : refusal y (Merge x) ≡ None
   pub apart : (after_call x (Merge y)).awaited ≡ (after_call y (Merge x)).awaited

@@ -25,9 +25,9 @@ pub struct Report {
 /// The reports of one tag, as the set of their processors. Contracts see the tag and a flag for
 /// each processor.
 ///
-/// A batch gathers reports before they are delivered. A report that is added twice stands once.
-/// `new` and `join` cost a step a word of the set, and `apply` one a processor, and its
-/// reports.
+/// A batch gathers reports before they are delivered. A report that is added twice counts once.
+/// `new` and `join` cost a step for each word of the set; `apply` costs a step for each processor,
+/// and its reports.
 #[derive(Drop)]
 pub struct Batch {
     tag: Tag,
@@ -76,7 +76,7 @@ impl Batch {
         self.set.cpus()
     }
 
-    /// Whether a report of the processor is in the batch.
+    /// Returns whether a report of the processor is in the batch.
     pub fn contains(&self, cpu: u32) -> bool
         requires { cpu < length self.now.set }
         ensures { result ≡ is_in self.now.set cpu }
@@ -117,9 +117,9 @@ impl Batch {
         Ok(())
     }
 
-    /// Makes each of the reports, and returns how many processors they cleared. There are as many
-    /// processors in the batch as in the awaited set. It costs a step a processor, and a report of
-    /// each that is in the batch.
+    /// Delivers each of the reports, and returns how many processors they cleared. The batch is for
+    /// as many processors as the awaited set. Costs a step for each processor, and a report for
+    /// each processor in the batch.
     pub fn apply<A: Awaited>(&self, to: &mut A) -> u32
         requires { length (A.awaited to.old) ≡ length self.now.set }
         ensures count { result ≡ size_of (difference (A.awaited to.old) (A.awaited to.new)) }
@@ -134,8 +134,8 @@ impl Batch {
         cleared
     }
 
-    /// Makes the report of a processor, if it is in the batch, and returns how many processors it
-    /// cleared.
+    /// Delivers the report of a processor, if it is in the batch, and returns how many processors
+    /// it cleared.
     fn deliver<A: Awaited>(&self, to: &mut A, cpu: u32) -> u32
         requires there { cpu < length self.now.set }
         requires sized { length (A.awaited to.old) ≡ length self.now.set }
@@ -153,7 +153,7 @@ impl Batch {
     }
 }
 
-/// Makes a report, and returns whether its processor was awaited.
+/// Delivers a report, and returns whether its processor was awaited.
 fn clears<A: Awaited>(to: &mut A, cpu: u32, tag: Tag) -> bool
     requires { cpu < length (A.awaited to.old) }
     ensures cleared { result ≡ (same_tag tag (A.tag to.old) && is_in (A.awaited to.old) cpu) }

@@ -1,4 +1,4 @@
-//! What the definitions say of batches and of replicas.
+//! Laws of batches and of replicas.
 ghost use Rattle.std.specs.Prelude.{◌≡◌, ◌&&◌, [], ◌∷◌, ℕ, All, Bool, List, None, true};
 ghost use Rattle.rcu_seq.specs.Numbers.{Number, same_number};
 ghost use Rattle.rcu_seq.specs.declared.tag.Tag.{Tag};
@@ -10,8 +10,8 @@ ghost use Rattle.rcu_report.specs.History.{hears, is_heard, starts, tag};
 ghost use Rattle.rcu_report.specs.Replica.{Call, CanBeMade, IsSound, Merge, MergesBack};
 ghost use Rattle.rcu_report.specs.Replica.{Replicated, after_call, refusal};
 
-/// A batch leaves what its reports leave, one after another, in any order and any number of times:
-/// reports that have its tag, and whose processors are its set.
+/// A batch has the same effect as its reports one after another, in any order and any number of
+/// times, if they have its tag and their processors are its set.
 pub fn batch_leaves_what_its_reports_leave()
     ensures { (batch : Gathered) (number : Tag) (awaited : List Bool)
         → (reports : List (ℕ × Tag)) → All (λ report. report.1 ≡ batch.tag) reports
@@ -19,7 +19,7 @@ pub fn batch_leaves_what_its_reports_leave()
         → awaited_after_batch number awaited batch ≡ awaited_after_reports number awaited reports }
 {}
 
-/// The laws below speak of no call, and of one more wherever it could be made and is not refused.
+/// The laws below hold for no call, and for one call more if that could be made and is not refused.
 pub fn calls_are_accepted_one_by_one()
     ensures none { (cpus : ℕ) (last : Number) → AreAccepted cpus last [] }
     ensures more { (cpus : ℕ) (last : Number) (h : History) (call : Call)
@@ -27,8 +27,8 @@ pub fn calls_are_accepted_one_by_one()
         → refusal (after_calls cpus last h) call ≡ None → AreAccepted cpus last (call ∷ h) }
 {}
 
-/// After any accepted calls a replica is as the history of the calls says: it awaits the start set
-/// less those heard since. What always holds of replicas holds of it.
+/// After any accepted calls a replica is as the history of the calls defines it: it awaits the
+/// start set less the processors heard since. It also has the invariant of replicas.
 pub fn replica_is_as_its_history_says()
     ensures says { (cpus : ℕ) (last : Number) (h : History) → AreAccepted cpus last h
         → Represents (after_calls cpus last h) h }
@@ -36,8 +36,8 @@ pub fn replica_is_as_its_history_says()
         → IsSound (after_calls cpus last h) }
 {}
 
-/// A replica that takes in another hears whom that one has heard in the same grace period, ended or
-/// not.
+/// A replica that merges another one hears the processors that the other heard in the same grace
+/// period, ended or not.
 pub fn merging_takes_in_what_the_other_heard()
     ensures { (cpus : ℕ) (last : Number) (h : History) (cpu : ℕ) (number : Number)
         → AreAccepted cpus last h
@@ -45,9 +45,9 @@ pub fn merging_takes_in_what_the_other_heard()
         ≡ (same_number (tag h) number && (starts cpu h && is_heard cpu (tag h) h)) }
 {}
 
-/// Two replicas whose latest grace periods had one number and one start set, and in which the same
-/// processors of it were heard since, await the same ones, in whatever order the reports and
-/// departures came, however often, and whichever stale ones came between them.
+/// If the latest grace periods of two replicas had one number and one start set, and the replicas
+/// heard the same processors since, they await the same processors. The order of the reports and
+/// departures, their repetition, and stale ones among them make no difference.
 pub fn equally_heard_replicas_await_the_same()
     ensures { (cpus : ℕ) (last other : Number) (x y : History)
         → AreAccepted cpus last x → AreAccepted cpus other y → tag x ≡ tag y
@@ -56,8 +56,8 @@ pub fn equally_heard_replicas_await_the_same()
         → (after_calls cpus last x).awaited ≡ (after_calls cpus other y).awaited }
 {}
 
-/// Where a replica may take in another, the other may take in this one, as it was or as it became,
-/// and both await the same then.
+/// If a replica may merge another one, the other may merge it too, as it was or as it became, and
+/// afterwards both await the same processors.
 pub fn merged_replicas_await_the_same()
     ensures { (x y : Replicated) → refusal x (Merge y) ≡ None → MergesBack x y }
 {}

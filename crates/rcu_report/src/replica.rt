@@ -14,11 +14,12 @@ use rcu_seq::{Fault, Seq, Tag};
 use std::marker::Model;
 
 /// An awaited set with a counter: one of two or more replicas of one grace-period engine, which
-/// gather reports apart and are merged.
+/// gather reports separately and are merged.
 ///
 /// Contracts see the counter, and the awaited set's tag, start set and awaited set. The tag is the
-/// latest grace period's number, also after its end; nobody is awaited while no grace period runs.
-/// No call needs memory; each but `merge_from` costs what one call of the awaited set costs.
+/// latest grace period's number, also after its end; no processor is awaited while no grace period
+/// runs. No call needs memory. Each call but `merge_from` costs what one call of the awaited set
+/// costs.
 #[derive(Drop)]
 pub struct Replica<A: Awaited> {
     seq: Seq,
@@ -51,7 +52,8 @@ impl<A: Awaited> Model for Replica<A> {
 }
 
 impl<A: Awaited> Replica<A> {
-    /// No grace period began, and nobody is awaited. The awaited set is as it was made.
+    /// Returns a replica with no grace period yet, in which no processor is awaited. The awaited
+    /// set is as it was made.
     ///
     /// Fault `BadLast` (19): `last` is not a multiple of 4 in 4..=2^62.
     pub fn new(inner: A, last: u64) -> Result<Self, Fault>
@@ -65,10 +67,10 @@ impl<A: Awaited> Replica<A> {
         })
     }
 
-    /// A grace period begins, awaits the set, and returns its number, `4k + 1`. The set is one of
-    /// as many processors.
+    /// Begins a grace period that awaits the set, and returns its number, `4k + 1`. The set is one
+    /// of as many processors.
     ///
-    /// Faults: `Running` (8) where one runs; `Exhausted` (11) where the number is the last one.
+    /// Faults: `Running` (8) if one runs; `Exhausted` (11) if the number is the last one.
     pub fn begin(&mut self, set: &CpuSet) -> Result<u64, Fault>
         requires { length set.now ≡ cpus_of self.old }
         ensures number { IfOk result (λ number. number ≡ number_of self.new.periods) }
@@ -81,10 +83,10 @@ impl<A: Awaited> Replica<A> {
         Ok(number)
     }
 
-    /// A processor reports a quiescent state with the number that it had noted. While no grace
-    /// period runs each report is stale, else it does what [`Awaited::report`] says.
+    /// Delivers a processor's report of a quiescent state, with the number that it had noted. While
+    /// no grace period runs every report is stale; otherwise it does what [`Awaited::report`] says.
     ///
-    /// Fault `BadCpu` (1): there is no such processor.
+    /// Fault `BadCpu` (1): the processor does not exist.
     pub fn report(&mut self, cpu: u32, tag: u64) -> Result<Answer, Fault>
         ensures answer { IfOk result (λ answer. answer ≡ answer_of self.old cpu tag) }
         ensures fault { result_err result ≡ refusal self.old (Report cpu tag) }
@@ -100,7 +102,7 @@ impl<A: Awaited> Replica<A> {
         Ok(self.inner.report(cpu, Tag::of_first_epoch(tag)))
     }
 
-    /// A processor departs, and is awaited no more.
+    /// Takes a processor offline; it is no longer awaited.
     ///
     /// Faults: `BadCpu` (1); `BootStays` (12) for processor 0.
     pub fn depart(&mut self, cpu: u32) -> Result<(), Fault>
@@ -119,10 +121,10 @@ impl<A: Awaited> Replica<A> {
         Ok(())
     }
 
-    /// The grace period ends, and returns the new number. The awaited set keeps its tag and start
+    /// Ends the grace period, and returns the new number. The awaited set keeps its tag and start
     /// set.
     ///
-    /// Faults: `Idle` (9) where none runs; `Waiting` (10) where a processor is awaited.
+    /// Faults: `Idle` (9) if none runs; `Waiting` (10) if a processor is awaited.
     #[tactic(auto, using(crate::proofs::Awaiting::refused_while_awaited))]
     pub fn end(&mut self) -> Result<u64, Fault>
         ensures number { IfOk result (λ number. number ≡ number_of self.new.periods) }
@@ -130,16 +132,16 @@ impl<A: Awaited> Replica<A> {
         ensures state { OnOk result (self.new ≡ after_call self.old End) }
         ensures unchanged { OnErr result (self.new ≡ self.old) }
     {
-        // While no grace period runs nobody is awaited, so that the counter finds the first fault.
+        // No processor is awaited while no grace period runs, so the counter finds the first fault.
         if !self.inner.is_empty() {
             return Err(Fault::Waiting);
         }
         self.seq.end()
     }
 
-    /// Takes in what another replica of the same grace period has heard: it awaits then whom both
-    /// await, whether the grace period still runs here or there or not. It costs a step a
-    /// processor.
+    /// Merges another replica of the same grace period: this one then awaits only the processors
+    /// that both await, whether the grace period still runs in either of them or not. Costs a step
+    /// for each processor.
     ///
     /// Fault `NotAlike` (20): number of processors, tag or start set differ.
     pub fn merge_from<B: Awaited>(&mut self, other: &Replica<B>) -> Result<(), Fault>
@@ -167,7 +169,7 @@ impl<A: Awaited> Replica<A> {
         self.seq.value()
     }
 
-    /// Whether a grace period runs.
+    /// Returns whether a grace period runs.
     pub fn is_running(&self) -> bool
         ensures { result ≡ self.now.periods.running }
     {

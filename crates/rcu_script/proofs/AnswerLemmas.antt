@@ -35,7 +35,7 @@ answers_more size h (l ∷ ls) text mid line reply next a b = (
   answers_more size a.1 ls a.2 mid line reply next a.5 b,
 )
 
--- what answers a line answers each line of which the same is kept
+-- an answer to a line answers each line with the same kept bytes
 pub said_to : (size : Size) (h : History) (line whole reply : List ℕ) (next : History)
     (asked : Line Event)
     → kept_of line ≡ kept_of whole

@@ -1,4 +1,5 @@
--- A script whose line ran callbacks, or found the barrier done, ran as the laws of callbacks ask.
+-- If a line of a script ran callbacks, or found the barrier done, the script's run is one that the
+-- laws of callbacks need.
 use Rattle.std.proofs.Common.{◌≡◌, ◌==◌, ◌∙◌, ℕ, Bool, true, false, List, [], ◌∷◌, ◌++◌, refl, sym}
 use Rattle.std.proofs.Common.{ap, inl, inr, codes, append-nil, arith, get_or, if◌then◌else◌, subst}
 use Rattle.std.proofs.Common.{true≢false}
@@ -39,7 +40,7 @@ legal_after size run h e r q reached is legal =
 
 -- ---- a line that ran callbacks
 
--- the reply that tells what a run hands out
+-- the reply with the values that a run hands out
 abbrev pub ran : ℕ → ℕ → History → Reply
 ran cpu most h = reply.Ran (map (λ call. call.value) (handed_out cpu most h))
 
@@ -58,7 +59,7 @@ run_told size h cpu most r x more (inl is) text =
 run_told size h cpu most r x more (inr want) text =
     no_f (byte_at 0 (ap (λ (q : Reply). text_of q ++ x) (sym want.2) ∙ text))
 
--- a legal run, and what it hands out next, which the text tells
+-- a legal run, and the callbacks that it hands out next, which the text lists
 pub record RanAfter (size : Size) (cpu most : ℕ) (at_run : History) (text : List ℕ) : Type 0 where
   pub run : Run
   pub legal : IsLegalRun size ((event.Run cpu most, ran cpu most at_run) ∷ run)

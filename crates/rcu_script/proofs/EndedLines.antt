@@ -1,5 +1,5 @@
--- A script whose line was answered `last` ran as the law of the last report asks, and `end` is
--- answered `ended` where no fault is legal.
+-- If a line of a script was answered `last`, the script's run is one that the law of the last
+-- report needs. And `end` is answered `ended` if no fault is legal.
 use Rattle.std.proofs.Common.{◌≡◌, ◌≢◌, ◌∙◌, ◌+◌, ℕ, true, false, List, [], ◌∷◌, ◌++◌, refl, sym}
 use Rattle.std.proofs.Common.{ap, inl, inr, append-nil, arith, Option, Some, None}
 use Rattle.std.specs.Prelude.{nat_eq}

@@ -57,9 +57,9 @@ pair_text_begins p lines later text is =
     let more = pair_text_front p lines later text is in
     (more.0, sym more.1)
 
--- ---- what was written where a stream failed
+-- ---- the text written before a stream failed
 
--- the right text of the lines that were read begins with this one, and that is written
+-- the right text of the lines that were read begins with this one, which is written
 pub begun_reading : (right : List (List ℕ) → List ℕ) (ended later : List (List ℕ))
     (all text : List ℕ) (old new : Option (List ℕ))
     → lines_of all ≡ ended ++ later
@@ -69,8 +69,8 @@ pub begun_reading : (right : List (List ℕ) → List ℕ) (ended later : List (
 begun_reading right ended later all text old new lines more out =
     record { written = text; unwritten = more.0; split = ap right lines ∙ more.1; out = out }
 
--- the right text of a front of the lines that were read begins with this one, and a beginning of it
--- is written
+-- the right text of the first lines that were read begins with this one, of which a prefix is
+-- written
 pub begun_writing : (right : List (List ℕ) → List ℕ) (read front later behind : List (List ℕ))
     (all written unwritten : List ℕ) (old new : Option (List ℕ)) → lines_of all ≡ read ++ behind
     → read ≡ front ++ later

@@ -51,7 +51,7 @@ listed_no_end (item ∷ items) =
 
 -- ---- texts of one line
 
--- how a line ends that tells a number of an epoch
+-- the end of a line with a number of an epoch
 abbrev end_of_epoch : ℕ → List ℕ
 end_of_epoch epoch = if epoch == 0 then [] else codes " epoch " ++ (decimal epoch ++ [])
 
@@ -107,11 +107,11 @@ all_without test line none = λ k d within. go k d within _ refl
         let some : list_any test line ≡ true = list_any_at test line k d within e in
         absurd (cc)
 
--- a byte that may stand behind a number
+-- a byte that may follow a number
 abbrev pub is_break : ℕ → Bool
 is_break b = nat_le b 32
 
--- a number is the first piece of what begins with it and such a byte
+-- a number is the first part of a text that begins with it and such a byte
 pub first_number : (n b : ℕ) (more : List ℕ) → is_break b ≡ true
     → slice_split is_break (decimal n ++ b ∷ more) ≡ decimal n ∷ slice_split is_break more
 first_number n b more breaks =
@@ -120,7 +120,7 @@ first_number n b more breaks =
     (decimal_without is_break (λ d low. grind (arith, nat_tests)) n))
     breaks
 
--- the line is the first piece of what begins with the text
+-- the line is the first part of bytes that begin with the text
 pub first_piece : (line text more : List ℕ) → OneLine line text
     → slice_split is_end (text ++ more) ≡ line ∷ slice_split is_end more
 first_piece line text more one =

@@ -1,4 +1,4 @@
--- Both replicas are what their accepted calls make them.
+-- Both replicas are as their accepted calls define them.
 use Rattle.std.proofs.Common.{◌≡◌, ℕ, Bool, true, false, not, List, [], ◌∷◌, Option, Some, None}
 use Rattle.std.proofs.Common.{refl, ap, ◌∙◌, subst, codes, if◌then◌else◌}
 use Rattle.std.specs.List.{list_all}
@@ -26,12 +26,12 @@ use Rattle.rcu_script.specs.declared.pair.event.PairAsk.{PairAsk}
 use Rattle.rcu_script.specs.declared.pair.event.PairAsk.TheVariants.{Same, Of}
 use Rattle.rcu_node.proofs.CpuSetLemmas.{length-listed, same_when_all_agree}
 
--- a replica is what its calls make it, and each of them was accepted
+-- a replica is as its calls define it, and each of them was accepted
 pub record IsMade (cpus : ℕ) (last : Number) (r : Replicated) (h : History) : Type 0 where
   pub is : r ≡ after_calls cpus last h
   pub accepted : AreAccepted cpus last h
 
--- with one call more, where that is accepted
+-- with one call more, if that is accepted
 one_more : (cpus : ℕ) (last : Number) (mine left : Replicated) (made : Call)
     (refused : Option Fault) (h : History)
     → IsMade cpus last mine h

@@ -105,7 +105,8 @@ replies_more p (l ∷ ls) line =
     (replies_more (pair_after_line p (pair_asked_by l)) ls line)
     ∙ sym (append_assoc (answer_to_line p (pair_asked_by l)) _ _)
 
--- since it stood as this pair, the lines were answered by the text, and it stands as that one now
+-- since the state was this pair, the lines were answered by the text, and the state is that pair
+-- now
 abbrev pub Past : Pair → Pair → List (List ℕ) → List ℕ → Type 0
 Past opened now lines text = (now ≡ pair_after opened lines) × (text ≡ pair_replies opened lines)
 

@@ -104,7 +104,7 @@ pub texts_no : (text : ℕ → List ℕ) (p : ℕ → Bool) (n : ℕ)
 texts_no text p n fails = ap (flat_map text) (filter-range_more p n
     ∙ rw fails (append-nil (filter p (range_with_len 0 n))))
 
--- the texts of the processors below a number stand before those of all
+-- the texts of the processors below a number come before those of all
 pub texts_front : (text : ℕ → List ℕ) (p : ℕ → Bool) (n more : ℕ)
     → (later : List ℕ)
     × (flat_map text (filter p (range_with_len 0 (n + more)))

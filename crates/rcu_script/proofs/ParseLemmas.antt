@@ -1,4 +1,4 @@
--- A line that asks for an event is printable, so its bytes need no look of their own.
+-- A line that asks for an event is printable, so its bytes need no test of their own.
 use Rattle.std.proofs.Common.{◌≡◌, ◌≤◌, ◌&&◌, ◌∙◌, ℕ, Bool, true, List, [], ◌∷◌, length, Option}
 use Rattle.std.proofs.Common.{Some, None, refl, sym, ap, arith}
 use Rattle.std.specs.List.{list_all}

@@ -171,7 +171,7 @@ polled_fits line e asks = go (is_well_formed line) asks
     go true asks = fits_line (words_of line) e asks
     go false asks = cc
 
--- ---- the cookie in a line is the one that was told
+-- ---- the cookie in a line is the one that was printed
 
 -- a number of more digits than are printed fills them all
 long_digits : (k n : ℕ) (acc : List ℕ) → 10 ^ k ≤ n
@@ -212,7 +212,7 @@ abbrev head_of : List (List ℕ) → List ℕ
 head_of [] = []
 head_of (line ∷ lines) = line
 
--- a number that stands before a space or a line end, as one that fits 64 bits does, is that one
+-- a number before a space or a line end, printed as one that fits 64 bits, is that one
 number_alike : (n k b c : ℕ) (x y : List ℕ) → k < 2 ^ 64 → is_break b ≡ true → is_break c ≡ true
     → decimal n ++ b ∷ x ≡ decimal k ++ c ∷ y → n ≡ k
 number_alike n k b c x y fits first second same =
@@ -234,7 +234,7 @@ epoch_breaks epoch x = go (epoch == 0)
     go true = record { byte = 10; more = x; breaks = refl; is = refl }
     go false = record { byte = 32; more = _; breaks = refl; is = refl }
 
--- equal ends of lines tell of one epoch
+-- equal ends of lines are of one epoch
 epoch_alike : (e f : ℕ) (x y : List ℕ) → f < 2 ^ 64 → epoch_text e ++ x ≡ epoch_text f ++ y → e ≡ f
 epoch_alike e f x y fits same = go (e == 0) (f == 0) refl refl same
   where

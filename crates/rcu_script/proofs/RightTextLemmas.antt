@@ -72,7 +72,7 @@ abbrev says_memory : Reply → Bool
 says_memory (reply.Fault f) = is_memory f
 says_memory _ = false
 
--- no cause stands for want of memory
+-- no cause has the fault of refused memory
 no_memory_cause : (s : Size) (v : Situation) (e : Event)
     → list_any (λ (cause : Bool × Fault). is_memory cause.1) (causes s v e) ≡ false
 no_memory_cause s v event.Turn = refl

@@ -1,4 +1,4 @@
--- What a run over the lines leaves, as what the whole run leaves.
+-- The end of a run over the lines, as the end of the whole run.
 use Rattle.std.proofs.Common.{◌≡◌, ◌++◌, ℕ, List, Option, Some, None, Ok, Err, IfSome}
 use Rattle.rcu_seq.specs.declared.fault.Fault.{Fault}
 use Rattle.rcu_text.specs.Lines.{cut_of, lines_of, lines_read}
@@ -8,13 +8,13 @@ use Rattle.rcu_text.specs.declared.line_loop.StreamFault.TheVariants as stream
 use Rattle.rcu_script.specs.RunEnds.{RunsFromOpening, fault_of}
 use Rattle.rcu_script.specs.declared.runs.RunFault.{RunFault}
 
--- what holds of lines and a text
+-- a relation of lines and a text
 abbrev Past : Type 1
 Past = List (List ℕ) → List ℕ → Type 0
 
 -- ---- which texts answer
 
--- what answers by one relation answers by any that it implies
+-- an answer by one relation is one by any that it implies
 answered_by : (P Q : Past)
     → ((l : List (List ℕ)) (t : List ℕ) → P l t → Q l t)
     → (lines : List (List ℕ)) (old new : Option (List ℕ))

@@ -1,4 +1,4 @@
--- What a script answers is a legal run, and is answered in turn.
+-- An answer of a script is a legal run, and answers in turn.
 use Rattle.std.proofs.Common.{◌≡◌, ℕ, suc, List, [], ◌∷◌, ◌++◌, length, map, refl, sym, ap, ap₂}
 use Rattle.std.proofs.Common.{◌∙◌, arith, append_assoc, subst}
 use Rattle.rcu_seq.specs.declared.fault.Fault.TheVariants as fault
@@ -25,18 +25,18 @@ pub record LegalRunTo (size : Size) (end : History) : Type 0 where
   pub legal : IsLegalRun size run
   pub reached : history run ≡ end
 
--- a legal run that goes on from another one, to this history
+-- a legal run that continues another one, to this history
 pub record LegalRunFrom (size : Size) (earlier : Run) (end : History) : Type 0 where
   pub later : Run
   pub legal : IsLegalRun size (later ++ earlier)
   pub reached : history (later ++ earlier) ≡ end
 
--- a run goes on by nothing
+-- the empty continuation of a run
 no_further : (size : Size) (earlier : Run) (h : History)
     → IsLegalRun size earlier → history earlier ≡ h → LegalRunFrom size earlier h
 no_further size earlier h legal reached = record { later = []; legal = legal; reached = reached }
 
--- what goes on from a run that goes on
+-- a continuation of a continued run
 further_still : (size : Size) (earlier more : Run) (end : History)
     → LegalRunFrom size (more ++ earlier) end → LegalRunFrom size earlier end
 further_still size earlier more end from =
@@ -89,7 +89,7 @@ lines_from_first size lines text end a =
 
 -- ---- answers are printed runs
 
--- a line before others that are answered by a printed run, wherever that goes on from
+-- a line before others that are answered by a printed run, whichever run that continues
 line_printed : (size : Size) (earlier : Run) (h next end : History) (line : Line Event)
     (lines : List (Line Event)) (first rest : List ℕ)
     → IsLegalRun size earlier
@@ -146,7 +146,7 @@ pub first_lines_printed : (size : Size) (lines : List (List ℕ)) (text : List �
     → Answers size [] lines text end → IsPrintedRun size [] (map asked_by lines) text end
 first_lines_printed size lines text end a = lines_printed size [] [] end lines text tt refl a
 
--- a run that a legal one goes on from is legal
+-- a run that a legal one continues is legal
 legal_before : (size : Size) (events : List Event) (replies : List Reply) (run : Run)
     → IsLegalRun size (onto events replies run) → IsLegalRun size run
 legal_before size [] replies run legal = legal
@@ -154,7 +154,7 @@ legal_before size (e ∷ events) [] run legal = legal
 legal_before size (e ∷ events) (r ∷ replies) run legal =
     (legal_before size events replies ((e, r) ∷ run) legal).1
 
--- the answer to the first of some lines, and the run that goes on from it
+-- the answer to the first of some lines, and the run that continues it
 record PrintedFirst (size : Size) (h : History) (line : Line Event) (lines : List (Line Event))
     (text : List ℕ) (end : History) : Type 0 where
   pub first : List ℕ

@@ -1,4 +1,4 @@
--- A line that is put in parts, once there is room for it.
+-- A line that is put in parts, after room was made for it.
 use Rattle.std.proofs.Common.{◌≡◌, ◌∙◌, ◌++◌, ℕ, List, [], ap, append_assoc, decimal, subst}
 use Rattle.rcu_text.specs.Outputs.{Out, Sends, after_put_text}
 use Rattle.rcu_text.specs.Texts.{text_and_number}

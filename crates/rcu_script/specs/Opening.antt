@@ -1,4 +1,4 @@
--- What is tested when a run opens.
+-- The tests of the opening of a run.
 use Rattle.std.specs.Prelude.{ℕ, ◌==◌, ◌&&◌, ◌||◌, not, Bool, Option, Some, if◌then◌else◌}
 use Rattle.rcu_seq.specs.Numbers.{Number}
 use Rattle.rcu_seq.specs.declared.fault.Fault.{Fault}
@@ -20,7 +20,7 @@ abbrev pub opening_fault : Setup → Option Fault
 opening_fault setup = if not (is_offered setup.leaf setup.inner) then Some BadFanout
     else opening_refusal setup.leaf setup.inner setup.cpus setup.last
 
--- the size of what opens, of which a setup does not say how many callbacks may be queued
+-- the size of the opened engine, for which a setup sets no limit of callbacks
 abbrev pub opened_size : ℕ → Number → Size
 opened_size cpus last = record { cpus = cpus; last = last; most = most_queued }
 

@@ -17,7 +17,7 @@ use Rattle.rcu_script.specs.declared.pair.event.PairEvent.TheVariants.{Awaits, M
 use Rattle.rcu_script.specs.declared.pair.event.PairAsk.{PairAsk}
 use Rattle.rcu_script.specs.declared.pair.event.PairAsk.TheVariants.{Of}
 
--- the call that an event makes of a replica beside another one; listing makes none
+-- the call that an event makes of a replica of a pair; listing makes none
 abbrev pub call_of : Replicated → Replicated → PairEvent → Option Call
 call_of mine its (Begin cpus) = Some (call.Begin (set_of (cpus_of mine) cpus))
 call_of mine its (Report cpu tag) = Some (call.Report cpu tag)
@@ -26,7 +26,7 @@ call_of mine its End = Some call.End
 call_of mine its Awaits = None
 call_of mine its Merge = Some (call.Merge its)
 
--- the calls so far, and one more where it is made and not refused
+-- the calls so far, and one more if it is made and not refused
 abbrev pub calls_with : Option Fault → Option Call → History → History
 calls_with (Some fault) made h = h
 calls_with None None h = h
@@ -52,6 +52,6 @@ calls_after p (line ∷ lines) c =
     calls_after (pair_after_line p (pair_asked_by line)) lines
     (calls_after_line p (pair_asked_by line) c)
 
--- the accepted calls that lines make of two fresh replicas of a size
+-- the accepted calls that lines make on two fresh replicas of a size
 abbrev pub calls_of : Size → List (List ℕ) → Calls
 calls_of size lines = calls_after (pair_at size) lines (record { a = []; b = [] })

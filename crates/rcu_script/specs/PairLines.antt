@@ -1,4 +1,4 @@
--- What a line of a pair asks for.
+-- The requests of a pair's lines.
 use Rattle.std.specs.Prelude.{ℕ, List, [], ◌∷◌, codes, if◌then◌else◌, Option, Some, None}
 use Rattle.std.specs.Str.{bytes_eq}
 use Rattle.std.specs.Option.{option_map_or}
@@ -21,27 +21,27 @@ side_of name =
     then Some A
     else (if bytes_eq name (codes "b") then Some B else None)
 
--- a processor before those of the words behind it, where these are processors
+-- a processor before those of the words behind it, if these are processors
 abbrev pub before : ℕ → Option (List ℕ) → Option (List ℕ)
 before cpu None = None
 before cpu (Some cpus) = Some (cpu ∷ cpus)
 
--- the processors that words list, where each word is a number
+-- the processors that words list, if each word is a number
 abbrev pub named_cpus : List (List ℕ) → Option (List ℕ)
 named_cpus [] = Some []
 named_cpus (word ∷ words) =
     option_map_or (λ n. before (cpu_of n) (named_cpus words)) (number_in_word word) None
 
--- `begin` stands before one processor or more
+-- `begin` comes before one or more processors
 abbrev pub begin_in_words : List (List ℕ) → Option PairEvent
 begin_in_words words = option_map_or (λ cpus. Some (Begin cpus)) (named_cpus words) None
 
--- `depart` stands before a processor alone
+-- `depart` comes before exactly one processor
 abbrev pub depart_in_words : List ℕ → List (List ℕ) → Option PairEvent
 depart_in_words word [] = option_map_or (λ n. Some (Depart (cpu_of n))) (number_in_word word) None
 depart_in_words word (more ∷ words) = None
 
--- `report` stands before a processor and a number
+-- `report` comes before a processor and a number
 abbrev pub report_in_words : List ℕ → List (List ℕ) → Option PairEvent
 report_in_words word [] = None
 report_in_words word (tag ∷ []) =
@@ -49,7 +49,7 @@ report_in_words word (tag ∷ []) =
     (number_in_word word) None
 report_in_words word (tag ∷ more ∷ words) = None
 
--- the event of a name that stands alone
+-- the event of a name without further words
 abbrev pub pair_event_alone : List ℕ → Option PairEvent
 pair_event_alone name =
     if bytes_eq name (codes "end") then Some End
@@ -66,7 +66,7 @@ pair_event_of name (word ∷ words) =
     else (if bytes_eq name (codes "report") then report_in_words word words
     else None))
 
--- what a first word and the words behind it ask for: `same` alone, or a replica's name before an
+-- the request of a first word and the words behind it: `same` alone, or a replica's name before an
 -- event's words
 abbrev pub pair_ask_of : List ℕ → List (List ℕ) → Option PairAsk
 pair_ask_of first [] = if bytes_eq first (codes "same") then Some Same else None
@@ -75,6 +75,6 @@ pair_ask_of first (name ∷ words) =
     (λ side. option_map_or (λ event. Some (Of side event)) (pair_event_of name words) None)
     (side_of first) None
 
--- what a line of a pair asks for
+-- the request of a pair's line
 abbrev pub pair_asked_by : List ℕ → Line PairAsk
 pair_asked_by line = line_by pair_ask_of line

@@ -1,4 +1,4 @@
--- Two replicas of one grace-period engine: what their lines ask of them, and what these leave.
+-- Two replicas of one grace-period engine: the events of their lines, and the replicas after them.
 use Rattle.std.specs.Prelude.{ℕ, ◌==◌, Bool, not, nat_lt, if◌then◌else◌, List, Option, Some, None}
 use Rattle.std.specs.List.{list_all, list_any}
 use Rattle.rcu_seq.specs.Seq.{number_of}
@@ -41,12 +41,12 @@ abbrev pub with_own : Side → Pair → Replicated → Pair
 with_own A p r = record p { a = r }
 with_own B p r = record p { b = r }
 
--- the set of the listed processors, in whatever order they stand and however often
+-- the set of the listed processors, in any order and with any repetitions
 abbrev pub set_of : ℕ → List ℕ → List Bool
 set_of n cpus = listed n (λ cpu. list_any (λ c. c == cpu) cpus)
 
--- why a begin of the listed processors is refused, if it is: one of them is none, or else as the
--- replica's begin
+-- why a begin of the listed processors is refused, if it is: one of them does not exist, or else as
+-- for the replica's begin
 abbrev pub pair_begin_refusal : Replicated → List ℕ → Option Fault
 pair_begin_refusal mine cpus =
     if not (list_all (λ c. nat_lt c (cpus_of mine)) cpus) then Some BadCpu
@@ -61,7 +61,7 @@ event_refusal mine its End = refusal mine call.End
 event_refusal mine its Awaits = None
 event_refusal mine its Merge = refusal mine (call.Merge its)
 
--- what an accepted event leaves: what the replica's call does; listing changes nothing
+-- the replica after an accepted event, as after its call; listing changes nothing
 abbrev pub after_event : Replicated → Replicated → PairEvent → Replicated
 after_event mine its (Begin cpus) = after_call mine (call.Begin (set_of (cpus_of mine) cpus))
 after_event mine its (Report cpu tag) = after_call mine (call.Report cpu tag)
@@ -70,7 +70,7 @@ after_event mine its End = after_call mine call.End
 after_event mine its Awaits = mine
 after_event mine its Merge = after_call mine (call.Merge its)
 
--- the reply to an accepted event, by what it leaves
+-- the reply to an accepted event, by the replica after it
 abbrev pub event_reply : Replicated → Replicated → PairEvent → PairReply
 event_reply mine its (Begin cpus) =
     let left = after_event mine its (Begin cpus) in

@@ -26,7 +26,7 @@ use Rattle.rcu_script.specs.declared.pair.event.PairReply.TheVariants.{Ended, Aw
 abbrev pub members_of : List Bool → List ℕ
 members_of set = which (length set) (is_in set)
 
--- the line that says a reply of a replica that awaits this set
+-- the line of a reply of a replica that awaits this set
 abbrev pub pair_text : List Bool → PairReply → List ℕ
 pair_text awaited (Begun n cpus) = text_of (say.Begun n cpus)
 pair_text awaited (Answer answer) = text_of (say.Answer answer)
@@ -35,7 +35,7 @@ pair_text awaited (Ended n) = text_of (say.Ended n)
 pair_text awaited Awaits = text_of (say.Awaits (members_of awaited))
 pair_text awaited (Merged n) = numbered_text (codes "merged ") n
 
--- the line that says whether both replicas await the same
+-- the line that says whether both replicas await the same processors
 abbrev pub compared_text : Bool → List ℕ
 compared_text true = codes "same\n"
 compared_text false = codes "differ\n"
@@ -44,7 +44,7 @@ compared_text false = codes "differ\n"
 abbrev pub same_text : Pair → List ℕ
 same_text p = compared_text (same_set p.a.awaited p.b.awaited)
 
--- the line that says a fault, or else the reply of a replica that awaits this set
+-- the line of a fault, or else of the reply of a replica that awaits this set
 abbrev pub outcome_text : Option Fault → List Bool → PairReply → List ℕ
 outcome_text None awaited reply = pair_text awaited reply
 outcome_text (Some fault) awaited reply = text_of (say.Fault fault)

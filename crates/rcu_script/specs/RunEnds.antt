@@ -1,5 +1,4 @@
--- How a run ends, from its opening on. Which texts answer which lines is a relation `IsText`
--- throughout.
+-- How a run ends, from its opening on. A relation `IsText` gives the texts that answer lines.
 use Rattle.std.specs.Prelude.{◌≡◌, ℕ, List, Option, None, Result, Ok, Err}
 use Rattle.rcu_seq.specs.Memory.{tested_fault}
 use Rattle.rcu_seq.specs.declared.fault.Fault.{Fault}
@@ -14,8 +13,8 @@ abbrev pub fault_of : StreamFault → RunFault
 fault_of stream.Read = Read
 fault_of stream.Write = Write
 
--- how a run ends, where this is the first fault that the tests of its opening find: where it is
--- refused, nothing was read or written
+-- how a run ends, if this is the first fault that the tests of its opening find: if it is refused,
+-- nothing was read or written
 abbrev pub RunsFromOpening : Result (Unit {0}) RunFault
     → Option Fault → (List (List ℕ) → List ℕ → Type 0) → Ends → Ends → Type 0
 RunsFromOpening (Ok x) first IsText old new = (first ≡ None) × Finished IsText old new

@@ -20,9 +20,9 @@ use Rattle.rcu_script.specs.ScriptTexts.{text_of}
 use Rattle.rcu_script.specs.declared.runs.RunFault.{RunFault}
 use Rattle.rcu_script.specs.declared.runs.Setup.{Setup}
 
--- the text answers one line after a history, and the history goes on to the next one: nothing
--- answers a blank line, `fault 21` a malformed one, and the text of a legal reply a line that asks
--- for an event
+-- the text answers one line after a history, which becomes the next history: a blank line has no
+-- answer, `fault 21` answers a malformed one, and the text of a legal reply answers a line that
+-- asks for an event
 abbrev pub AnswersLine : Size → History → Line Event → List ℕ → History → Type 0
 AnswersLine size h Blank text next = (text ≡ []) × (next ≡ h)
 AnswersLine size h Malformed text next = (text ≡ text_of (reply.Fault fault.BadLine)) × (next ≡ h)
@@ -43,7 +43,7 @@ Answers size h (line ∷ lines) text end =
     × (text ≡ first ++ rest)
     × Answers size next lines rest end
 
--- the reply to a line, where memory is not wanted
+-- the reply to a line, if memory is not refused
 abbrev pub reply_to : Size → History → Line Event → List ℕ
 reply_to size h Blank = []
 reply_to size h Malformed = text_of (reply.Fault fault.BadLine)
@@ -55,7 +55,7 @@ next_after size h Blank = h
 next_after size h Malformed = h
 next_after size h (Ask event) = with_event h event (answer size (situation h) event)
 
--- the replies to the lines, where memory is never wanted
+-- the replies to the lines, if memory is never refused
 abbrev pub replies : Size → History → List (List ℕ) → List ℕ
 replies size h [] = []
 replies size h (line ∷ lines) =
@@ -65,14 +65,14 @@ replies size h (line ∷ lines) =
 abbrev pub wants_memory : List ℕ → Bool
 wants_memory text = list_any (bytes_eq (codes "fault 16")) (lines_of text)
 
--- the text answers the lines from the first event on; where no line of it is `fault 16`, it is the
--- one right text
+-- the text answers the lines from the first event on; if no line of it is `fault 16`, it is the one
+-- right text
 pub record IsAnswer (size : Size) (lines : List (List ℕ)) (text : List ℕ) : Type 0 where
   pub end : History
   pub answers : Answers size [] lines text end
   pub exact : wants_memory text ≡ false → text ≡ replies size [] lines
 
--- how a run of a setup ends: what is written is an answer to the lines
+-- how a run of a setup ends: the written text is an answer to the lines
 abbrev pub RunsScript : Result (Unit {0}) RunFault → Setup → Ends → Ends → Type 0
 RunsScript result setup old new =
     RunsFromOpening result (opening_fault setup) (IsAnswer (size_of_setup setup)) old new

@@ -1,4 +1,4 @@
--- What a line of a script asks for.
+-- The events of a script's lines.
 use Rattle.std.specs.Prelude.{ℕ, ◌-◌, ◌^◌, List, [], ◌∷◌, min, codes, if◌then◌else◌, Option, Some}
 use Rattle.std.specs.Prelude.{None}
 use Rattle.std.specs.Str.{bytes_eq}
@@ -13,12 +13,12 @@ use Rattle.rcu_text.specs.Lines.{line_by}
 use Rattle.rcu_text.specs.Words.{number_in_word}
 use Rattle.rcu_text.specs.declared.line_shape.Line.{Line}
 
--- the processor of a number: one that does not fit 32 bits is as little a processor as the greatest
+-- the processor of a number: a number that does not fit 32 bits is no processor, like the greatest
 -- that does
 abbrev pub cpu_of : ℕ → ℕ
 cpu_of n = min n (2 ^ 32 - 1)
 
--- the event of a name that stands alone
+-- the event of a name without further words
 abbrev pub event_alone : List ℕ → Option Event
 event_alone name =
     if bytes_eq name (codes "begin") then Some Begin
@@ -32,7 +32,7 @@ event_alone name =
     else (if bytes_eq name (codes "renumber") then Some Renumber
     else None))))))))
 
--- the event of a name that stands before a processor
+-- the event of a name and a processor
 abbrev pub event_with_cpu : List ℕ → ℕ → Option Event
 event_with_cpu name cpu =
     if bytes_eq name (codes "enter") then Some (Enter cpu)
@@ -48,8 +48,8 @@ event_with_cpu name cpu =
     else (if bytes_eq name (codes "scan") then Some (Scan cpu)
     else None))))))))))
 
--- the event of a name that stands before a number: a report's place, the number of a cookie of the
--- first epoch, or else a processor
+-- the event of a name and a number: a report's place, the number of a cookie of the first epoch, or
+-- else a processor
 abbrev pub event_with_number : List ℕ → ℕ → Option Event
 event_with_number name n =
     if bytes_eq name (codes "deliver") then Some (Deliver n)
@@ -60,8 +60,8 @@ event_with_number name n =
 abbrev pub event_with_word : List ℕ → List ℕ → Option Event
 event_with_word name word = option_map_or (event_with_number name) (number_in_word word) None
 
--- the event of a name that stands before two numbers: a processor and a callback's value, a
--- processor and how many run at most, or a cookie's number and its epoch
+-- the event of a name and two numbers: a processor and a callback's value, a processor and how many
+-- run at most, or a cookie's number and its epoch
 abbrev pub event_with_numbers : List ℕ → ℕ → ℕ → Option Event
 event_with_numbers name first second =
     if bytes_eq name (codes "queue") then Some (Queue (cpu_of first) second)
@@ -83,6 +83,6 @@ event_of name (word ∷ []) = event_with_word name word
 event_of name (word ∷ next ∷ []) = event_with_words name word next
 event_of name (word ∷ next ∷ more ∷ words) = None
 
--- what a line asks for
+-- the event that a line asks for
 abbrev pub asked_by : List ℕ → Line Event
 asked_by line = line_by event_of line

@@ -19,7 +19,7 @@ events_of [] = []
 events_of (Ask event ∷ lines) = event ∷ events_of lines
 events_of (_ ∷ lines) = events_of lines
 
--- what is printed where these are the replies to the events that lines ask for: nothing for a blank
+-- the printed text, if these are the replies to the events that lines ask for: nothing for a blank
 -- line, `fault 21` for a malformed one, and for any other the text of its reply
 abbrev pub text_of_replies : List (Line Event) → List Reply → List ℕ
 text_of_replies [] replies = []
@@ -29,7 +29,7 @@ text_of_replies (Malformed ∷ lines) replies =
 text_of_replies (Ask event ∷ lines) [] = []
 text_of_replies (Ask event ∷ lines) (r ∷ replies) = text_of r ++ text_of_replies lines replies
 
--- a run goes on to this history by the events that lines ask for, with a legal reply to each, and
+-- a run reaches this history by the events that lines ask for, with a legal reply to each, and
 -- these print to the text
 pub record IsPrintedRun (size : Size) (earlier : Run) (lines : List (Line Event)) (text : List ℕ)
     (end : History) : Type 0 where

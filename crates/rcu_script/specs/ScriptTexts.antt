@@ -17,12 +17,12 @@ use Rattle.rcu_core.specs.declared.reply.Reply.TheVariants.{BarDone, BarWaits, R
 use Rattle.rcu_core.specs.declared.reply.Reply.TheVariants.{Awake, Fault}
 use Rattle.rcu_text.specs.Texts.{numbered_text, space_and_number}
 
--- what a processor noted: it is needed where the processor is awaited
+-- the noted number: it is needed if the processor is awaited
 abbrev pub noted_text : ℕ → Bool → List ℕ
 noted_text n true = codes "noted " ++ (decimal n ++ codes " needed\n")
 noted_text n false = codes "noted " ++ (decimal n ++ codes " clear\n")
 
--- the end of a line that tells a number of an epoch: the epoch, where that is not the first one
+-- the end of a line with a number of an epoch: the epoch, if it is not the first one
 abbrev pub epoch_text : ℕ → List ℕ
 epoch_text epoch = if epoch == 0 then codes "\n" else numbered_text (codes " epoch ") epoch
 
@@ -32,7 +32,7 @@ made_text place report =
     codes "report " ++ (decimal place ++ (codes " cpu " ++ (decimal report.cpu
     ++ (codes " tag " ++ (decimal report.tag.number ++ epoch_text report.tag.epoch)))))
 
--- the word for what a report did, or a scan
+-- the word for the answer to a report or a scan
 abbrev pub answer_text : Answer → List ℕ
 answer_text Taken = codes "taken\n"
 answer_text Last = codes "last\n"
@@ -63,13 +63,13 @@ abbrev pub tended_text : ℕ → ℕ → List ℕ
 tended_text done waiting =
     codes "tended " ++ (decimal done ++ (codes " " ++ (decimal waiting ++ codes "\n")))
 
--- the word for what a visit did
+-- the word for the result of a visit
 abbrev pub visited_text : Visit → List ℕ
 visited_text Marked = codes "marked\n"
 visited_text Empty = codes "empty\n"
 visited_text Already = codes "already\n"
 
--- the line that says a reply
+-- the line of a reply
 abbrev pub text_of : Reply → List ℕ
 text_of (Depth depth) = numbered_text (codes "depth ") depth
 text_of (Noted n needed) = noted_text n needed

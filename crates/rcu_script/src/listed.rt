@@ -1,4 +1,4 @@
-//! What a reply lists.
+//! The lists of replies.
 ghost use Rattle.std.specs.Prelude.{◌≡◌, ◌==◌, ◌≤◌, ℕ, List, flat_map, length};
 ghost use Rattle.rcu_text.specs.Outputs.{Puts};
 ghost use Rattle.rcu_text.specs.Texts.{space_and_number};
@@ -7,12 +7,12 @@ ghost use Rattle.rcu_script.specs.ScriptTexts.{listed_text};
 use rcu_core::{CpuList, ValueList};
 use rcu_text::{Failed, Output, put_line, put_spaced};
 
-/// Numbers that stand behind the word of a reply.
+/// Numbers behind the word of a reply.
 pub trait Listed {
     /// The numbers, in order.
     ghost items: { Self → List ℕ };
 
-    /// Whether there is none.
+    /// Returns whether the list is empty.
     fn is_empty(&self) -> bool
         ensures { result ≡ (length (items self.now) == 0) };
 
@@ -22,7 +22,7 @@ pub trait Listed {
             (flat_map space_and_number (items self.now)) };
 }
 
-/// Prints a word and what is listed behind it, or `none`, a step a byte.
+/// Prints a word and the numbers of a list behind it, or `none`. Costs a step for each byte.
 pub fn put_listed<L: Listed, O: Output>(out: &mut O, word: &[u8], listed: &L) -> Result<(), Failed>
     requires { length word.now ≤ 128 }
     ensures { Puts result (O.out out.old) (O.out out.new)

@@ -1,8 +1,8 @@
-//! The pairs of fanouts that the program offers: the one place where numbers choose a type.
+//! The pairs of fanouts that the program offers. Only here do numbers choose a type.
 
-/// Calls a function over the tree of two fanouts, which stand for the `..` of its type. What is
-/// written behind the call stands behind it there. Fanouts that are not offered are refused by
-/// fault `BadFanout` (18).
+/// Calls a function over the tree of two fanouts, which replace the `..` of its type. The arguments
+/// behind the call are passed on. Fanouts that are not offered are refused by fault `BadFanout`
+/// (18).
 macro_rules! over_offered_tree {
     (
         $leaf:expr,

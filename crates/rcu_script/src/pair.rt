@@ -1,4 +1,4 @@
-//! Pairs: two replicas of one grace-period engine, which hear of each other by merges.
+//! Pairs: two replicas of one grace-period engine, which exchange reports by merges.
 
 pub mod event;
 pub mod laws;

@@ -1,20 +1,20 @@
-//! How a run is made, and why it stopped.
+//! The setup of a run, and why it stopped.
 
 use rcu_seq::Fault;
 use rcu_text::StreamFault;
 use thiserror::Error;
 
-/// How a run's machine is made. Opening tests the ranges.
+/// The setup of a run's machine. The opening tests the ranges.
 #[derive(Clone, Copy, Debug, PartialEq, Eq)]
 pub struct Setup {
-    /// The processors that a leaf holds.
+    /// The number of processors of a leaf.
     pub leaf: u32,
-    /// The children that an inner node holds.
+    /// The number of children of an inner node.
     pub inner: u32,
-    /// The processors that a leaf of the second replica holds. A script has no second replica, and
-    /// repeats `leaf`.
+    /// The number of processors of a leaf of the second replica. A script has no second replica,
+    /// and repeats `leaf`.
     pub leaf2: u32,
-    /// The children that an inner node of the second replica holds. A script repeats `inner`.
+    /// The number of children of an inner node of the second replica. A script repeats `inner`.
     pub inner2: u32,
     /// The number of processors, 1..=4096.
     pub cpus: u32,
@@ -22,7 +22,7 @@ pub struct Setup {
     pub last: u64,
 }
 
-/// Why a run stopped. Its text is what the program prints.
+/// Why a run stopped, with the text that the program prints.
 #[derive(Debug, Drop, Error)]
 pub enum RunFault {
     /// The engine could not be opened.

@@ -54,7 +54,7 @@ done_sooner last base sooner t n w m e l = grind (arith, nat_tests, w, m, e, l)
 pub last_fours : (last : ℕ) → is_last last ≡ true → last % 4 ≡ 0
 last_fours last w = grind (arith, nat_tests, w)
 
--- where the counts differ, so do the epochs
+-- if the counts differ, so do the epochs
 pub done_by_clock : (last : ℕ) (t n : Tag) → is_last last ≡ true → t.number ≤ last → n.number ≤ last
     → is_done_at last (cookie_at t) n ≡ nat_le (snapshot (clock_of last t)) (clock_of last n)
 done_by_clock last t n w le m =

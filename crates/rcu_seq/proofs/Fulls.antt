@@ -1,4 +1,4 @@
--- Full grace periods after a taking, counted.
+-- The count of full grace periods after a snapshot.
 use Rattle.std.proofs.Common.{◌≡◌, ◌≤◌, ◌<◌, ◌+◌, ◌*◌, ℕ, true, false, ◌||◌, ◌&&◌, nat_lt, List, []}
 use Rattle.std.proofs.Common.{◌∷◌, refl, arith, inl, inr}
 use Rattle.std.proofs.lemmas.Bool.{cases_Bool}
@@ -17,12 +17,12 @@ ended (End ∷ turns) = ended turns + 1
 ended (Begin ∷ turns) = ended turns
 ended (Renumber ∷ turns) = ended turns
 
--- after a taking while none runs: each end is the end of a full grace period
+-- after a snapshot while none runs: each end is the end of a full grace period
 record FromIdle (p : Periods) (turns : List Turn) : Type 0 where
   pub begins : list_any begins turns ≡ (nat_lt 0 (ended turns) || (after_turns p turns).running)
   pub full : has_full_period turns ≡ nat_lt 0 (ended turns)
 
--- after a taking while one runs: the first end is the end of that one
+-- after a snapshot while one runs: the first end is the end of that one
 record FromRunning (p : Periods) (turns : List Turn) : Type 0 where
   pub runs : ended turns ≡ 0 → (after_turns p turns).running ≡ true
   pub begins : list_any begins turns
@@ -69,8 +69,9 @@ from_running p (End ∷ turns) e a =
 from_running p (Renumber ∷ turns) e a =
     let h = from_running p turns e a.2 in record { runs = h.runs; begins = h.begins; full = h.full }
 
--- how the number and the epoch tell how many ended since the taking. A renumbering comes at the
--- last number, so that an epoch that has passed had as many grace periods as its last number says
+-- how the number and the epoch give the count of grace periods that ended since the snapshot. A
+-- renumbering comes at the last number, so that an epoch that has passed had as many grace periods
+-- as its last number says
 record Elapsed (p : Periods) (turns : List Turn) : Type 0 where
   pub last : (after_turns p turns).last ≡ p.last
   pub within : number_of (after_turns p turns) ≤ p.last
@@ -123,7 +124,7 @@ elapsed p (Renumber ∷ turns) w a =
       later = λ e. grind (arith, nat_tests, e, rises, next, later, all);
     }
 
--- a cookie tests done exactly where a full grace period lies after its taking
+-- a cookie tests done exactly if a full grace period lies after its snapshot
 pub done_is_full : (p : Periods) (turns : List Turn) → IsWithin p → AreAccepted p turns
     → is_done (cookie_of p) (after_turns p turns) ≡ has_full_period turns
 done_is_full p turns w a =

@@ -1,4 +1,4 @@
--- Tags, for all who compare them.
+-- Lemmas on comparing tags.
 use Rattle.std.proofs.Common.{◌≡◌, ◌==◌, ap}
 use Rattle.std.specs.Bool.{Decides}
 use Rattle.std.proofs.lemmas.Bool.{and_parts}

@@ -1,10 +1,10 @@
--- Words over histories: lists of events of any type, the newest first. So the history as it was at
--- an earlier event is the part of the list from that event on.
+-- Definitions over histories: lists of events of any type, the newest first. So the history as it
+-- was at an earlier event is the part of the list from that event on.
 use Rattle.std.specs.Prelude.{Bool, true, false, not, ◌&&◌, ◌||◌, if◌then◌else◌, List, [], ◌∷◌}
 use Rattle.std.specs.List.{list_any}
 
 module _ {E : Type 0} where
-  -- the history as it was at the latest event that passes a test, that event included; empty where
+  -- the history as it was at the latest event that passes a test, that event included; empty if
   -- there is none
   abbrev pub latest : (E → Bool) → List E → List E
   latest test [] = []
@@ -17,7 +17,7 @@ module _ {E : Type 0} where
   some_since start test (e ∷ h) = not (start e) && (test e h || some_since start test h)
 
   -- it is on: of the latest event that turns it on and the latest that turns it off, the first is
-  -- the later one; before any of either it is as at first
+  -- the later one; before any such event it is as at first
   abbrev pub is_on : Bool → (E → Bool) → (E → Bool) → List E → Bool
   is_on at_first on off [] = at_first
   is_on at_first on off (e ∷ h) =

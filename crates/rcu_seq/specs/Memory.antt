@@ -1,10 +1,10 @@
--- Calls that may be refused memory.
+-- Calls whose allocation may be refused.
 use Rattle.std.specs.Prelude.{Option, Some, None, Result, Ok, Err}
 use Rattle.rcu_seq.specs.declared.fault.Fault.{Fault}
 use Rattle.rcu_seq.specs.declared.fault.Fault.TheVariants.{NoMemory}
 
--- the fault that a call's tests found, before it asked for memory: none where it is accepted, or
--- where memory is refused
+-- the fault that a call's tests found, before it asked for memory: none if the call is accepted, or
+-- if memory is refused
 abbrev pub tested_fault : {A : Type 0} → Result A Fault → Option Fault
 tested_fault (Ok value) = None
 tested_fault (Err NoMemory) = None

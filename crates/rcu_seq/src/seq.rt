@@ -11,7 +11,7 @@ use crate::fault::Fault;
 use crate::tag::Tag;
 use std::marker::Model;
 
-/// From `4k + 1`, where a grace period runs, to `4k + 4`, where it has ended.
+/// From `4k + 1`, at which a grace period runs, to `4k + 4`, at which it has ended.
 const TO_END: u64 = 3;
 
 /// The greatest last number, 2^62.
@@ -23,8 +23,8 @@ const LAST_EPOCH: u64 = 4_294_967_295;
 /// The counter of grace periods, which begins idle at 0 (Linux's `gp_seq`, RCU's Data-Structures
 /// document).
 ///
-/// Its number is `4k` where `k` grace periods ended and none runs, and `4k + 1` while one runs.
-/// A renumbering at the last number sets it back to 0, in the next epoch. Contracts see the epoch,
+/// Its number is `4k` if `k` grace periods ended and none runs, and `4k + 1` while one runs. A
+/// renumbering at the last number sets it back to 0, in the next epoch. Contracts see the epoch,
 /// the count of grace periods that ended in it, whether one runs, and the last number.
 #[derive(Debug, Drop)]
 pub struct Seq {
@@ -123,21 +123,21 @@ impl Seq {
         self.last
     }
 
-    /// Whether a grace period runs.
+    /// Returns whether a grace period runs.
     pub fn is_running(&self) -> bool
         ensures { result ≡ self.now.running }
     {
         self.value % 4 == 1
     }
 
-    /// The cookie of a taking now, as [`Cookie::of`] has it.
+    /// Takes a snapshot: the cookie of now, as [`Cookie::of`] defines it.
     pub fn snap(&self) -> Cookie
         ensures { result ≡ cookie_of self.now }
     {
         Cookie::of(self.tag())
     }
 
-    /// Whether a cookie is done now, as [`Cookie::is_done_at`] has it.
+    /// Returns whether a cookie is done now, as [`Cookie::is_done_at`] defines it.
     pub fn done(&self, cookie: Cookie) -> bool
         ensures { result ≡ is_done cookie self.now }
     {
@@ -146,7 +146,7 @@ impl Seq {
 
     /// Begins a grace period, and returns its number (Linux's `rcu_seq_start`).
     ///
-    /// Faults: `Running` (8) where one runs; `Exhausted` (11) where the number is `last`.
+    /// Faults: `Running` (8) if one runs; `Exhausted` (11) if the number is `last`.
     pub fn start(&mut self) -> Result<u64, Fault>
         ensures number { IfOk result (λ number. number ≡ number_of self.new) }
         ensures fault { result_err result ≡ refusal self.old Begin }
@@ -163,7 +163,7 @@ impl Seq {
         Ok(self.value)
     }
 
-    /// Ends the grace period that runs, and returns the new number (Linux's `rcu_seq_end`).
+    /// Ends the running grace period, and returns the new number (Linux's `rcu_seq_end`).
     ///
     /// Fault `Idle` (9): none runs.
     pub fn end(&mut self) -> Result<u64, Fault>
@@ -179,10 +179,10 @@ impl Seq {
         Ok(self.value)
     }
 
-    /// Renumbers: the number becomes 0, in the next epoch, which it returns.
+    /// Renumbers: the number becomes 0 in the next epoch. Returns that epoch.
     ///
-    /// Faults: `Running` (8) where a grace period runs; `NotLast` (22) where the number is not
-    /// `last`; `Exhausted` (11) where the epoch is the last one.
+    /// Faults: `Running` (8) if a grace period runs; `NotLast` (22) if the number is not `last`;
+    /// `Exhausted` (11) if the epoch is the last one.
     pub fn renumber(&mut self) -> Result<u64, Fault>
         ensures epoch { IfOk result (λ epoch. epoch ≡ self.new.epoch) }
         ensures bounded { self.new.epoch ≤ last_epoch }

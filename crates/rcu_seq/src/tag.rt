@@ -3,9 +3,9 @@
 ghost use Rattle.std.specs.Prelude.{◌≡◌};
 ghost use Rattle.rcu_seq.specs.Tags.{of_first_epoch};
 
-/// A grace-period number, and the epoch that it is of. What a grace period is called by, what a
-/// processor noted and where a callback was queued are such pairs, so that numbers of different
-/// epochs are never mixed up.
+/// A grace-period number with its epoch. Each grace period is identified by such a pair. A
+/// processor notes such a pair, and a callback is queued at one. So numbers of different epochs are
+/// never mixed up.
 #[derive(Clone, Copy, Debug, PartialEq, Eq)]
 pub struct Tag {
     /// The epoch: how often the counter was renumbered.

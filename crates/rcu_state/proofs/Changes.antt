@@ -1,4 +1,4 @@
--- What is kept where the state of the grace periods changes.
+-- How changes of the grace-period state keep its invariant.
 use Rattle.std.proofs.Common.{◌≡◌, ℕ, ◌+◌, ◌≤◌, Bool, true, false, List, [], length, set, refl, ap}
 use Rattle.std.proofs.Common.{sym, subst, ◌∙◌, arith}
 use Rattle.std.specs.Prelude.{All, Result, Ok, Err, IfOk, IfErr, Some, max, if◌then◌else◌}
@@ -26,7 +26,7 @@ use Rattle.rcu_state.proofs.Timely.{timely_tended, timely_untaken}
 pub all_of : {X : Type 0} {old new : ListsWithRooms X} → new ≡ old → new.all ≡ old.all
 all_of same = ap (λ lists. lists.all) same
 
--- where the counter did not change
+-- if the counter did not change
 pub idle_kept : {X : Type 0} (g : Grace X) (seq : Periods) → IsSound g → seq ≡ g.seq
     → IsSound (record g { seq = seq })
 idle_kept g seq k is = record { tag = rw is k.tag; sized = k.sized; timely = rw is k.timely }
@@ -47,7 +47,7 @@ with_kept g needed lists k same timely = record {
   timely = timely;
 }
 
--- where one processor has another list
+-- if one processor has another list
 pub set_kept : {X : Type 0} (g : Grace X) (needed : Number) (lists : AllLists X) (cpu : ℕ)
     (xs : List (Item X))
     → IsSound g
@@ -60,13 +60,13 @@ set_kept g needed lists cpu xs k is timely =
     (subst (All (AreTimely (tag_of g.seq))) (sym is)
     (All-set (AreTimely (tag_of g.seq)) g.lists.lists cpu xs timely k.timely))
 
--- where nothing changed
+-- if nothing changed
 pub same_kept : {X : Type 0} (g : Grace X) (lists : AllLists X) → IsSound g → lists ≡ g.lists
     → IsSound (record g { lists = lists })
 same_kept g lists k is =
     with_kept g g.needed lists k (ap (λ l. cpus_of_lists l) is) (rw is k.timely)
 
--- each call leaves what is kept: a queueing
+-- each call keeps the invariant: queueing a callback
 pub queued_kept : {X : Type 0} (g : Grace X) (cpu : ℕ) (at : Tag) (value : X) (lists : AllLists X)
     → IsSound g → at ≡ tag_of g.seq → lists ≡ lists_after_queue g.lists cpu at value
     → IsSound (record g { lists = lists })
@@ -191,7 +191,7 @@ ended_kept g seq k is =
     rises ends true = omega arith
     rises ends false = omega arith
 
--- the numbers started anew
+-- a renumbering
 pub renumbered_kept : {X : Type 0} (g : Grace X) (seq : Periods) (needed : Number)
     (lists : AllLists X)
     → IsSound g

@@ -22,7 +22,7 @@ use Rattle.rcu_seq.specs.declared.tag.Tag.{Tag}
 pub snapshot_rises : (n m : Number) → n ≤ m → snapshot n ≤ snapshot m
 snapshot_rises n m le = omega arith
 
--- what was queued no later than now was so at each later number of the epoch
+-- a callback queued no later than now was so at each later number of the epoch
 no_later_on : (n m at : Tag) → n.epoch ≡ m.epoch → n.number ≤ m.number → IsNoLater n at
     → IsNoLater m at
 no_later_on n m at e le h =
@@ -45,7 +45,7 @@ mark_later n m at (Until k) e le timely = (
 mark_later n m at Done e le timely =
     (no_later_on n m at e le timely.0, due_on n m at n.number m.number e le timely.1)
 
--- as the numbers start anew
+-- after a renumbering
 no_later_next : (n m at : Tag) → n.epoch < m.epoch → IsNoLater n at → IsNoLater m at
 no_later_next n m at l h =
     let epoch = h.0 in
@@ -80,7 +80,7 @@ mark_dropped now at Unmarked timely = timely
 mark_dropped now at (Until n) timely = timely.0
 mark_dropped now at Done timely = timely.0
 
--- what is timely now is so at each later number of the epoch
+-- a callback that is timely now is so at each later number of the epoch
 pub timely_later : {X : Type 0} (n m : Tag) (xs : List (Item X))
     → n.epoch ≡ m.epoch → n.number ≤ m.number → AreTimely n xs → AreTimely m xs
 timely_later n m [] e le timely = tt
@@ -134,7 +134,7 @@ timely_from n k (Marker ∷ xs) timely = timely_from n k xs timely
 timely_from n zero (Of call mark ∷ xs) timely = timely
 timely_from n (suc k) (Of call mark ∷ xs) timely = timely_from n k xs timely.1
 
--- what a take leaves
+-- the list after a take
 pub timely_untaken : {X : Type 0} (n : Tag) (most : ℕ) (xs : List (Item X)) → AreTimely n xs
     → AreTimely n (after_take xs most)
 timely_untaken n most xs timely = timely_from n (length (take_answer xs most)) xs timely

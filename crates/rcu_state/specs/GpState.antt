@@ -25,17 +25,16 @@ use Rattle.rcu_state.specs.declared.gp_state.CurrentAnswer.TheVariants as curren
 use Rattle.rcu_state.specs.declared.gp_state.Turned.{Turned}
 use Rattle.rcu_state.specs.declared.gp_state.Turned.TheVariants as turned
 
--- the counter of grace periods, the greatest number that was asked for, the processors, which are
--- the online ones and those that the latest grace period awaits, and each processor's list of
--- callbacks
+-- the counter of grace periods, the greatest number that was requested, the processors that are
+-- online and those that the latest grace period awaits, and each processor's list of callbacks
 pub record Grace (X : Type 0) : Type 0 where
   pub seq : Periods
   pub needed : Number
   pub processors : Processors
   pub lists : AllLists X
 
--- what contracts see of the state: what it says, and for how many items each list has room before
--- it grows
+-- what contracts see of the state: its value, and for how many items each list has room before it
+-- grows
 pub record GraceWithRooms (X : Type 0) : Type 0 where
   pub grace : Grace X
   pub rooms : List ℕ
@@ -44,20 +43,22 @@ pub record GraceWithRooms (X : Type 0) : Type 0 where
 abbrev pub IsNoLater : Tag → Tag → Type 0
 IsNoLater now at = (at.epoch ≤ now.epoch) × (at.epoch ≡ now.epoch → at.number ≤ now.number)
 
--- where a callback was queued in this epoch, the snapshot of its queueing is at most a number
+-- if a callback was queued in this epoch, the snapshot of the tag at which it was queued is at most
+-- a number
 abbrev pub IsDue : Tag → Tag → Number → Type 0
 IsDue now at n = at.epoch ≡ now.epoch → snapshot at.number ≤ n
 
--- a callback that was queued at one tag has this mark at another: it was queued no later; what it
--- waits for is no sooner than the snapshot of its queueing, if that was in this epoch, and no later
--- than that of now; and where it is done, the number has reached the snapshot of its queueing, if
--- that was in this epoch
+-- a callback that was queued at one tag has this mark at another: it was queued no later; the
+-- number that it waits for is no sooner than the snapshot of the tag at which it was queued, if
+-- that was in this epoch, and no later than the snapshot of now; and if it is done, the number has
+-- reached the snapshot of the tag at which it was queued, if that was in this epoch
 abbrev pub IsTimely : Tag → Tag → Mark → Type 0
 IsTimely now at Unmarked = IsNoLater now at
 IsTimely now at (Until n) = IsNoLater now at × IsDue now at n × (n ≤ snapshot now.number)
 IsTimely now at Done = IsNoLater now at × IsDue now at now.number
 
--- a callback was queued in an epoch before, or the number has reached the snapshot of its queueing
+-- a callback was queued in an earlier epoch, or the number has reached the snapshot of the tag at
+-- which it was queued
 abbrev pub HasWaited : Tag → Tag → Type 0
 HasWaited now at = (at.epoch ≤ now.epoch) × IsDue now at now.number
 
@@ -70,12 +71,12 @@ module _ {X : Type 0} where
   abbrev pub lists_of : GraceWithRooms X → ListsWithRooms X
   lists_of g = record { all = g.grace.lists; rooms = g.rooms }
 
-  -- with what it says changed, and as much room
+  -- with another value, and the same room
   abbrev pub on_grace : (Grace X → Grace X) → GraceWithRooms X → GraceWithRooms X
   on_grace change g = record g { grace = change g.grace }
 
-  -- before any call nothing ran, nothing is needed, processor 0 alone is online, and the lists are
-  -- empty
+  -- before any call no grace period ran, none is needed, processor 0 alone is online, and the lists
+  -- are empty
   abbrev pub at_first : ℕ → Number → ℕ → Grace X
   at_first cpus last most = record {
     seq = record { epoch = 0; ends = 0; running = false; last = last };
@@ -102,7 +103,7 @@ module _ {X : Type 0} where
       let seq = record g.seq { running = true } in
       record (with_call g (Begin (tag_of seq))) { seq = seq }
 
-  -- why none ends: none runs, or a processor is awaited
+  -- why no grace period ends: none runs, or a processor is awaited
   abbrev pub end_refusal : Grace X → Option Fault
   end_refusal g =
       first_fault ((not g.seq.running, fault.Idle) ∷ (nat_lt 0 (awaited_in g), fault.Waiting) ∷ [])
@@ -111,14 +112,14 @@ module _ {X : Type 0} where
   abbrev pub after_end : Grace X → Grace X
   after_end g = record g { seq = record g.seq { ends = g.seq.ends + 1; running = false } }
 
-  -- the answer to a report: while no grace period runs each is stale
+  -- the answer to a report: while no grace period runs, every report is stale
   abbrev pub report_answer_in : Grace X → Report → Answer
   report_answer_in g report =
       if g.seq.running
       then report_answer (tag_of g.seq) g.processors.awaited report.cpu report.tag
       else Stale
 
-  -- who is awaited after a report: one that is not stale clears its processor
+  -- the processors that are awaited after a report: a report that is not stale clears its processor
   abbrev pub awaited_after : Grace X → Report → List Bool
   awaited_after g report =
       if g.seq.running
@@ -145,7 +146,7 @@ module _ {X : Type 0} where
   abbrev pub after_report_now : Grace X → ℕ → Grace X
   after_report_now g cpu = after_report g (own_report g cpu)
 
-  -- what a report of the processor answers in the grace period that runs
+  -- the answer to a report of the processor for the running grace period
   abbrev pub current_answer : Grace X → ℕ → CurrentAnswer
   current_answer g cpu =
       if not (is_in g.processors.awaited cpu) then current.Repeat
@@ -155,7 +156,7 @@ module _ {X : Type 0} where
   abbrev pub after_current_report : Grace X → ℕ → Grace X
   after_current_report g cpu = with_awaited g (slice_set g.processors.awaited cpu false)
 
-  -- what its counter and its needed number say
+  -- its counter and its needed number
   abbrev pub periods_of : Grace X → PeriodSituation
   periods_of g = record {
     epoch = g.seq.epoch;
@@ -173,7 +174,7 @@ module _ {X : Type 0} where
       )
       ∷ [])
 
-  -- what a turn does: a running grace period ends where nobody is awaited; where none runs, one
+  -- what a turn does: a running grace period ends if no processor is awaited; if none runs, one
   -- begins if it is needed
   abbrev pub turn_answer : Grace X → Turned
   turn_answer g =
@@ -185,7 +186,7 @@ module _ {X : Type 0} where
       then turned.Begun (number_of (after_begin g).seq) (awaited_in (after_begin g))
       else turned.Nothing)
 
-  -- what a turn leaves
+  -- the state after a turn
   abbrev pub after_turn : Grace X → Grace X
   after_turn g =
       if g.seq.running then (if awaited_in g == 0 then after_end g else g)
@@ -203,13 +204,14 @@ module _ {X : Type 0} where
   abbrev pub after_queue : Grace X → ℕ → X → Grace X
   after_queue g cpu value = on_lists (λ all. lists.lists_after_queue all cpu (tag_of g.seq) value) g
 
-  -- a processor's list was tended at the number; what it then waits for is needed
+  -- a processor's list was tended at the current number; the number that it then waits for is
+  -- needed
   abbrev pub after_tend : Grace X → ℕ → Grace X
   after_tend g cpu =
       let tended = on_lists (λ all. lists.lists_after_tend all cpu (number_of g.seq)) g in
       record tended { needed = greatest_from g.needed (numbers (lists.list_of tended.lists cpu)) }
 
-  -- at most so many callbacks were handed out of a processor's done part
+  -- at most this number of callbacks were handed out of a processor's done part
   abbrev pub after_run : Grace X → ℕ → ℕ → Grace X
   after_run g cpu most = on_lists (λ all. lists.lists_after_run all cpu most) g
 
@@ -229,13 +231,13 @@ module _ {X : Type 0} where
   abbrev pub after_barrier_test : Grace X → Grace X
   after_barrier_test g = on_lists lists.lists_after_barrier_test g
 
-  -- why the numbers do not start anew: a grace period runs, the number is not the last one, or the
+  -- why the counter is not renumbered: a grace period runs, the number is not the last one, or the
   -- epoch is the last one
   abbrev pub renumber_refusal : Grace X → Option Fault
   renumber_refusal g = counter.refusal g.seq counter.Renumber
 
-  -- the numbers start anew in the next epoch: what waits has none, and what was needed above the
-  -- number, which was the last one, is the first grace period of this epoch
+  -- the numbers start again at 0 in the next epoch: waiting callbacks have no number, and if a
+  -- number above the last one was needed, the first grace period of this epoch is
   abbrev pub after_renumber : Grace X → Grace X
   after_renumber g = record (on_lists lists.lists_after_renumber g) {
     seq = renumbered g.seq;
@@ -248,8 +250,8 @@ module _ {X : Type 0} where
   AreTimely now (Of call mark ∷ xs) = IsTimely now call.at mark × AreTimely now xs
   AreTimely now (Marker ∷ xs) = AreTimely now xs
 
-  -- what always holds: a list for each processor; while a grace period runs, the tag of now is that
-  -- of the awaited set; and each callback is timely at it
+  -- the invariant: there is a list for each processor; while a grace period runs, the tag of now is
+  -- that of the awaited set; and each callback is timely at it
   pub record IsSound (g : Grace X) : Type 0 where
     pub tag : g.seq.running ≡ true → g.processors.tag ≡ tag_of g.seq
     pub sized : lists.cpus_of g.lists ≡ hotplug.cpus_of g.processors

@@ -1,9 +1,9 @@
--- What is said of grace periods: where the counter stands, and which number is needed.
+-- The situation of grace periods: the counter, and the needed number.
 use Rattle.std.specs.Prelude.{ℕ, ◌&&◌, Bool, not, nat_lt, List, max, fold}
 use Rattle.rcu_seq.specs.Numbers.{Number, number_at}
 use Rattle.rcu_seq.specs.declared.tag.Tag.{Tag}
 
--- what is said of grace periods: the epoch, how many ended in it, whether one runs, and which
+-- the situation of grace periods: the epoch, how many ended in it, whether one runs, and which
 -- number is needed
 pub record PeriodSituation : Type 0 where
   pub epoch : ℕ
@@ -19,7 +19,7 @@ number_in p = number_at p.ends p.running
 abbrev pub tag_in : PeriodSituation → Tag
 tag_in p = record { epoch = p.epoch; number = number_in p }
 
--- a grace period is wanted: the needed number is above the number, and none runs
+-- a grace period is requested: the needed number is above the number, and none runs
 abbrev pub wants_begin : PeriodSituation → Bool
 wants_begin p = not p.running && nat_lt (number_in p) p.needed
 

@@ -1,4 +1,4 @@
-//! The callbacks of the state, and the barrier over them.
+//! The callbacks of the grace-period state, and the barrier over them.
 ghost use Rattle.std.specs.Prelude.{◌≡◌, ◌<◌, ◌≤◌, ◌^◌, All, Some, false, length, slice_get, true};
 ghost use Rattle.std.specs.Prelude.{IfErr, IfOk, IfSome, OnErr, OnOk};
 ghost use Rattle.std.specs.Result.{result_err};
@@ -21,11 +21,12 @@ use rcu_node::Awaited;
 use rcu_seq::Fault;
 
 impl<A: Awaited, T: Drop> GpState<A, T> {
-    /// Queues a callback on a processor, at the number (Linux's `call_rcu`). Returns how many were
-    /// queued, which is its place among them. Costs as [`Lists::queue`].
+    /// Queues a callback on a processor, at the current number (Linux's `call_rcu`). Returns how
+    /// many callbacks were queued so far, which is its place among them. Costs the same as
+    /// [`Lists::queue`].
     ///
-    /// Faults, with the value: `CallbacksFull` (15) where as many were queued as may be; `NoMemory`
-    /// (16).
+    /// Faults, with the value: `CallbacksFull` (15) if as many were queued as the opening allows;
+    /// `NoMemory` (16).
     pub fn queue(&mut self, cpu: u32, value: T) -> Result<u64, Refused<T>>
         requires { cpu < cpus_of self.old.grace.processors }
         ensures fault { IfErr result (λ refused.
@@ -42,7 +43,7 @@ impl<A: Awaited, T: Drop> GpState<A, T> {
         self.lists.queue(cpu, now, value)
     }
 
-    /// The callbacks, to look at: one list a processor.
+    /// The callbacks, read-only: one list a processor.
     pub fn lists(&self) -> &Lists<T>
         ensures value { result.now ≡ lists_of self.now }
         ensures sized { lists.cpus_of result.now.all ≡ cpus_of self.now.grace.processors }
@@ -50,8 +51,8 @@ impl<A: Awaited, T: Drop> GpState<A, T> {
         &self.lists
     }
 
-    /// Gives back the memory that a processor's list does not need, as [`Lists::shrink`], and costs
-    /// as that.
+    /// Gives back the memory that a processor's list does not need, as [`Lists::shrink`] does, at
+    /// the same cost.
     pub fn shrink(&mut self, cpu: u32)
         requires { cpu < cpus_of self.old.grace.processors }
         ensures state { self.new.grace ≡ self.old.grace }
@@ -60,7 +61,7 @@ impl<A: Awaited, T: Drop> GpState<A, T> {
         self.lists.shrink(cpu);
     }
 
-    /// Whether the processor's list is empty.
+    /// Returns whether the processor's list is empty.
     pub fn is_list_empty(&self, cpu: u32) -> bool
         requires { cpu < cpus_of self.now.grace.processors }
         ensures { result ≡ is_empty (list_of self.now.grace.lists cpu) }
@@ -68,9 +69,9 @@ impl<A: Awaited, T: Drop> GpState<A, T> {
         self.lists.is_empty(cpu)
     }
 
-    /// Brings the marks of a processor's callbacks up to the number, whose greatest is needed from
-    /// now on (Linux's `rcu_advance_cbs`). Returns how many callbacks of the list are done and how
-    /// many wait then.
+    /// Advances and accelerates a processor's callbacks to the current number (Linux's
+    /// `rcu_advance_cbs`). The greatest number that they then wait for is needed from now on.
+    /// Returns how many callbacks of the list are done, and how many wait.
     pub fn tend(&mut self, cpu: u32) -> (u64, u64)
         requires { cpu < cpus_of self.old.grace.processors }
         ensures state { self.new ≡ on_grace (λ g. grace.after_tend g cpu) self.old }
@@ -86,10 +87,10 @@ impl<A: Awaited, T: Drop> GpState<A, T> {
     }
 
     /// Hands out the first callbacks of a processor's done part, at most `max` (Linux's
-    /// `rcu_do_batch`): only such that a full grace period has passed since their queueing. Costs
-    /// as [`Lists::run`].
+    /// `rcu_do_batch`): only callbacks for which a full grace period has passed since they were
+    /// queued. Costs the same as [`Lists::run`].
     ///
-    /// Fault `NoMemory` (16), only where it has a callback to hand out.
+    /// Fault `NoMemory` (16), only if there is a callback to hand out.
     pub fn run(&mut self, cpu: u32, max: u64) -> Result<Vec<Queued<T>>, Fault>
         requires { cpu < cpus_of self.old.grace.processors }
         ensures fault { IfErr result (λ fault.
@@ -105,7 +106,7 @@ impl<A: Awaited, T: Drop> GpState<A, T> {
         self.lists.run(cpu, max)
     }
 
-    /// How many callbacks the processor's done part has, as [`Lists::done_count`].
+    /// Returns how many callbacks the processor's done part has, as [`Lists::done_count`].
     pub fn done_count(&self, cpu: u32) -> u64
         requires { cpu < cpus_of self.now.grace.processors }
         ensures count { result ≡ length (callbacks (front (list_of self.now.grace.lists cpu))) }
@@ -114,8 +115,8 @@ impl<A: Awaited, T: Drop> GpState<A, T> {
         self.lists.done_count(cpu)
     }
 
-    /// Hands out the first callback of a processor's done part, as [`GpState::run`] of one, and
-    /// costs as [`Lists::pop_done`].
+    /// Hands out the first callback of a processor's done part, as [`GpState::run`] with `max` 1.
+    /// Costs the same as [`Lists::pop_done`].
     pub fn pop_done(&mut self, cpu: u32) -> Option<Queued<T>>
         requires { cpu < cpus_of self.old.grace.processors }
         ensures call { result ≡ slice_get (take_answer (list_of self.old.grace.lists cpu) 1) 0 }
@@ -126,11 +127,11 @@ impl<A: Awaited, T: Drop> GpState<A, T> {
         self.lists.pop_done(cpu)
     }
 
-    /// Moves the list of another processor than 0 to processor 0's (Linux's
-    /// `rcutree_migrate_callbacks`); a barrier that did not visit it does so first. Returns how
-    /// many callbacks moved. Costs as [`Lists::migrate`].
+    /// Moves the list of a processor other than 0 to processor 0's (Linux's
+    /// `rcutree_migrate_callbacks`). A barrier that did not visit the processor does so first.
+    /// Returns how many callbacks moved. Costs the same as [`Lists::migrate`].
     ///
-    /// Fault `NoMemory` (16), only where the list is not empty.
+    /// Fault `NoMemory` (16), only if the list is not empty.
     pub fn migrate(&mut self, cpu: u32) -> Result<u64, Fault>
         requires other { 0 < cpu }
         requires cpu { cpu < cpus_of self.old.grace.processors }
@@ -156,9 +157,9 @@ impl<A: Awaited, T: Drop> GpState<A, T> {
         self.lists.barrier_begin()
     }
 
-    /// The barrier visits a processor, as [`Lists::visit`], and costs as that.
+    /// The barrier visits a processor, as [`Lists::visit`] does, at the same cost.
     ///
-    /// Faults: `NoBarrier` (14) where none runs; `NoMemory` (16), only where it would put a marker.
+    /// Faults: `NoBarrier` (14) if none runs; `NoMemory` (16), only if it would entrain a marker.
     pub fn visit(&mut self, cpu: u32) -> Result<Visit, Fault>
         requires { cpu < cpus_of self.old.grace.processors }
         ensures fault { IfErr result (λ fault.
@@ -172,7 +173,7 @@ impl<A: Awaited, T: Drop> GpState<A, T> {
         self.lists.visit(cpu)
     }
 
-    /// Whether the barrier is over, as [`Lists::barrier_test`].
+    /// Returns whether the barrier is over, as [`Lists::barrier_test`] does.
     ///
     /// Fault `NoBarrier` (14): none runs.
     pub fn barrier_test(&mut self) -> Result<BarrierState, Fault>

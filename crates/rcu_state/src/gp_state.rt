@@ -24,7 +24,7 @@ use rcu_seq::{Fault, Seq, Tag};
 use std::alloc::Global;
 use std::marker::Model;
 
-/// What a report of the grace period that runs returns. It is never stale.
+/// The answer to a report for the running grace period. It is never stale.
 #[derive(Clone, Copy, Debug, PartialEq, Eq)]
 pub enum CurrentAnswer {
     /// The processor was awaited, and others still are.
@@ -35,7 +35,7 @@ pub enum CurrentAnswer {
     Repeat,
 }
 
-/// What a turn did.
+/// The answer of a turn.
 #[derive(Clone, Copy, Debug, PartialEq, Eq)]
 pub enum Turned {
     /// A grace period of this number began, and awaits this many processors.
@@ -51,14 +51,14 @@ pub enum Turned {
 /// The state of the grace periods (Linux's `rcu_state`): the number, the needed number, the
 /// processors that are online and awaited, and each processor's list of callbacks.
 ///
-/// Contracts see all that it says, and beside it for how many items each list has room. Only `new`,
-/// `queue`, `run`, `migrate` and `visit` need memory. A refused call leaves all but room as it was.
+/// Contracts see all of it, and for how many items each list has room. Only `new`, `queue`, `run`,
+/// `migrate` and `visit` need memory. A refused call leaves everything but the room as it was.
 #[derive(Drop)]
 pub struct GpState<A: Awaited, T: Drop> {
     /// The number, and whether a grace period runs.
     pub(crate) seq: Seq,
-    /// The greatest number that was asked for, 0 before any (Linux's `gp_seq_needed`). It
-    /// falls only where the numbers start anew.
+    /// The greatest number that was requested, 0 before any request (Linux's `gp_seq_needed`). It
+    /// falls only if the numbers are renumbered.
     pub(crate) needed: u64,
     /// The processors.
     hotplug: Hotplug<A>,
@@ -92,9 +92,9 @@ impl<A: Awaited, T: Drop> Model for GpState<A, T> {
 impl<A: Awaited, T: Drop> GpState<A, T> {
     /// No grace period ran yet, none is needed, processor 0 alone is online, and the lists are
     /// empty. The awaited set is as it was made, and 1,000,000 callbacks may be queued. Costs a
-    /// step a processor.
+    /// step for each processor.
     ///
-    /// Faults: `BadLast` (19) where `last` is no last number; `NoMemory` (16).
+    /// Faults: `BadLast` (19) if `last` is not a legal last number; `NoMemory` (16).
     pub fn new(alloc: Global, inner: A, last: u64) -> Result<Self, Fault>
         requires tag { A.tag inner ≡ first_tag }
         requires empty { A.start_set inner ≡ replicate (length (A.awaited inner)) false }
@@ -105,9 +105,9 @@ impl<A: Awaited, T: Drop> GpState<A, T> {
         GpState::with_most(alloc, inner, last, MOST_QUEUED)
     }
 
-    /// As [`GpState::new`], in which `most` callbacks may be queued, from 1 to 2^62.
+    /// As [`GpState::new`], but allows `most` callbacks to be queued, from 1 to 2^62.
     ///
-    /// Faults: `BadLast` (19) where `last` is no last number; `NoMemory` (16).
+    /// Faults: `BadLast` (19) if `last` is not a legal last number; `NoMemory` (16).
     pub fn with_most(alloc: Global, inner: A, last: u64, most: u64) -> Result<Self, Fault>
         requires tag { A.tag inner ≡ first_tag }
         requires empty { A.start_set inner ≡ replicate (length (A.awaited inner)) false }
@@ -153,23 +153,23 @@ impl<A: Awaited, T: Drop> GpState<A, T> {
         self.seq.tag()
     }
 
-    /// Whether a grace period runs.
+    /// Returns whether a grace period runs.
     pub fn is_running(&self) -> bool
         ensures { result ≡ self.now.grace.seq.running }
     {
         self.seq.is_running()
     }
 
-    /// Whether none runs, and the needed number is above the number.
+    /// Returns whether no grace period runs and the needed number is above the number.
     pub fn wants_begin(&self) -> bool
         ensures { result ≡ wants_begin (grace.periods_of self.now.grace) }
     {
         !self.seq.is_running() && self.needed > self.seq.value()
     }
 
-    /// The number that a grace period would take which began now. It is below 2^62.
+    /// The number of a grace period that began now. It is below 2^62.
     ///
-    /// Faults: `Running` (8) where one runs; `Exhausted` (11) where the number is the last one.
+    /// Faults: `Running` (8) if one runs; `Exhausted` (11) if the number is the last one.
     pub fn next_number(&self) -> Result<u64, Fault>
         ensures number { IfOk result (λ number.
             number ≡ number_of (grace.after_begin self.now.grace).seq) }
@@ -185,7 +185,7 @@ impl<A: Awaited, T: Drop> GpState<A, T> {
         Ok(self.seq.value() + 1)
     }
 
-    /// Whether the processor is online.
+    /// Returns whether the processor is online.
     pub fn online(&self, cpu: u32) -> bool
         requires { cpu < cpus_of self.now.grace.processors }
         ensures { result ≡ is_in self.now.grace.processors.online cpu }
@@ -202,11 +202,11 @@ impl<A: Awaited, T: Drop> GpState<A, T> {
         self.hotplug.awaited()
     }
 
-    /// A grace period begins, and awaits the online processors (Linux's `rcu_gp_init`). Returns its
-    /// number, and how many it awaits. Costs what a begin of the awaited set costs, in a
-    /// [`Tree`](rcu_node::tree::Tree) a step a node.
+    /// Begins a grace period, which awaits the online processors (Linux's `rcu_gp_init`). Returns
+    /// its number, and how many processors it awaits. Costs the same as a begin of the awaited set,
+    /// in a [`Tree`](rcu_node::tree::Tree) a step a node.
     ///
-    /// Faults: `Running` (8) where one runs; `Exhausted` (11) where the number is the last one.
+    /// Faults: `Running` (8) if one runs; `Exhausted` (11) if the number is the last one.
     pub fn begin(&mut self) -> Result<(u64, u32), Fault>
         ensures number { IfOk result (λ began. began.0 ≡ number_of self.new.grace.seq) }
         ensures awaited { IfOk result (λ began. began.1 ≡ grace.awaited_in self.new.grace) }
@@ -219,9 +219,9 @@ impl<A: Awaited, T: Drop> GpState<A, T> {
         Ok((number, self.hotplug.awaited().count()))
     }
 
-    /// The grace period ends (Linux's `rcu_gp_cleanup`). Returns the new number.
+    /// Ends the grace period (Linux's `rcu_gp_cleanup`). Returns the new number.
     ///
-    /// Faults: `Idle` (9) where none runs; `Waiting` (10) where a processor is awaited.
+    /// Faults: `Idle` (9) if none runs; `Waiting` (10) if a processor is awaited.
     pub fn end(&mut self) -> Result<u64, Fault>
         ensures number { IfOk result (λ number. number ≡ number_of self.new.grace.seq) }
         ensures fault { result_err result ≡ grace.end_refusal self.old.grace }
@@ -234,23 +234,23 @@ impl<A: Awaited, T: Drop> GpState<A, T> {
         self.seq.end()
     }
 
-    /// A report arrives: stale where no grace period runs or its tag is not the number, else as
-    /// [`Awaited::report`]. The report is of a processor. Costs what a report to the awaited set
-    /// costs, in a [`Tree`](rcu_node::tree::Tree) at most a step a level.
+    /// Delivers the report of a processor. The report is stale if no grace period runs or its tag
+    /// is not the current number; otherwise it does what [`Awaited::report`] says. Costs the same
+    /// as a report to the awaited set, in a [`Tree`](rcu_node::tree::Tree) at most a step a level.
     pub fn report(&mut self, report: Report) -> Answer
         requires { report.cpu < cpus_of self.old.grace.processors }
         ensures answer { result ≡ grace.report_answer_in self.old.grace report }
         ensures state { self.new ≡ on_grace (λ g. grace.after_report g report) self.old }
     {
-        // The awaited set keeps its tag when its grace period has ended: idleness is tested here.
+        // After a grace period ends, the awaited set keeps its tag, so this tests that one runs.
         if !self.is_running() {
             return Answer::Stale;
         }
         self.hotplug.report(report.cpu, report.tag)
     }
 
-    /// A report of the processor with the number as its tag: stale where no grace period runs.
-    /// Costs as [`GpState::report`].
+    /// Delivers a report of the processor with the current number as its tag. The report is stale
+    /// if no grace period runs. Costs the same as [`GpState::report`].
     pub fn report_now(&mut self, cpu: u32) -> Answer
         requires { cpu < cpus_of self.old.grace.processors }
         ensures answer { result ≡ grace.answer_now self.old.grace cpu }
@@ -260,7 +260,8 @@ impl<A: Awaited, T: Drop> GpState<A, T> {
         self.report(Report { cpu, tag })
     }
 
-    /// A report of the processor in the grace period that runs. Costs as [`GpState::report`].
+    /// Delivers a report of the processor for the running grace period. Costs the same as
+    /// [`GpState::report`].
     pub fn report_current(&mut self, cpu: u32) -> CurrentAnswer
         requires cpu { cpu < cpus_of self.old.grace.processors }
         requires running { self.old.grace.seq.running ≡ true }
@@ -276,11 +277,11 @@ impl<A: Awaited, T: Drop> GpState<A, T> {
         }
     }
 
-    /// The running grace period ends where nobody is awaited. Where none runs, one begins if the
-    /// needed number is above the number. A turn that begins one costs as [`GpState::begin`], any
-    /// other a step.
+    /// Ends the running grace period if no processor is awaited. If none runs, begins one if the
+    /// needed number is above the number. A turn that begins one costs the same as
+    /// [`GpState::begin`], any other one a step.
     ///
-    /// Fault `Exhausted` (11): one would begin, and the number is the last one.
+    /// Fault `Exhausted` (11): a grace period would begin, and the number is the last one.
     pub fn turn(&mut self) -> Result<Turned, Fault>
         ensures answer { IfOk result (λ turned. turned ≡ grace.turn_answer self.old.grace) }
         ensures fault { result_err result ≡ grace.turn_refusal self.old.grace }
@@ -301,7 +302,7 @@ impl<A: Awaited, T: Drop> GpState<A, T> {
         Ok(Turned::Begun(number, awaited))
     }
 
-    /// A processor arrives, as [`Hotplug::arrive`].
+    /// Brings a processor online, as [`Hotplug::arrive`] does.
     ///
     /// Faults: `BadCpu` (1), `AlreadyOnline` (3).
     pub fn arrive(&mut self, cpu: u32) -> Result<(), Fault>
@@ -314,8 +315,8 @@ impl<A: Awaited, T: Drop> GpState<A, T> {
         self.hotplug.arrive(cpu)
     }
 
-    /// A processor departs, and is awaited no more, as [`Hotplug::depart`]. Costs as
-    /// [`GpState::report`].
+    /// Takes a processor offline, as [`Hotplug::depart`] does; it is no longer awaited. Costs the
+    /// same as [`GpState::report`].
     ///
     /// Faults: `BadCpu` (1), `BootStays` (12), `Offline` (2).
     pub fn depart(&mut self, cpu: u32) -> Result<(), Fault>
@@ -328,15 +329,14 @@ impl<A: Awaited, T: Drop> GpState<A, T> {
         self.hotplug.depart(cpu)
     }
 
-    /// The cookie of a taking now (Linux's `get_state_synchronize_rcu`).
+    /// Takes a snapshot: returns the cookie of now (Linux's `get_state_synchronize_rcu`).
     pub fn take(&self) -> Cookie
         ensures { result ≡ cookie_of self.now.grace.seq }
     {
         self.seq.snap()
     }
 
-    /// The cookie of a taking now, whose number is needed from now on (Linux's
-    /// `start_poll_synchronize_rcu`).
+    /// Takes a snapshot, and requests its number (Linux's `start_poll_synchronize_rcu`).
     pub fn start_poll(&mut self) -> Cookie
         ensures cookie { result ≡ cookie_of self.old.grace.seq }
         ensures state { self.new ≡ on_grace grace.after_start_poll self.old }
@@ -346,19 +346,20 @@ impl<A: Awaited, T: Drop> GpState<A, T> {
         cookie
     }
 
-    /// Whether a cookie is done (Linux's `poll_state_synchronize_rcu`).
+    /// Returns whether a cookie is done (Linux's `poll_state_synchronize_rcu`).
     pub fn done(&self, cookie: Cookie) -> bool
         ensures { result ≡ is_done cookie self.now.grace.seq }
     {
         self.seq.done(cookie)
     }
 
-    /// The numbers start anew at 0 in the next epoch, which it returns. Callbacks that wait lose
-    /// theirs, as [`Lists::renumber`] has it. A needed number above the last one becomes that of
-    /// the first grace period's end, any other 0. Takes no memory, and costs a step a processor.
+    /// Renumbers: numbers start again at 0 in the next epoch. Returns that epoch. Waiting callbacks
+    /// lose their numbers, as [`Lists::renumber`] says. A needed number above the last one becomes
+    /// the number that ends the first grace period; any other becomes 0. Takes no memory, and costs
+    /// a step a processor.
     ///
-    /// Faults: `Running` (8) where a grace period runs; `NotLast` (22) where the number is not the
-    /// last one; `Exhausted` (11) in the last epoch.
+    /// Faults: `Running` (8) if a grace period runs; `NotLast` (22) if the number is not the last
+    /// one; `Exhausted` (11) in the last epoch.
     pub fn renumber(&mut self) -> Result<u64, Fault>
         ensures last { is_last self.old.grace.seq.last ≡ true }
         ensures epoch { IfOk result (λ epoch. epoch ≡ self.new.grace.seq.epoch) }

@@ -1,4 +1,4 @@
--- Lemmas for callers: about the public definitions of lines and of what goes out.
+-- Lemmas for callers: about the public definitions of lines and of outputs.
 pub use Rattle.rcu_text.proofs.CutLemmas.{cut_append, cut_end, Closes, closes_behind, closed}
 pub use Rattle.rcu_text.proofs.LineLemmas.{line_alike}
 pub use Rattle.rcu_text.proofs.OutputLemmas.{Sends-nil, Sends-trans, Sends-Stops, Stops-before}

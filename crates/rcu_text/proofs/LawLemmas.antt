@@ -58,7 +58,7 @@ pub pieces : (bytes : List ℕ)
 unfolding cut_of
 pieces bytes = sym (pieces_from [] bytes ∙ front_nothing bytes)
 
--- ---- what was read comes first
+-- ---- the lines that were read come first
 
 pub ended_come_first : (all bytes : List ℕ) (left : Option (List ℕ))
     → Consumes (Some all) left bytes

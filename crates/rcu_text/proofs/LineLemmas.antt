@@ -1,4 +1,4 @@
--- What is kept of a line.
+-- The kept bytes of a line.
 use Rattle.std.proofs.Common.{◌≡◌, ◌⊎◌, inl, inr, ◌<◌, ◌≤◌, ◌+◌, ℕ, false, List, [], ◌∷◌, ◌++◌}
 use Rattle.std.proofs.Common.{length, take, refl, sym, ap, ◌∙◌, arith, append-nil, min}
 use Rattle.std.proofs.lemmas.List.{take-append-le, length-take-le, take_all, take_min}
@@ -22,7 +22,7 @@ kept_more line more room n full least =
     min_swap : (a b : ℕ) → min a b ≡ min b a
     min_swap a b = omega arith
 
--- what is kept of a line's front decides what is kept of the line
+-- the kept bytes of a line's prefix decide the kept bytes of the line
 pub kept_again : (line more : List ℕ) → kept_of (kept_of line ++ more) ≡ kept_of (line ++ more)
 kept_again line more =
     elim (cases_lt (length line) 81) as
@@ -41,7 +41,7 @@ too_long line long =
     let e : nat_le (length line) 80 ≡ false = grind (arith, nat_tests) in
     rw e refl
 
--- lines of which the same is kept are the same, or neither is well formed
+-- lines with the same kept bytes are the same, or neither is well formed
 pub kept_alike : (line whole : List ℕ) → kept_of line ≡ kept_of whole → (line ≡ whole)
     ⊎ ((is_well_formed line ≡ false) × (is_well_formed whole ≡ false))
 kept_alike line whole e = elim (cases_lt (length line) 81) [
@@ -62,7 +62,7 @@ kept_alike line whole e = elim (cases_lt (length line) 81) [
         let same : length (kept_of a) ≡ length (kept_of b) = ap length e in
         omega arith
 
--- of a line that has begun something is kept
+-- a line that has begun has a kept byte
 pub nothing_kept : (line : List ℕ) → length (kept_of line) ≡ 0 → line ≡ []
 nothing_kept [] e = refl
 nothing_kept (b ∷ bs) e = absurd (omega arith)
@@ -71,7 +71,7 @@ kept_twice : (line : List ℕ) → kept_of (kept_of line) ≡ kept_of line
 kept_twice line =
     ap kept_of (sym (append-nil (kept_of line))) ∙ kept_again line [] ∙ ap kept_of (append-nil line)
 
--- of the line that these bytes end the same is kept
+-- the line that these bytes end has the same kept bytes
 pub kept_begun : (begun line longer front slice : List ℕ)
     → line ≡ kept_of begun → longer ≡ kept_of (line ++ front) → slice ≡ longer
     → kept_of slice ≡ kept_of (begun ++ front)
@@ -79,18 +79,18 @@ kept_begun begun line longer front slice k e s =
     ap kept_of (s ∙ e) ∙ kept_twice (line ++ front) ∙ ap (λ (l : List ℕ). kept_of (l ++ front)) k
     ∙ kept_again begun front
 
--- where nothing was in hand, these bytes are the line
+-- if no line was unfinished, these bytes are the line
 pub nothing_begun : (begun line front : List ℕ) → line ≡ kept_of begun → length line ≡ 0
     → kept_of front ≡ kept_of (begun ++ front)
 nothing_begun begun line front k none =
     ap (λ (l : List ℕ). kept_of (l ++ front)) (sym (nothing_kept begun (sym (ap length k) ∙ none)))
 
--- of a line that has no end the same is kept
+-- a line without an end has the same kept bytes
 pub kept_whole : (begun line slice : List ℕ) → line ≡ kept_of begun → slice ≡ line
     → kept_of slice ≡ kept_of begun
 kept_whole begun line slice k s = ap kept_of (s ∙ k) ∙ kept_twice begun
 
--- lines of which the same is kept are the same to whoever parses them
+-- lines with the same kept bytes parse alike
 pub line_alike : {E : Type 0} (parse : List ℕ → List (List ℕ) → Option E) (line whole : List ℕ)
     → kept_of line ≡ kept_of whole
     → line_by parse line ≡ line_by parse whole

@@ -118,7 +118,7 @@ long_value word n =
     let same : value_of word ≡ value_of (take 19 word ++ last.0 ∷ []) = ap value_of whole in
     omega arith
 
--- 20 digits are digits where their first 19 and the last one are
+-- 20 digits are digits if their first 19 and the last one are
 pub long_digits : (word : List ℕ) → list_all is_digit word
     ≡ (list_all is_digit (take 19 word) && list_all is_digit (drop 19 word))
 long_digits word = ap (list_all is_digit) (sym (take-append-drop 19 word))

@@ -1,4 +1,4 @@
--- What goes out, one text after another.
+-- Outputs, one text after another.
 use Rattle.std.proofs.Common.{◌≡◌, ◌+◌, ◌<◌, ℕ, List, [], ◌∷◌, ◌++◌, length, take, drop, refl, sym}
 use Rattle.std.proofs.Common.{ap, ap₂, ◌∙◌, append_assoc, append-nil, take-append-drop, subst}
 use Rattle.std.proofs.Common.{arith, get_or, length-append}
@@ -59,7 +59,7 @@ Stops-before a b text later p = record {
   same = p.same;
 }
 
--- where nothing waits before and after, what is sent is what the writer took
+-- if no byte is buffered before and after, the writer took the text that is sent
 pub Sends-taken : (a b : Out) (text : List ℕ) → a.waiting ≡ [] → b.waiting ≡ [] → Sends a b text
     → Appends a.writer.taken b.writer.taken text
 Sends-taken a b text before after p =
@@ -67,7 +67,7 @@ Sends-taken a b text before after p =
     ∙ ap (λ (l : List ℕ). p.front ++ l) after ∙ append-nil p.front in
     subst (Appends a.writer.taken b.writer.taken) (sym all) p.out
 
--- where nothing waits before, what the writer took of a text that it stopped in is a front of it
+-- if no byte is buffered before, the writer took a prefix of the text that it stopped in
 pub Stops-taken : (a b : Out) (text : List ℕ) → a.waiting ≡ [] → (s : Stops a b text)
     → text ≡ s.front ++ s.left
 Stops-taken a b text before s = ap (λ (l : List ℕ). l ++ text) (sym before) ∙ s.whole
@@ -167,7 +167,7 @@ module _ {X : Type 0} (text : X → List ℕ) where
       (Stops-before a c (flat_map text (take (i + 1) xs)) (flat_map text (drop (i + 1) xs))
       (subst (Stops a c) (sym (texts_next xs i d lt)) (Sends-Stops a b c _ _ s t)))
 
--- the writer failed where room was made for a text
+-- the writer failed while room was made for a text
 pub stops_before_text : (a b : Out) (text : List ℕ) → Stops a b [] → Stops a b text
 stops_before_text a b text s = Stops-before a b [] text s
 

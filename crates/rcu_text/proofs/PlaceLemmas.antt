@@ -11,7 +11,7 @@ use Rattle.std.specs.List.{position_or_len}
 pub place_fits : (p : ℕ → Bool) (xs : List ℕ) → position_or_len p xs ≤ length xs
 place_fits p xs = prefix_len-le-length (λ x. not (p x)) xs
 
--- where there is none, the length stands for it
+-- if there is none, the length is used instead
 pub place_or_length : (p : ℕ → Bool) (xs : List ℕ)
     → unwrap_or (position p xs) (length xs) ≡ position_or_len p xs
 place_or_length p xs = go (nat_lt (position_or_len p xs) (length xs)) refl
@@ -24,7 +24,7 @@ place_or_length p xs = go (nat_lt (position_or_len p xs) (length xs)) refl
         let least : length xs ≤ position_or_len p xs = grind (arith, nat_tests) in
         rw e (omega arith)
 
--- what stands for a place and its length
+-- the values used for a place and its length
 pub place_there : (p : ℕ → Bool) (xs : List ℕ) (o : Option ℕ) (n : ℕ) → o ≡ position p xs
     → n ≡ unwrap_or o (length xs) → (n ≡ position_or_len p xs) × (n ≤ length xs)
 place_there p xs o n found is =

@@ -1,4 +1,4 @@
--- A line is printable where its words are, so who knows all words has no need to look at each byte.
+-- A line is printable if its words are, so a parser that knows all words need not test each byte.
 use Rattle.std.proofs.Common.{◌≡◌, ◌==◌, ◌&&◌, ◌∙◌, ℕ, Bool, true, false, cond, List, [], ◌∷◌}
 use Rattle.std.proofs.Common.{Option, Some, None, refl, sym, ap, arith, if◌then◌else◌}
 use Rattle.std.proofs.Math.Bool.{and_assoc}
@@ -44,7 +44,7 @@ filter_words [] = refl
 filter_words ([] ∷ ws) = filter_words ws
 filter_words ((b ∷ bs) ∷ ws) = ap (λ (t : Bool). is_word (b ∷ bs) && t) (filter_words ws)
 
--- a line is printable where each of its words is
+-- a line is printable if each of its words is
 pub words_printable : (line : List ℕ)
     → list_all is_printable line ≡ list_all is_word (words_of line)
 words_printable line = sym (filter_words (slice_split (λ b. b == 32) line) ∙ parts_printable line)

@@ -14,7 +14,7 @@ use Rattle.rcu_text.specs.Underway.{LinesAreAnswered, StoppedAmong, Underway}
 use Rattle.rcu_text.proofs.CutLemmas.{ended_among_lines}
 use Rattle.rcu_text.proofs.OutputLemmas.{Sends-nil, Sends-taken, Stops-taken}
 
--- what holds of lines and a text
+-- a relation of lines and a text
 abbrev Past : Type 1
 Past = List (List ℕ) → List ℕ → Type 0
 
@@ -72,7 +72,7 @@ pub whole_input : (s0 s1 s2 : Option (List ℕ)) (bytes block : List ℕ) (n : �
 whole_input s0 s1 s2 bytes block n P r none q end p =
     Consumes-whole s0 s2 bytes P (nothing_more s0 s1 s2 bytes block n r none q) end p
 
--- ---- what was written
+-- ---- the bytes that were written
 
 pub answered : (past : Past) (lines : List (List ℕ)) (a b : Out) → a.waiting ≡ [] → b.waiting ≡ []
     → LinesAreAnswered past lines (Sends a b) → Answered past lines a.writer.taken b.writer.taken
@@ -178,7 +178,7 @@ ended_were_read bytes None = ended_among_lines bytes
 ended_were_read bytes (Some []) = ended_among_lines bytes
 ended_were_read bytes (Some (b ∷ left)) = ([], sym (append-nil (cut_of bytes).ended))
 
--- what breaks off among the ended lines breaks off among those that were read whole
+-- an answer that breaks off among the ended lines does so among those that were read completely
 broken_among : (past : Past) (left : Option (List ℕ)) (a c : Out) (bytes : List ℕ) → a.waiting ≡ []
     → StoppedAmong past (cut_of bytes).ended (Stops a c)
     → BrokenOff past (lines_read bytes left) a.writer.taken c.writer.taken

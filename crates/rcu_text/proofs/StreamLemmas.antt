@@ -1,4 +1,4 @@
--- What a writer takes, one part after another.
+-- The bytes that a writer takes, one part after another.
 use Rattle.std.proofs.Common.{◌≡◌, ◌++◌, ℕ, List, take, drop, sym, ap, ◌∙◌}
 use Rattle.std.proofs.Common.{append_assoc, take-append-drop}
 use Rattle.std.specs.Io.KnownBytes.{Appends}

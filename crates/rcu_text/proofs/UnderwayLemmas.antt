@@ -1,4 +1,4 @@
--- Lines on their way: what holds with one line more, and at the end of the input.
+-- Lines in progress: with one line more, and at the end of the input.
 use Rattle.std.proofs.Common.{◌≡◌, ◌≢◌, ◌==◌, ◌<◌, ℕ, false, List, [], ◌∷◌, ◌++◌, length, Result}
 use Rattle.std.proofs.Common.{Ok, Err, refl, sym, ap, ◌∙◌, subst, arith, append_assoc, append-nil}
 use Rattle.std.specs.Prelude.{All}
@@ -11,13 +11,13 @@ use Rattle.rcu_text.proofs.CutLemmas.{cut_line, cut_open, ended_grows}
 use Rattle.rcu_text.proofs.LineLemmas.{kept_again, nothing_kept}
 use Rattle.rcu_text.proofs.OutputLemmas.{Sends-trans, Sends-Stops, puts_two}
 
--- what holds of lines and a text
+-- a relation of lines and a text
 abbrev Past : Type 1
 Past = List (List ℕ) → List ℕ → Type 0
 
 -- ---- one line more
 
--- a reply that was told for whoever was opened is told for one
+-- a reply for any opening is one for this opening
 pub one_more : {S : Type 0} (before after : S → Past) (line : List ℕ) (opened : S)
     (lines : List (List ℕ)) (text whole : List ℕ) (went : List ℕ → Type 0)
     → LineIsAnswered before after line went
@@ -49,7 +49,7 @@ stopped_more mid past lines line a b c s r = record {
   out = Sends-Stops a b c s.text r.reply s.out r.out;
 }
 
--- what waited was written behind an answer
+-- the buffered bytes were written behind an answer
 pub stands_flushed : {X E : Type 0} (r : Result X E) (past : Past) (lines : List (List ℕ))
     (a b c : Out)
     → LinesAreAnswered past lines (Sends a b)
@@ -104,7 +104,7 @@ underway_rest past a b line longer bytes rest h u e = record {
       (e ∙ ap (λ (l : List ℕ). kept_of (l ++ rest)) u.holds ∙ kept_again (cut_of bytes).rest rest);
 }
 
--- what stops at a front of the bytes stops among their lines
+-- a run that stops in a prefix of the bytes stops among their lines
 pub stopped_among : (past : Past) (went : List ℕ → Type 0) (bytes more all : List ℕ)
     → bytes ++ more ≡ all → LinesAreAnswered past (cut_of bytes).ended went
     → StoppedAmong past (cut_of all).ended went
@@ -117,7 +117,7 @@ stopped_among past went bytes more all e s =
       stands = s;
     }
 
--- ---- what happens to a piece
+-- ---- a part of the input
 
 -- a line is ended, and the writer failed in its answer
 pub piece_stopped : (mid past : Past) (a b c : Out)
@@ -173,7 +173,7 @@ piece_rest past a b line longer bytes done rest piece h whole e u =
     subst (Underway past a b longer)
     (append_assoc bytes done rest ∙ ap (λ (l : List ℕ). bytes ++ l) (sym whole)) u2
 
--- what waited was written behind the answers to a piece
+-- the buffered bytes were written behind the answers to a part
 pub goes_on_flushed : {X E : Type 0} (r : Result X E) (past : Past) (a b c : Out)
     (line bytes : List ℕ)
     → Underway past a b line bytes

@@ -8,7 +8,7 @@ use Rattle.rcu_text.specs.Words.{words_of, has_byte}
 abbrev pub space : ℕ → Bool
 space b = b == 32
 
--- how many bytes stand before the first space
+-- how many bytes are before the first space
 abbrev pub first_len : List ℕ → ℕ
 first_len bs = position_or_len space bs
 
@@ -70,7 +70,7 @@ word_there (b ∷ bs) ws lt = go (space b) refl
         let n = len_else b bs e in
         rw n refl
 
--- what stands before the first space is the first word, where it has a byte
+-- the bytes before the first space are the first word, if there are any
 pub words_first : (bs : List ℕ) (n : ℕ) → n ≡ position_or_len (λ b. b == 32) bs → 0 < n
     → words_of bs ≡ take n bs ∷ words_of (drop n bs)
 words_first bs n e lt =

@@ -28,7 +28,7 @@ nothing_cut = record { ended = []; rest = [] }
 unfoldable pub cut_of : List ℕ → Cut
 cut_of bytes = fold with_byte nothing_cut bytes
 
--- a last line without its end counts where it has a byte
+-- a last line without its end counts if it has a byte
 abbrev pub lines_of_cut : Cut → List (List ℕ)
 lines_of_cut cut = if length cut.rest == 0 then cut.ended else cut.ended ++ cut.rest ∷ []
 
@@ -36,8 +36,8 @@ lines_of_cut cut = if length cut.rest == 0 then cut.ended else cut.ended ++ cut.
 abbrev pub lines_of : List ℕ → List (List ℕ)
 lines_of bytes = lines_of_cut (cut_of bytes)
 
--- the lines that were read whole with these bytes, of a reader that has this left: those that the
--- bytes end, and a last one without its end where no byte is known to follow
+-- the lines that were read completely with these bytes, if the reader has these left: those that
+-- the bytes end, and a last one without its end if no byte is known to follow
 abbrev pub lines_read : List ℕ → Option (List ℕ) → List (List ℕ)
 lines_read bytes None = lines_of bytes
 lines_read bytes (Some []) = lines_of bytes
@@ -53,18 +53,18 @@ is_printable b = nat_le 32 b && nat_le b 126
 abbrev pub is_well_formed : List ℕ → Bool
 is_well_formed line = nat_le (length line) 80 && list_all is_printable line
 
--- what is kept of a line that is being read: its first 81 bytes, since a longer line is malformed
+-- the kept bytes of a line that is being read: its first 81, since a longer line is malformed
 -- whatever follows
 abbrev pub kept_of : List ℕ → List ℕ
 kept_of line = take 81 line
 
 module _ {E : Type 0} (parse : List ℕ → List (List ℕ) → Option E) where
-  -- words ask for what their first one and the others behind it parse as, and else the line is
+  -- words ask for the request that their first one and the others parse as, or else the line is
   -- malformed; a line without a word is blank
   abbrev pub line_of_words : List (List ℕ) → Line E
   line_of_words [] = Blank
   line_of_words (name ∷ words) = option_map_or (λ event. Ask event) (parse name words) Malformed
 
-  -- what a line is: malformed in its bytes, or what its words say
+  -- the kind of a line: malformed in its bytes, or as its words say
   abbrev pub line_by : List ℕ → Line E
   line_by line = if is_well_formed line then line_of_words (words_of line) else Malformed

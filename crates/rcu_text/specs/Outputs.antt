@@ -1,29 +1,30 @@
--- What goes out: what the writer took, and what waits for it.
+-- The output: the bytes that the writer took, and those that are buffered for it.
 use Rattle.std.specs.Prelude.{◌≡◌, ◌++◌, ◌-◌, ℕ, true, List, [], length, Result, MatchResult}
 use Rattle.std.specs.Borrow.{GName}
 use Rattle.std.specs.Io.KnownBytes.{Appends}
 use Rattle.rcu_text.specs.Streams.{Outgoing}
 
--- the writer, the bytes that wait for it, how many more may wait, and which writer it is: a name
--- that tells one borrowed writer from another
+-- the writer, the bytes that are buffered for it, how many more may be, and which writer it is: a
+-- name that distinguishes borrowed writers
 pub record Out : Type 0 where
   pub writer : Outgoing
   pub waiting : List ℕ
   pub room : ℕ
   pub name : GName
 
--- nothing waits for this writer, and so many bytes may
+-- no byte is buffered for this writer, and this number of bytes may be
 abbrev pub waiting_for : Outgoing → GName → ℕ → Out
 waiting_for writer name room = record { writer = writer; waiting = []; room = room; name = name }
 
--- with the text behind what waits
+-- with the text behind the buffered bytes
 abbrev pub after_put_text : Out → List ℕ → Out
 after_put_text out text = record out {
   waiting = out.waiting ++ text;
   room = out.room - length text;
 }
 
--- the text went behind what waited: the writer took a front of these bytes, and the others wait
+-- the text went behind the buffered bytes: the writer took a prefix of all these bytes, and the
+-- others are buffered
 pub record Sends (old new : Out) (text : List ℕ) : Type 0 where
   pub front : List ℕ
   pub out : Appends old.writer.taken new.writer.taken front
@@ -31,7 +32,7 @@ pub record Sends (old new : Out) (text : List ℕ) : Type 0 where
   pub sound : new.writer.failed ≡ old.writer.failed
   pub same : new.name ≡ old.name
 
--- the writer failed, and took a beginning of what waited and the text
+-- the writer failed, and took a prefix of the buffered bytes and the text
 pub record Stops (old new : Out) (text : List ℕ) : Type 0 where
   pub front : List ℕ
   pub left : List ℕ

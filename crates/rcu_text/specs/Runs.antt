@@ -1,5 +1,5 @@
--- What a run over the lines of a reader answers and leaves. Which texts answer which lines is a
--- relation `IsText` throughout.
+-- The answer of a run over the lines of a reader, and its end. A relation `IsText` gives the texts
+-- that answer lines.
 use Rattle.std.specs.Prelude.{◌≡◌, ◌<◌, ◌^◌, ◌-◌, ◌++◌, ℕ, true, List, length, Option, Result, Ok}
 use Rattle.std.specs.Prelude.{Err, IfSome}
 use Rattle.std.specs.Io.KnownBytes.{Appends, Consumes, IsAtEnd}
@@ -13,7 +13,7 @@ pub record Ends : Type 0 where
   pub reader : Incoming
   pub writer : Outgoing
 
--- the ends, of their parts
+-- the two ends, by their parts
 abbrev pub ends_of : Incoming → Outgoing → Ends
 ends_of reader writer = record { reader = reader; writer = writer }
 
@@ -24,7 +24,7 @@ pub record Answered (IsText : List (List ℕ) → List ℕ → Type 0) (lines : 
   pub answer : IsText lines text
   pub out : Appends old new text
 
--- a beginning of an answer to a front of the lines was written
+-- a prefix of an answer to the first lines was written
 pub record BrokenOff (IsText : List (List ℕ) → List ℕ → Type 0) (lines : List (List ℕ))
     (old new : Option (List ℕ)) : Type 0 where
   pub front : List (List ℕ)
@@ -35,7 +35,7 @@ pub record BrokenOff (IsText : List (List ℕ) → List ℕ → Type 0) (lines :
   pub answer : IsText front (written ++ unwritten)
   pub out : Appends old new written
 
--- a beginning of this text was written
+-- a prefix of this text was written
 pub record BegunToWrite (text : List ℕ) (old new : Option (List ℕ)) : Type 0 where
   pub written : List ℕ
   pub unwritten : List ℕ
@@ -50,8 +50,8 @@ pub record Finished (IsText : List (List ℕ) → List ℕ → Type 0) (old new 
   pub read_sound : new.reader.failed ≡ old.reader.failed
   pub write_sound : new.writer.failed ≡ old.writer.failed
 
--- a read failed, and the lines that were read whole are answered. Only after 2^64 - 1 bytes does a
--- run stop so although no read failed
+-- a read failed, and the lines that were read completely are answered. A run stops so without a
+-- failed read only after 2^64 - 1 bytes
 pub record StoppedReading (IsText : List (List ℕ) → List ℕ → Type 0) (old new : Ends) : Type 0 where
   pub bytes : List ℕ
   pub read : Consumes old.reader.remaining new.reader.remaining bytes
@@ -59,7 +59,7 @@ pub record StoppedReading (IsText : List (List ℕ) → List ℕ → Type 0) (ol
   pub failed : length bytes < 2 ^ 64 - 1 → new.reader.failed ≡ true
   pub write_sound : new.writer.failed ≡ old.writer.failed
 
--- a write failed, in an answer to a front of the lines that were read whole
+-- a write failed, in an answer to the first of the lines that were read completely
 pub record StoppedWriting (IsText : List (List ℕ) → List ℕ → Type 0) (old new : Ends) : Type 0 where
   pub bytes : List ℕ
   pub read : Consumes old.reader.remaining new.reader.remaining bytes

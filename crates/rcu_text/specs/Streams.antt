@@ -1,13 +1,13 @@
--- Where bytes come from, and where they go.
+-- Sources and sinks of bytes.
 use Rattle.std.specs.Prelude.{◌≡◌, ◌++◌, ℕ, Bool, true, List, Option, Result, MatchResult}
 use Rattle.std.specs.Io.KnownBytes.{Appends}
 
--- the bytes that a reader gives from here on, where they are known, and whether a read failed
+-- the bytes that further reads return, if they are known, and whether a read failed
 pub record Incoming : Type 0 where
   pub remaining : Option (List ℕ)
   pub failed : Bool
 
--- the bytes that a writer took, where they are known, and whether a write failed
+-- the bytes that a writer took, if they are known, and whether a write failed
 pub record Outgoing : Type 0 where
   pub taken : Option (List ℕ)
   pub failed : Bool
@@ -17,7 +17,7 @@ pub record Takes (old new : Outgoing) (bytes : List ℕ) : Type 0 where
   pub out : Appends old.taken new.taken bytes
   pub sound : new.failed ≡ old.failed
 
--- the writer failed, and took a beginning of these bytes
+-- the writer failed, and took a prefix of these bytes
 pub record BreaksOff (old new : Outgoing) (bytes : List ℕ) : Type 0 where
   pub front : List ℕ
   pub left : List ℕ

@@ -9,7 +9,7 @@ abbrev pub has_byte : List ℕ → Bool
 has_byte [] = false
 has_byte (b ∷ bs) = true
 
--- what stands between spaces, where that has a byte
+-- the parts between spaces that have a byte
 abbrev pub words_of : List ℕ → List (List ℕ)
 words_of line = filter has_byte (slice_split (λ b. b == 32) line)
 
@@ -21,7 +21,7 @@ is_digit b = nat_le 48 b && nat_le b 57
 abbrev pub value_of : List ℕ → ℕ
 value_of digits = fold (λ n b. 10 * n + (b - 48)) 0 digits
 
--- a number: 1 to 20 digits whose value fits 64 bits; leading zeros may stand
+-- a number: 1 to 20 digits whose value fits 64 bits; leading zeros are allowed
 abbrev pub is_number : List ℕ → Bool
 is_number word =
     nat_lt 0 (length word)

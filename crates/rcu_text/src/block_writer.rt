@@ -1,4 +1,4 @@
-//! The bytes that wait for a writer.
+//! The bytes that are buffered for a writer.
 ghost use Rattle.std.specs.Prelude.{◌≡◌, ◌≤◌, ◌∷◌, [], length, OnErr, OnOk};
 ghost use Rattle.rcu_text.specs.Outputs.{Out, Puts, after_put_text, waiting_for};
 ghost use Rattle.rcu_text.specs.Streams.{Writes};
@@ -6,42 +6,43 @@ ghost use Rattle.rcu_text.specs.Streams.{Writes};
 use crate::streams::{Failed, Sink};
 use arrayvec::ArrayVec;
 
-/// How many bytes wait at most: a page.
+/// The most bytes that are buffered: a page.
 const BLOCK: usize = 4096;
 
-/// What texts are put into. They wait in a block, so room is made first, and then a text is put
-/// without a refusal.
+/// A buffered output of texts. They wait in a block: a caller first makes room, and then puts a
+/// text without a refusal.
 pub trait Output {
-    /// What the writer took, what waits for it, and how many bytes more may wait.
+    /// The bytes that the writer took, the buffered ones, and how many more may be buffered.
     ghost out: { Self → Out };
 
-    /// Makes room for so many bytes: writes those that wait where these would not fit behind them.
+    /// Makes room for this number of bytes: writes the buffered ones if these would not fit behind
+    /// them.
     ///
-    /// Where the writer fails, it took a beginning of what waited.
+    /// If the writer fails, it took a prefix of the buffered bytes.
     fn make_room(&mut self, most: usize) -> Result<(), Failed>
         requires { most ≤ 4096 }
         ensures bytes { Puts result (out self.old) (out self.new) [] }
         ensures room { OnOk result (most ≤ (out self.new).room) };
 
-    /// Puts a text behind what waits, a step a byte.
+    /// Puts a text behind the buffered bytes. Costs a step for each byte.
     fn put_text(&mut self, text: &[u8])
         requires { length text.now ≤ (out self.old).room }
         ensures { out self.new ≡ after_put_text (out self.old) text.now };
 
-    /// Puts a byte behind what waits.
+    /// Puts a byte behind the buffered bytes.
     fn put_byte(&mut self, byte: u8)
         requires { 1 ≤ (out self.old).room }
         ensures { out self.new ≡ after_put_text (out self.old) (byte ∷ []) };
 
-    /// Writes what waits. At `Ok` nothing waits.
+    /// Writes the buffered bytes. At `Ok` none is left.
     ///
-    /// Where the writer fails, it took a beginning of what waited.
+    /// If the writer fails, it took a prefix of the buffered bytes.
     fn flush(&mut self) -> Result<(), Failed>
         ensures bytes { Puts result (out self.old) (out self.new) [] }
         ensures empty { OnOk result ((out self.new).waiting ≡ []) };
 }
 
-/// A writer with the bytes that wait for it. It takes them a block at a time.
+/// A writer with the bytes that are buffered for it. It takes them a block at a time.
 #[derive(Drop)]
 pub struct BlockWriter<'a, W: Sink> {
     sink: &'a mut W,
@@ -49,7 +50,7 @@ pub struct BlockWriter<'a, W: Sink> {
 }
 
 impl<'a, W: Sink> BlockWriter<'a, W> {
-    /// A writer for which no byte waits.
+    /// Returns a writer without buffered bytes.
     pub fn new(sink: &'a mut W) -> BlockWriter<'a, W>
         ensures { ⟦<BlockWriter<'a, W> as Output>⟧.out result
             ≡ waiting_for (W.outgoing sink.old) sink.entry.ghost_name 4096 }
@@ -96,7 +97,7 @@ impl<'a, W: Sink> Output for BlockWriter<'a, W> {
     }
 }
 
-/// Writes what waits in the block, in which then nothing waits.
+/// Writes the bytes of the block, and empties it.
 fn write_block<W: Sink>(sink: &mut W, block: &mut ArrayVec<u8, BLOCK>) -> Result<(), Failed>
     ensures written { Writes result (W.outgoing sink.old) (W.outgoing sink.new) block.old.items }
     ensures empty { OnOk result (block.new.items ≡ []) }

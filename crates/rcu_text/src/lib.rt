@@ -1,4 +1,4 @@
-//! Lines of bytes: from a reader, through whoever replies to them, to a writer.
+//! Lines of bytes: from a reader, through a responder, to a writer.
 #![tactic(auto)]
 
 pub mod block_writer;

@@ -5,8 +5,7 @@ ghost use Rattle.rcu_text.specs.Lines.{kept_of};
 use arrayvec::ArrayVec;
 use std::marker::Model;
 
-/// How many bytes of a line are kept: one more than a line may have, so that a longer one is known
-/// to be longer.
+/// How many bytes of a line are kept: one more than a line may have, to detect a longer one.
 const KEPT: usize = 81;
 
 /// The line that is being read, of which the first 81 bytes are kept. Contracts see the list of
@@ -25,7 +24,7 @@ impl Model for LineBuffer {
 }
 
 impl LineBuffer {
-    /// A line of no bytes.
+    /// Returns a line without bytes.
     pub fn new() -> LineBuffer
         ensures { result ≡ [] }
     {
@@ -34,7 +33,7 @@ impl LineBuffer {
         }
     }
 
-    /// Puts bytes behind those that are kept, as many as are to be kept.
+    /// Appends bytes, as far as they have to be kept.
     pub fn extend(&mut self, bytes: &[u8])
         ensures { self.new ≡ kept_of (self.old ++ bytes.now) }
     {
@@ -53,14 +52,14 @@ impl LineBuffer {
         self.bytes.clear();
     }
 
-    /// Whether the line has no byte yet.
+    /// Returns whether the line has no byte yet.
     pub fn is_empty(&self) -> bool
         ensures { result ≡ (length self.now == 0) }
     {
         self.bytes.is_empty()
     }
 
-    /// The bytes that are kept.
+    /// Returns the kept bytes.
     pub fn as_slice(&self) -> &[u8]
         ensures { result.now ≡ self.now }
     {

@@ -1,4 +1,4 @@
-//! The lines of a reader, cut and answered, from bytes to bytes.
+//! The lines of a reader, split and answered, from bytes to bytes.
 ghost use Rattle.std.specs.Prelude.{◌≡◌, ◌≢◌, ◌++◌, ◌∷◌, ℕ, List, [], All, IfNone, IfSome, OnOk};
 ghost use Rattle.rcu_text.specs.Lines.{kept_of, lines_of};
 ghost use Rattle.rcu_text.specs.Outputs.{Out, Puts};
@@ -10,18 +10,18 @@ use crate::block_writer::{BlockWriter, Output};
 use crate::line_buffer::LineBuffer;
 use crate::streams::{Failed, Sink, Source};
 
-/// How many bytes are read at once: some pages, so that a read costs little beside its lines.
+/// How many bytes are read at once: some pages, so that a read is cheap compared with its lines.
 const BLOCK: usize = 16_384;
 
 /// Replies to lines, one at a time.
 pub trait Responder {
-    /// Of the state before some lines and the state after them: these lines were answered by this
-    /// text.
+    /// A relation of the state before some lines, the state after them, the lines, and the text
+    /// that answered them.
     ghost past: { Self → Self → List (List ℕ) → List ℕ → Type 0 };
 
-    /// Replies to a line, whose bytes behind the first 81 make no difference.
+    /// Replies to a line. Its bytes after the first 81 make no difference.
     ///
-    /// Where the writer fails, it took a beginning of what waited and the reply.
+    /// If the writer fails, it took a prefix of the buffered bytes and the reply.
     fn reply_to<O: Output>(&mut self, line: &[u8], out: &mut O) -> Result<(), Failed>
         ensures { LineIsAnswered (λ opened. past opened self.old)
             (λ opened. past opened self.new) line.now
@@ -37,15 +37,15 @@ pub enum StreamFault {
     Write,
 }
 
-/// Replies to all lines that the reader gives, in order. It costs a step a byte that is read, and
-/// what the replies cost.
+/// Replies to all lines of the reader, in order. Costs a step for each byte that is read, and the
+/// cost of the replies.
 ///
-/// Faults: `Read` where the reader failed; `Write` where the writer failed.
+/// Faults: `Read` if the reader failed; `Write` if the writer failed.
 ///
-/// Every reply of the lines that were read is written before the next read, so a run that a failed
-/// read stops has replied to the lines that were read whole. Where a write failed, a beginning of
-/// the replies to such lines was written: no line has its reply before its end, or the input's, was
-/// read.
+/// Every reply to the lines that were read is written before the next read. So a run that a failed
+/// read stops has replied to the lines that were read completely. If a write failed, a prefix of
+/// the replies to such lines was written. No line gets its reply before its end, or that of the
+/// input, was read.
 pub fn run<A: Responder, R: Source, W: Sink>(
     responder: &mut A,
     reader: &mut R,
@@ -60,7 +60,7 @@ pub fn run<A: Responder, R: Source, W: Sink>(
     run_through(responder, reader, &mut out)
 }
 
-/// Answers all lines that the reader gives, through an output for which nothing waits.
+/// Answers all lines of the reader, through an output without buffered bytes.
 fn run_through<A: Responder, R: Source, O: Output>(
     responder: &mut A,
     reader: &mut R,
@@ -75,7 +75,7 @@ fn run_through<A: Responder, R: Source, O: Output>(
 {
     let mut line = LineBuffer::new();
     let mut block = [0; BLOCK];
-    // One turn reads at least a byte, so that these are turns enough.
+    // Each turn reads at least a byte, so these turns suffice.
     for _turn in 0..u64::MAX {
         let read = match reader.read(&mut block) {
             Ok(read) => read,
@@ -96,7 +96,7 @@ fn run_through<A: Responder, R: Source, O: Output>(
     Err(StreamFault::Read)
 }
 
-/// Answers a last line that has no end, and writes what waits.
+/// Answers a last line without an end, and writes the buffered bytes.
 fn finish<A: Responder, O: Output>(
     responder: &mut A,
     line: &LineBuffer,
@@ -116,7 +116,7 @@ fn finish<A: Responder, O: Output>(
     out.flush()
 }
 
-/// Takes a piece of the input, and writes the replies to the lines that it ends.
+/// Takes a part of the input, and writes the replies to the lines that it ends.
 fn take_piece<A: Responder, O: Output>(
     responder: &mut A,
     line: &mut LineBuffer,
@@ -134,7 +134,8 @@ fn take_piece<A: Responder, O: Output>(
     out.flush()
 }
 
-/// Takes a piece of the input: answers the lines that it ends, and keeps the rest in hand.
+/// Takes a part of the input: answers the lines that it ends, and keeps the rest as the unfinished
+/// line.
 fn take_lines<A: Responder, O: Output>(
     responder: &mut A,
     line: &mut LineBuffer,
@@ -156,7 +157,7 @@ fn take_lines<A: Responder, O: Output>(
     Ok(())
 }
 
-/// What stands before the first line end, and what stands behind it; none where no line ends.
+/// Returns the bytes before the first line end, and those behind it; none if no line ends.
 fn split_at_line_end(bytes: &[u8]) -> Option<(&[u8], &[u8])>
     ensures none { IfNone result (All (λ b. b ≢ 10) bytes.now) }
     ensures some { IfSome result (λ parts. bytes.now ≡ parts.0.now ++ 10 ∷ parts.1.now) }
@@ -167,7 +168,7 @@ fn split_at_line_end(bytes: &[u8]) -> Option<(&[u8], &[u8])>
     Some((front, behind.split_at(1).1))
 }
 
-/// Ends the line in hand with these bytes, and answers it.
+/// Ends the unfinished line with these bytes, and answers it.
 fn end_line<A: Responder, O: Output>(
     responder: &mut A,
     line: &mut LineBuffer,

@@ -1,24 +1,24 @@
-//! What a line is, to whoever replies to it.
+//! The kinds of lines, for a responder.
 ghost use Rattle.std.specs.Prelude.{◌≡◌};
 ghost use Rattle.std.specs.List.{list_all};
 ghost use Rattle.rcu_text.specs.Lines.{is_printable};
 ghost use Rattle.rcu_text.specs.Lines.{is_well_formed as well_formed};
 
-/// How many bytes a line has at most, its end not counted.
+/// The most bytes of a line, without its end.
 pub const LONGEST: usize = 80;
 
-/// What a line is.
+/// The kind of a line.
 #[derive(Debug, Drop, PartialEq, Eq)]
 pub enum Line<E> {
-    /// It has no word, and gets no reply.
+    /// The line has no word, and gets no reply.
     Blank,
-    /// It is outside the grammar.
+    /// The line is outside the grammar.
     Malformed,
-    /// It asks for this.
+    /// The line is a request.
     Ask(E),
 }
 
-/// Whether the line has at most 80 bytes, all of them printable.
+/// Returns whether the line has at most 80 bytes, all of them printable.
 pub fn is_well_formed(line: &[u8]) -> bool
     ensures { result ≡ well_formed line.now }
 {

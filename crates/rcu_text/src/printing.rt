@@ -8,13 +8,13 @@ use crate::block_writer::Output;
 use crate::streams::Failed;
 use itoa::write_digits;
 
-/// How many bytes a reply has at most, where it lists nothing.
+/// The most bytes of a reply that is no list.
 pub const LONGEST_REPLY: usize = 128;
 
-/// How many digits a number has at most.
+/// The most digits of a number.
 const MOST_DIGITS: usize = 20;
 
-/// How many bytes a number has at most, with a space before it.
+/// The most bytes of a number with a space before it.
 const LONGEST_NUMBER: usize = 21;
 
 /// Prints a reply of one text.

@@ -6,8 +6,8 @@ use std::io;
 use std::io::{Read, Write};
 use std::marker::Model;
 
-/// A reader or a writer of std that keeps in mind whether it failed. Every error counts, an
-/// interrupted call too, and so does a write that takes none of the bytes.
+/// A reader or a writer of std that remembers whether it failed. Every error counts, an interrupted
+/// call too, and so does a write that takes none of the bytes.
 ///
 /// Contracts see the stream itself and whether it failed.
 #[derive(Drop)]
@@ -25,7 +25,7 @@ impl<S> Model for Marked<S> {
 }
 
 impl<S> Marked<S> {
-    /// The stream, which has not failed.
+    /// Returns the stream, which has not failed.
     pub fn new(stream: S) -> Marked<S>
         ensures { result ≡ (stream, false) }
     {
@@ -35,7 +35,7 @@ impl<S> Marked<S> {
         }
     }
 
-    /// The stream.
+    /// Returns the stream.
     pub fn into_inner(self) -> S
         ensures { result ≡ self.0 }
     {
@@ -46,8 +46,8 @@ impl<S> Marked<S> {
         stream
     }
 
-    /// What the stream answered to a call that has to move at least so many bytes: an error, and a
-    /// lesser count, as a failure that is kept in mind.
+    /// Judges the answer of the stream to a call that has to move at least this number of bytes: an
+    /// error and a smaller count are a failure, which it remembers.
     fn judge(&mut self, answer: io::Result<usize>, least: usize) -> Result<usize, Failed>
         ensures moved { IfOk answer (λ n. least ≤ n → (result ≡ Ok n) × (self.new ≡ self.old)) }
         ensures short { IfOk answer (λ n. n < least

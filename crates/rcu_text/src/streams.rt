@@ -1,4 +1,4 @@
-//! Where bytes come from, and where they go.
+//! Sources and sinks of bytes.
 ghost use Rattle.std.specs.Prelude.{◌≡◌, ◌<◌, true, length, IfOk, OnOk, OnErr};
 ghost use Rattle.std.specs.Io.{ReadsAtMost, WritesAtMost};
 ghost use Rattle.std.specs.Io.KnownBytes.{ReadConsumes, WriteAppends};
@@ -8,17 +8,17 @@ ghost use Rattle.rcu_text.specs.Streams.{Incoming, Outgoing};
 #[derive(Clone, Copy, Debug, PartialEq, Eq)]
 pub struct Failed;
 
-/// What gives bytes, and keeps in mind whether a read failed.
+/// A source of bytes, which remembers whether a read failed.
 pub trait Source {
-    /// The bytes that reads give from here on, where they are known, and whether a read failed.
+    /// The bytes that further reads return, if they are known, and whether a read failed.
     ghost incoming: { Self → Incoming };
 
-    /// Whether a read failed.
+    /// Returns whether a read failed.
     fn has_failed(&self) -> bool
         ensures { result ≡ (incoming self.now).failed };
 
-    /// Puts the next bytes at the front of the buffer, and answers how many: 0 only at the end, or
-    /// where the buffer is empty. At `Failed` no byte was read.
+    /// Puts the next bytes at the front of the buffer, and returns how many: 0 only at the end of
+    /// the input, or if the buffer is empty. At `Failed` no byte was read.
     fn read(&mut self, buf: &mut [u8]) -> Result<usize, Failed>
         ensures bound { ReadsAtMost result buf.new }
         ensures bytes { ReadConsumes (incoming self.old).remaining (incoming self.new).remaining
@@ -27,17 +27,17 @@ pub trait Source {
         ensures failed { OnErr result ((incoming self.new).failed ≡ true) };
 }
 
-/// What takes bytes, and keeps in mind whether a write failed.
+/// A sink of bytes, which remembers whether a write failed.
 pub trait Sink {
-    /// The bytes that it took, where they are known, and whether a write failed.
+    /// The bytes that it took, if they are known, and whether a write failed.
     ghost outgoing: { Self → Outgoing };
 
-    /// Whether a write failed.
+    /// Returns whether a write failed.
     fn has_failed(&self) -> bool
         ensures { result ≡ (outgoing self.now).failed };
 
-    /// Takes a front of the bytes, at least one where there is one, and answers how many. At
-    /// `Failed` it took none.
+    /// Takes a prefix of the bytes, at least one if there is one, and returns how many. At `Failed`
+    /// it took none.
     fn write(&mut self, bytes: &[u8]) -> Result<usize, Failed>
         ensures bound { WritesAtMost result bytes.now }
         ensures some { 0 < length bytes.now → IfOk result (λ n. 0 < n) }

@@ -4,14 +4,14 @@ ghost use Rattle.std.specs.Prelude.{position, Some, None, if◌then◌else◌};
 ghost use Rattle.std.specs.List.{list_all};
 ghost use Rattle.rcu_text.specs.Words.{is_digit, number_in_word, value_of, words_of};
 
-/// How many digits a number has at most, leading zeros included.
+/// The most digits of a number, leading zeros included.
 const MOST_DIGITS: usize = 20;
 
-/// How many digits of a number fit 64 bits, whatever they are.
+/// How many digits always fit 64 bits.
 const SAFE_DIGITS: usize = 19;
 
-/// The first word, and what stands behind it; none where there is no word. It costs a step a byte
-/// up to the word's end.
+/// Returns the first word and the bytes behind it; none if there is no word. Costs a step for each
+/// byte up to the word's end.
 pub fn next_word(line: &[u8]) -> Option<(&[u8], &[u8])>
     ensures none { IfNone result (words_of line.now ≡ []) }
     ensures some { IfSome result (λ w. words_of line.now ≡ w.0.now ∷ words_of w.1.now) }
@@ -28,14 +28,14 @@ pub fn next_word(line: &[u8]) -> Option<(&[u8], &[u8])>
     Some(text.split_at(length))
 }
 
-/// Where the first space stands.
+/// Returns the place of the first space.
 fn first_space(line: &[u8]) -> Option<usize>
     ensures { result ≡ position (λ b. b == 32) line.now }
 {
     line.iter().position(|b| *b == b' ')
 }
 
-/// The number that a word spells: 1 to 20 decimal digits, of a value that fits 64 bits.
+/// Returns the number that a word spells: 1 to 20 decimal digits, of a value that fits 64 bits.
 pub fn number(word: &[u8]) -> Option<u64>
     ensures { result ≡ number_in_word word.now }
 {
@@ -48,7 +48,7 @@ pub fn number(word: &[u8]) -> Option<u64>
     digits(word)
 }
 
-/// The number that 20 digits spell.
+/// Returns the number that 20 digits spell.
 #[cold]
 fn long_number(word: &[u8]) -> Option<u64>
     requires { length word.now ≡ 20 }
@@ -59,7 +59,7 @@ fn long_number(word: &[u8]) -> Option<u64>
     u64::try_from(value).ok()
 }
 
-/// The value of at most 19 digits.
+/// Returns the value of at most 19 digits.
 fn digits(word: &[u8]) -> Option<u64>
     requires { length word.now ≤ 19 }
     ensures value { result

@@ -1,23 +1,23 @@
-//! What a line of a pair asks for, and what a replica answers.
+//! The requests of a pair's lines, and the answers of a replica.
 ghost use Rattle.std.specs.Prelude.{◌≡◌, ◌<◌, ◌++◌, ◌∷◌, [], length};
 
 use arrayvec::ArrayVec;
 use rcu_node::Answer;
 use std::marker::Model;
 
-/// How many processors are kept at most: a line has no more bytes, and each processor takes one.
+/// The most processors of a list: a line has no more bytes, and each processor takes one.
 const MOST: usize = 80;
 
-/// What a line of a pair asks for.
+/// The request of a pair's line.
 #[derive(Debug, Drop)]
 pub enum PairAsk {
-    /// Whether both replicas await the same processors.
+    /// Asks whether both replicas await the same processors.
     Same,
-    /// Something of one replica.
+    /// An event of one replica.
     Of(Side, PairEvent),
 }
 
-/// Which of the two replicas of a pair, by the word that its lines begin with.
+/// One of the two replicas of a pair, by the first word of its lines.
 #[derive(Clone, Copy, Debug, PartialEq, Eq)]
 pub enum Side {
     /// `a`, over the first pair of fanouts.
@@ -26,7 +26,7 @@ pub enum Side {
     B,
 }
 
-/// What a replica of a pair is asked to do.
+/// An event of a replica of a pair.
 #[derive(Debug, Drop)]
 pub enum PairEvent {
     /// A grace period begins, and awaits the listed processors, one or more of them. Faults:
@@ -34,22 +34,22 @@ pub enum PairEvent {
     Begin(LineCpus),
     /// A report of a processor and a number is delivered. Fault: `BadCpu` (1).
     Report(u32, u64),
-    /// The processor departs, and is awaited no more. Faults: `BadCpu` (1), `BootStays` (12).
+    /// The processor departs, and is no longer awaited. Faults: `BadCpu` (1), `BootStays` (12).
     Depart(u32),
     /// The grace period ends. Faults: `Idle` (9), `Waiting` (10).
     End,
     /// The awaited processors are listed.
     Awaits,
-    /// What the other replica has heard is taken in. Fault: `NotAlike` (20).
+    /// The other replica is merged. Fault: `NotAlike` (20).
     Merge,
 }
 
-/// What a replica of a pair answers, where it does not refuse.
+/// The answer of a replica of a pair to an accepted event.
 #[derive(Clone, Copy, Debug, PartialEq, Eq)]
 pub enum PairReply {
     /// The number of the grace period, and how many processors it awaits.
     Begun(u64, u32),
-    /// What the report did.
+    /// The answer to the report.
     Answer(Answer),
     /// The processor departed.
     Departed,
@@ -64,7 +64,7 @@ pub enum PairReply {
 /// Processors that a line lists, in its order, repeats included. Contracts see the list of their
 /// numbers.
 ///
-/// They stand in the value itself, so that no line takes memory.
+/// The value holds them itself, so no line needs memory.
 #[derive(Debug, Drop)]
 pub struct LineCpus {
     cpus: ArrayVec<u32, MOST>,
@@ -79,7 +79,7 @@ impl Model for LineCpus {
 }
 
 impl LineCpus {
-    /// No processor.
+    /// Returns an empty list.
     pub fn new() -> LineCpus
         ensures { result ≡ [] }
     {
@@ -88,7 +88,7 @@ impl LineCpus {
         }
     }
 
-    /// Puts a processor behind the others, of which there are fewer than 80.
+    /// Appends a processor to fewer than 80 others.
     pub fn push(&mut self, cpu: u32)
         requires { length self.old < 80 }
         ensures { self.new ≡ self.old ++ cpu ∷ [] }

@@ -1,4 +1,4 @@
-//! What the definitions say of the lines of a pair.
+//! Laws of the lines of a pair.
 ghost use Rattle.std.specs.Prelude.{◌≡◌, ◌++◌, ℕ, List, Some, codes, true};
 ghost use Rattle.rcu_report.specs.History.{Represents, is_heard, starts, tag};
 ghost use Rattle.rcu_core.specs.Replies.{Size};
@@ -11,8 +11,8 @@ ghost use Rattle.rcu_script.specs.PairTexts.{IsPairText, pair_after, pair_replie
 use rcu_report::laws::{equally_heard_replicas_await_the_same, replica_is_as_its_history_says};
 use rcu_text::laws::lines_read_whole_come_first;
 
-/// After any lines each replica is as the history of its accepted calls says: it awaits the start
-/// set less those heard since.
+/// After any lines each replica is as the history of its accepted calls defines it: it awaits the
+/// start set less the processors heard since.
 pub fn replicas_are_as_their_calls_say()
     ensures a { (size : Size) (lines : List (List ℕ))
         → Represents (pair_after (pair_at size) lines).a (calls_of size lines).a }
@@ -22,9 +22,9 @@ pub fn replicas_are_as_their_calls_say()
     replica_is_as_its_history_says();
 }
 
-/// Where the latest grace periods of both replicas had one number and one start set, and the same
-/// processors of it were heard since, `same` is answered `same`: whatever the fanouts, and in
-/// whatever order the reports and departures came.
+/// If the latest grace periods of both replicas had one number and one start set, and both heard
+/// the same processors since, `same` is answered `same`, whatever the fanouts and the order of the
+/// reports and departures.
 pub fn equally_heard_replicas_are_the_same()
     ensures { (size : Size) (lines : List (List ℕ))
         → tag (calls_of size lines).a ≡ tag (calls_of size lines).b
@@ -37,16 +37,16 @@ pub fn equally_heard_replicas_are_the_same()
     equally_heard_replicas_await_the_same();
 }
 
-/// The right text of lines begins the right text of those and any later ones. So what was written
-/// at a failed read or write begins the right text of the whole input.
+/// The right text of some lines is a prefix of the right text of those and any later ones. So the
+/// text written before a failed read or write is a prefix of the right text of the whole input.
 pub fn the_right_text_of_earlier_lines_comes_first()
     ensures { (size : Size) (lines later : List (List ℕ)) (text : List ℕ)
         → IsPairText size lines text
         → (rest : List ℕ) × IsPairText size (lines ++ later) (text ++ rest) }
 {}
 
-/// What was written where a stream failed begins the right text of the whole input, wherever the
-/// reader would have gone on.
+/// The text written before a stream failed is a prefix of the right text of the whole input,
+/// however the reader would have continued.
 pub fn what_was_written_begins_the_right_text()
     ensures read { (size : Size) (all : List ℕ) (old new : Ends)
         → StoppedReading (IsPairText size) old new → old.reader.remaining ≡ Some all

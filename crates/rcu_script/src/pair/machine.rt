@@ -19,13 +19,13 @@ use rcu_seq::Fault;
 use rcu_text::{Failed, Line, Output, Responder};
 use std::marker::Model;
 
-/// Two replicas, of any awaited sets, that reply to lines. Contracts see both. No line takes
+/// Two replicas, of any awaited sets, that reply to lines. Contracts see both. No line needs
 /// memory.
 #[derive(Drop)]
 pub struct PairMachine<A: Awaited, B: Awaited> {
     a: Replica<A>,
     b: Replica<B>,
-    /// The processors that a beginning grace period is to await. It is filled anew for each.
+    /// The processors of a beginning grace period. Each begin fills the set again.
     set: CpuSet,
 }
 
@@ -45,7 +45,7 @@ impl<A: Awaited, B: Awaited> Model for PairMachine<A, B> {
 }
 
 impl<A: Awaited, B: Awaited> PairMachine<A, B> {
-    /// Two replicas of as many processors, and a set for as many.
+    /// Returns a pair of two replicas and a set, all of as many processors.
     pub fn new(a: Replica<A>, b: Replica<B>, set: CpuSet) -> Self
         requires first { length set ≡ cpus_of a }
         requires second { length set ≡ cpus_of b }
@@ -77,7 +77,7 @@ impl<A: Awaited, B: Awaited> Responder for PairMachine<A, B> {
     }
 }
 
-/// Does what a line asks of a replica that stands beside another one, and prints what it came to.
+/// Performs the event of a line on a replica of a pair, and prints the result.
 fn answer<A: Awaited, B: Awaited, O: Output>(
     mine: &mut Replica<A>,
     other: &Replica<B>,

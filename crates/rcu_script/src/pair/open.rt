@@ -16,11 +16,12 @@ use rcu_report::Replica;
 use rcu_seq::{Fault, Seq};
 use std::alloc::Global;
 
-/// Two fresh replicas over the trees of two fanouts each. It costs at most a step a processor.
+/// Returns two fresh replicas over the trees of two fanouts each. Costs at most a step for each
+/// processor.
 ///
-/// Faults: `BadFanout` (18) and `TooManyCpus` (17) as [`Geometry::new`] has them, each tested of
-/// both trees before the next one, `BadLast` (19) as [`Seq::new`] has it, then `NoMemory` (16).
-/// What takes no memory is tested first.
+/// Faults: `BadFanout` (18) and `TooManyCpus` (17) as in [`Geometry::new`], each tested for both
+/// trees before the next one, `BadLast` (19) as in [`Seq::new`], then `NoMemory` (16). All tests
+/// come before an allocation.
 pub fn open_pair<const LEAF: u32, const INNER: u32, const LEAF2: u32, const INNER2: u32>(
     alloc: Global,
     cpus: u32,
@@ -34,7 +35,7 @@ pub fn open_pair<const LEAF: u32, const INNER: u32, const LEAF2: u32, const INNE
     make_pair(alloc, cpus, last)
 }
 
-/// Two fresh replicas, of which only memory can be wanting.
+/// Returns two fresh replicas. Only memory can be refused.
 fn make_pair<const LEAF: u32, const INNER: u32, const LEAF2: u32, const INNER2: u32>(
     alloc: Global,
     cpus: u32,
@@ -50,7 +51,7 @@ fn make_pair<const LEAF: u32, const INNER: u32, const LEAF2: u32, const INNER2: 
     Ok(PairMachine::new(a, b, set))
 }
 
-/// A fresh replica, of which only memory can be wanting.
+/// Returns a fresh replica. Only memory can be refused.
 fn make_replica<const LEAF: u32, const INNER: u32>(
     alloc: Global,
     cpus: u32,

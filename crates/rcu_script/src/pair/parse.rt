@@ -1,4 +1,4 @@
-//! What a line of a pair asks for.
+//! The requests of a pair's lines.
 ghost use Rattle.std.specs.Prelude.{◌≡◌, ◌≤◌, length};
 ghost use Rattle.rcu_text.specs.Lines.{line_by};
 ghost use Rattle.rcu_text.specs.Words.{words_of};
@@ -10,7 +10,7 @@ use crate::pair::event::{LineCpus, PairAsk, PairEvent, Side};
 use crate::script::parse::{cpu_of_number, is_word};
 use rcu_text::{Line, is_well_formed, next_word, number};
 
-/// What a line of a pair asks for.
+/// The requests of a pair's lines.
 pub fn parse_line(line: &[u8]) -> Line<PairAsk>
     ensures { result ≡ line_by pair_ask_of line.now }
 {
@@ -26,7 +26,7 @@ pub fn parse_line(line: &[u8]) -> Line<PairAsk>
     }
 }
 
-/// What a first word and the words behind it ask for.
+/// Returns the request of a first word and the words behind it.
 fn parse_ask(first: &[u8], rest: &[u8]) -> Option<PairAsk>
     requires { length rest.now ≤ 80 }
     ensures { result ≡ pair_ask_of first.now (words_of rest.now) }
@@ -43,7 +43,7 @@ fn parse_ask(first: &[u8], rest: &[u8]) -> Option<PairAsk>
     }
 }
 
-/// The replica of a name.
+/// Returns the replica of a name.
 fn parse_side(name: &[u8]) -> Option<Side>
     ensures { result ≡ side_of name.now }
 {
@@ -54,7 +54,7 @@ fn parse_side(name: &[u8]) -> Option<Side>
     }
 }
 
-/// The event of a name and the words behind it.
+/// Returns the event of a name and the words behind it.
 fn parse_event(name: &[u8], rest: &[u8]) -> Option<PairEvent>
     requires { length rest.now ≤ 80 }
     ensures { result ≡ pair_event_of name.now (words_of rest.now) }
@@ -75,7 +75,7 @@ fn parse_event(name: &[u8], rest: &[u8]) -> Option<PairEvent>
     }
 }
 
-/// The event of a name that stands alone.
+/// Returns the event of a name without further words.
 fn parse_event_alone(name: &[u8]) -> Option<PairEvent>
     ensures { result ≡ pair_event_alone name.now }
 {
@@ -90,7 +90,7 @@ fn parse_event_alone(name: &[u8]) -> Option<PairEvent>
     }
 }
 
-/// The processors that the words list, where each is a number.
+/// Returns the processors that the words list, if each word is a number.
 fn parse_cpus(words: &[u8]) -> Option<LineCpus>
     requires { length words.now ≤ 80 }
     ensures { result ≡ named_cpus (words_of words.now) }
@@ -104,7 +104,7 @@ fn parse_cpus(words: &[u8]) -> Option<LineCpus>
     Some(cpus)
 }
 
-/// The departure of a word, behind which no other may stand.
+/// Returns the departure of a word, if no other word follows.
 fn parse_depart(word: &[u8], rest: &[u8]) -> Option<PairEvent>
     ensures { result ≡ depart_in_words word.now (words_of rest.now) }
 {
@@ -114,7 +114,7 @@ fn parse_depart(word: &[u8], rest: &[u8]) -> Option<PairEvent>
     }
 }
 
-/// The report of a word and the one word behind it.
+/// Returns the report of a word and the one word behind it.
 fn parse_report(word: &[u8], rest: &[u8]) -> Option<PairEvent>
     ensures { result ≡ report_in_words word.now (words_of rest.now) }
 {

@@ -11,10 +11,10 @@ use rcu_core::Reply;
 use rcu_node::Awaited;
 use rcu_text::{Failed, Output, put_line, put_numbered, put_spaced};
 
-/// Prints a reply of a replica as a line. The awaited processors are read off its awaited set, a
-/// step a processor.
+/// Prints a reply of a replica as a line. It reads the awaited processors off the awaited set, a
+/// step for each processor.
 ///
-/// Where the writer fails, it took a beginning of what waited and the line.
+/// If the writer fails, it took a prefix of the buffered bytes and the line.
 pub fn put_pair_reply<A: Awaited, O: Output>(
     out: &mut O,
     reply: PairReply,
@@ -33,7 +33,7 @@ pub fn put_pair_reply<A: Awaited, O: Output>(
     }
 }
 
-/// Prints whether both replicas await the same.
+/// Prints whether both replicas await the same processors.
 pub fn put_compared<O: Output>(out: &mut O, are_same: bool) -> Result<(), Failed>
     ensures { Puts result (O.out out.old) (O.out out.new) (compared_text are_same) }
 {
@@ -44,7 +44,7 @@ pub fn put_compared<O: Output>(out: &mut O, are_same: bool) -> Result<(), Failed
     }
 }
 
-/// The processors that are awaited, as a reply lists them, without a list of their own.
+/// The awaited processors, as a reply lists them, without a list of their own.
 #[derive(Drop)]
 struct Members<'a, A: Awaited> {
     awaited: &'a A,

@@ -15,13 +15,13 @@ use rcu_seq::Fault;
 use rcu_text::{Sink, Source, run};
 use std::alloc::Global;
 
-/// Runs the lines of a pair on two replicas of a setup: replies to all lines that the reader gives,
-/// in order. It costs as much as [`crate::run_script`] does, and has its faults.
+/// Runs the lines of a pair on two replicas of a setup: replies to all lines of the reader, in
+/// order. It has the cost and the faults of [`crate::run_script`].
 ///
-/// Every reply of the lines that were read is written before the next read, so a run that a failed
-/// read stops has replied to the lines that were read whole. Where a write failed, a beginning of
-/// the replies was written. No line takes memory, so just one text is right. The contract is about
-/// readers and writers whose bytes are known, as that of [`crate::run_script`].
+/// Every reply to the lines that were read is written before the next read. So a run that a failed
+/// read stops has replied to the lines that were read completely. If a write failed, a prefix of
+/// the replies was written. No line needs memory, so exactly one text is right. The contract is
+/// about readers and writers whose bytes are known, as that of [`crate::run_script`].
 pub fn run_pair<R: Source, W: Sink>(
     alloc: Global,
     setup: &Setup,
@@ -41,7 +41,7 @@ pub fn run_pair<R: Source, W: Sink>(
     )
 }
 
-/// Runs the lines of a pair whose first replica stands over the tree of these fanouts.
+/// Runs the lines of a pair whose first replica is over the tree of these fanouts.
 fn run_beside<const LEAF: u32, const INNER: u32, R: Source, W: Sink>(
     alloc: Global,
     setup: &Setup,

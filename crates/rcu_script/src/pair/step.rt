@@ -1,4 +1,4 @@
-//! What a replica of a pair does.
+//! The steps of a replica of a pair.
 ghost use Rattle.std.specs.Prelude.{◌≡◌, ◌<◌, All, length, nat_lt, IfOk, OnErr, OnOk};
 ghost use Rattle.std.specs.List.{list_all};
 ghost use Rattle.std.specs.Result.{result_err};
@@ -13,9 +13,9 @@ use rcu_node::{Awaited, CpuSet};
 use rcu_report::Replica;
 use rcu_seq::Fault;
 
-/// Does what a line asks of a replica that stands beside another one. A begin lists its processors
-/// in the set, which is one of as many processors, so that no event takes memory. It costs a step a
-/// listed processor, and what its call of the replica costs.
+/// Performs the event of a line on a replica of a pair. A begin lists its processors in the set,
+/// which is one of as many processors, so no event needs memory. Costs a step for each listed
+/// processor, and the cost of its call of the replica.
 ///
 /// Faults: those of the event.
 pub fn step<A: Awaited, B: Awaited>(
@@ -76,7 +76,7 @@ fn are_cpus(cpus: &[u32], below: u32) -> bool
     cpus.iter().all(|cpu| *cpu < below)
 }
 
-/// Makes the set that of the listed processors.
+/// Fills the set with the listed processors.
 #[tactic(auto, using(crate::proofs::PairSets::set_none))]
 fn fill_set(set: &mut CpuSet, cpus: &[u32])
     requires { All (λ cpu. cpu < length set.old) cpus.now }

@@ -1,4 +1,4 @@
-//! What the definitions say of the lines of a script.
+//! Laws of the lines of a script.
 ghost use Rattle.std.specs.Prelude.{◌≡◌, ◌≢◌, ◌<◌, ◌≤◌, ◌+◌, ◌∷◌, ◌++◌, false, true, ℕ, List, []};
 ghost use Rattle.std.specs.Prelude.{Some, All, codes, map};
 ghost use Rattle.rcu_seq.specs.Numbers.{number_at};
@@ -28,10 +28,10 @@ use rcu_node::Answer;
 use rcu_text::Line;
 use rcu_text::laws::{lines_are_pieces, lines_read_whole_come_first};
 
-/// What a script answered is a legal run of its lines: its events are those that the lines ask for,
+/// An answer of a script is a legal run of its lines: its events are those that the lines ask for,
 /// in order, each with a legal reply, the replies print to the text, and the run has the history
-/// that the answer ends at. It goes on from any legal run that led to the history that the answer
-/// began at. And nothing else is an answer. So each law of runs holds of what is printed.
+/// that the answer ends at. It continues any legal run that led to the history that the answer
+/// began at. Nothing else is an answer. So each law of runs holds for the printed text.
 pub fn an_answer_is_a_legal_run()
     ensures first { (size : Size) (lines : List (List ℕ)) (text : List ℕ) (end : History)
         → Answers size [] lines text end → IsPrintedRun size [] (map asked_by lines) text end }
@@ -45,7 +45,8 @@ pub fn an_answer_is_a_legal_run()
         → Answers size h lines text end }
 {}
 
-/// The right text of any lines is an answer to them, and no line of it says that memory was wanted.
+/// The right text of any lines is an answer to them, and no line of it says that memory was
+/// refused.
 pub fn the_right_text_is_an_answer()
     ensures answers { (size : Size) (lines : List (List ℕ))
         → IsAnswer size lines (replies size [] lines) }
@@ -55,24 +56,24 @@ pub fn the_right_text_is_an_answer()
     lines_are_pieces();
 }
 
-/// An answer of which no line says that memory was wanted is the right text: there is just one.
+/// An answer is the right text if no line of it says that memory was refused: there is exactly one.
 pub fn the_right_text_is_the_only_one()
     ensures { (size : Size) (lines : List (List ℕ)) (text : List ℕ) (end : History)
         → Answers size [] lines text end → wants_memory text ≡ false
         → text ≡ replies size [] lines }
 {}
 
-/// The right text of lines begins the right text of those and any later ones. So what was written
-/// at a failed read or write begins the right text of the whole input, where no line of the answer
-/// says that memory was wanted.
+/// The right text of some lines is a prefix of the right text of those and any later ones. So the
+/// text written before a failed read or write is a prefix of the right text of the whole input, if
+/// no line of the answer says that memory was refused.
 pub fn the_right_text_of_earlier_lines_comes_first()
     ensures { (size : Size) (lines later : List (List ℕ)) (text : List ℕ)
         → IsAnswer size lines text → wants_memory text ≡ false
         → (rest : List ℕ) × (replies size [] (lines ++ later) ≡ text ++ rest) }
 {}
 
-/// What was written where a stream failed begins the right text of the whole input, wherever the
-/// reader would have gone on, where no line that the text answers was refused memory.
+/// The text written before a stream failed is a prefix of the right text of the whole input,
+/// however the reader would have continued, if no line that the text answers was refused memory.
 pub fn what_was_written_begins_the_right_text()
     ensures read { (size : Size) (all : List ℕ) (old new : Ends)
         (stopped : StoppedReading (IsAnswer size) old new) → old.reader.remaining ≡ Some all
@@ -86,8 +87,8 @@ pub fn what_was_written_begins_the_right_text()
     lines_read_whole_come_first();
 }
 
-/// A text answers lines and later ones just where it answers them in turn: wherever the lines are
-/// cut, the text is cut too, at the history between them.
+/// A text answers lines and later ones exactly if it answers them in turn: at each cut of the lines
+/// the text can be cut too, at the history between them.
 pub fn lines_are_answered_in_turn()
     ensures cut { (size : Size) (h end : History) (lines later : List (List ℕ)) (text : List ℕ)
         → Answers size h (lines ++ later) text end → AnswersInTurn size h lines later text end }
@@ -95,7 +96,7 @@ pub fn lines_are_answered_in_turn()
         → AnswersInTurn size h lines later text end → Answers size h (lines ++ later) text end }
 {}
 
-/// Readers finish before `done` is printed: where a line was answered by a cookie and a later line
+/// Readers finish before `done` is printed: if a line was answered by a cookie, and a later line
 /// that polls this cookie is answered `done`, each read section that was open at the first line has
 /// ended at the later one.
 pub fn readers_finish_before_done_is_printed()
@@ -112,9 +113,9 @@ pub fn readers_finish_before_done_is_printed()
     readers_finish_before_done();
 }
 
-/// No callback runs early in print: where a line that runs callbacks is answered `ran`, the answer
-/// tells the values of those that are handed out, and between the queueing of each of them and this
-/// line a full grace period lies.
+/// No callback runs early in print: if a line that runs callbacks is answered `ran`, the answer
+/// gives the values of those handed out, and a full grace period lies between the line that queued
+/// each of them and this line.
 pub fn no_callback_is_printed_early()
     ensures values { (size : Size) (before : List (List ℕ)) (running told text more : List ℕ)
         (cpu most : ℕ) (at_run end : History) → Answers size [] before told at_run
@@ -140,8 +141,8 @@ pub fn no_callback_is_printed_twice()
     no_callback_runs_twice();
 }
 
-/// A barrier that is printed done covers earlier callbacks: each one that was queued before it
-/// began has been handed out, once.
+/// A barrier that is printed done covers earlier callbacks: each callback queued before it began
+/// has been handed out, once.
 pub fn a_barrier_printed_done_covers_earlier_callbacks()
     ensures { (size : Size) (before : List (List ℕ)) (testing told : List ℕ) (ord : ℕ)
         (at_test end : History) → Answers size [] before told at_test
@@ -152,9 +153,9 @@ pub fn a_barrier_printed_done_covers_earlier_callbacks()
     barrier_covers_earlier_callbacks();
 }
 
-/// An end after `last` is printed `ended`: if a line was answered `last`, of a delivered report or
-/// a scan, then a next line that asks for the end is answered `ended` and the number that ends the
-/// running grace period.
+/// An end after `last` is printed `ended`: if a delivered report or a scan was answered `last`, and
+/// the next line asks for the end, it is answered `ended` and the number that ends the running
+/// grace period.
 pub fn an_end_after_last_is_printed_ended()
     ensures { (size : Size) (before : List (List ℕ)) (telling ending told text : List ℕ)
         (event : Event) (at_last at_end end : History)

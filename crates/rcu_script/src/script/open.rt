@@ -11,11 +11,11 @@ use rcu_node::Tree;
 use rcu_seq::Fault;
 use std::alloc::Global;
 
-/// A core over the tree of two fanouts, in the situation of the empty history. It costs a step a
-/// processor.
+/// Returns a core over the tree of two fanouts, in the situation of the empty history. Costs a step
+/// for each processor.
 ///
-/// Faults: `BadFanout` (18), `TooManyCpus` (17) and `BadLast` (19) as [`check_size`] has them, then
-/// `NoMemory` (16). What takes no memory is tested first.
+/// Faults: `BadFanout` (18), `TooManyCpus` (17) and `BadLast` (19) as in [`check_size`], then
+/// `NoMemory` (16). All tests come before an allocation.
 pub fn open<const LEAF: u32, const INNER: u32>(
     alloc: Global,
     cpus: u32,

@@ -1,4 +1,4 @@
-//! What a line of a script asks for.
+//! The events of a script's lines.
 ghost use Rattle.std.specs.Prelude.{◌≡◌};
 ghost use Rattle.std.specs.Str.{bytes_eq};
 ghost use Rattle.rcu_text.specs.Words.{words_of};
@@ -10,11 +10,11 @@ use rcu_core::Event;
 use rcu_text::line_shape::LONGEST;
 use rcu_text::{Line, next_word, number};
 
-/// What a line asks for.
+/// Returns the event that a line asks for.
 pub fn parse_line(line: &[u8]) -> Line<Event>
     ensures { result ≡ asked_by line.now }
 {
-    // No test of the bytes is needed: each known word, and each number, is printable.
+    // The bytes need no test: each known word, and each number, is printable.
     if line.len() > LONGEST {
         return Line::Malformed;
     }
@@ -27,7 +27,7 @@ pub fn parse_line(line: &[u8]) -> Line<Event>
     }
 }
 
-/// The event of a name and the words behind it.
+/// Returns the event of a name and the words behind it.
 fn parse_event(name: &[u8], rest: &[u8]) -> Option<Event>
     ensures { result ≡ event_of name.now (words_of rest.now) }
 {
@@ -43,7 +43,7 @@ fn parse_event(name: &[u8], rest: &[u8]) -> Option<Event>
     }
 }
 
-/// The event of a name that stands alone.
+/// Returns the event of a name without further words.
 fn bare_event(name: &[u8]) -> Option<Event>
     ensures { result ≡ event_alone name.now }
 {
@@ -70,7 +70,7 @@ fn bare_event(name: &[u8]) -> Option<Event>
     }
 }
 
-/// The event of a name that stands before a number.
+/// Returns the event of a name and a number.
 fn event_of_number(name: &[u8], n: u64) -> Option<Event>
     ensures { result ≡ event_with_number name.now n }
 {
@@ -83,7 +83,7 @@ fn event_of_number(name: &[u8], n: u64) -> Option<Event>
     }
 }
 
-/// The event of a name that stands before a processor.
+/// Returns the event of a name and a processor.
 fn event_of_cpu(name: &[u8], cpu: u32) -> Option<Event>
     ensures { result ≡ event_with_cpu name.now cpu }
 {
@@ -114,7 +114,7 @@ fn event_of_cpu(name: &[u8], cpu: u32) -> Option<Event>
     }
 }
 
-/// The event of a name that stands before two numbers.
+/// Returns the event of a name and two numbers.
 fn event_of_two(name: &[u8], first: u64, second: u64) -> Option<Event>
     ensures { result ≡ event_with_numbers name.now first second }
 {
@@ -129,15 +129,15 @@ fn event_of_two(name: &[u8], first: u64, second: u64) -> Option<Event>
     }
 }
 
-/// Whether a name is this word.
+/// Returns whether a name is this word.
 pub(crate) fn is_word(name: &[u8], word: &[u8]) -> bool
     ensures { result ≡ bytes_eq name.now word.now }
 {
     name == word
 }
 
-/// A processor. A number that does not fit 32 bits becomes the greatest one that does, which is no
-/// processor either.
+/// Returns the processor of a number. A number that does not fit 32 bits becomes the greatest one
+/// that does, which is no processor either.
 pub fn cpu_of_number(n: u64) -> u32
     ensures { result ≡ cpu_of n }
 {

@@ -14,9 +14,9 @@ use rcu_seq::Cookie;
 use rcu_text::printing::{LONGEST_REPLY, push_numbered};
 use rcu_text::{Failed, Output, put_counts, put_line, put_numbered};
 
-/// Prints a reply as a line, a step a byte.
+/// Prints a reply as a line. Costs a step for each byte.
 ///
-/// Where the writer fails, it took a beginning of what waited and the line.
+/// If the writer fails, it took a prefix of the buffered bytes and the line.
 pub fn put_reply<O: Output>(out: &mut O, reply: &Reply) -> Result<(), Failed>
     ensures { Puts result (O.out out.old) (O.out out.new) (text_of reply.now) }
 {
@@ -81,7 +81,7 @@ fn put_cookie<O: Output>(out: &mut O, cookie: Cookie) -> Result<(), Failed>
     Ok(())
 }
 
-/// Ends a line that tells a number of this epoch: by the epoch, where it is not the first one.
+/// Ends a line that prints a number of this epoch: with the epoch, if it is not the first one.
 #[inline(always)]
 fn push_epoch<O: Output>(out: &mut O, epoch: u64)
     requires { 28 ≤ (O.out out.old).room }

@@ -1,4 +1,4 @@
-//! Who replies to the lines of a script.
+//! The responder of a script's lines.
 ghost use Rattle.std.specs.Prelude.{◌≡◌, []};
 ghost use Rattle.rcu_core.specs.History.{History};
 ghost use Rattle.rcu_core.specs.Core.{Represents, size_at};
@@ -14,7 +14,7 @@ use rcu_text::{Failed, Line, Output, Responder};
 /// Replies to the lines of a script: a line asks the core for an event, and its reply is printed.
 #[derive(Drop)]
 pub struct ScriptResponder<A: Awaited> {
-    /// What takes the events.
+    /// The core, which takes the events.
     pub core: Core<A, u64>,
 }
 

@@ -14,16 +14,16 @@ use rcu_seq::Fault;
 use rcu_text::{Sink, Source, run};
 use std::alloc::Global;
 
-/// Runs a script on the engine of a setup: replies to all lines that the reader gives, in order. It
-/// costs a step a byte that is read or written, and what opening and the events cost.
+/// Runs a script on the engine of a setup: replies to all lines of the reader, in order. Costs a
+/// step for each byte that is read or written, and the cost of the opening and the events.
 ///
-/// Faults: `Open` of `BadFanout` (18), `TooManyCpus` (17), `BadLast` (19) or `NoMemory` (16), where
-/// nothing was read or written; `Read` where the reader failed; `Write` where the writer failed.
+/// Faults: `Open` of `BadFanout` (18), `TooManyCpus` (17), `BadLast` (19) or `NoMemory` (16), if
+/// nothing was read or written; `Read` if the reader failed; `Write` if the writer failed.
 ///
-/// Every reply of the lines that were read is written before the next read, so a run that a failed
-/// read stops has replied to the lines that were read whole. Where a write failed, a beginning of
+/// Every reply to the lines that were read is written before the next read. So a run that a failed
+/// read stops has replied to the lines that were read completely. If a write failed, a prefix of
 /// the replies was written. The contract is about readers and writers whose bytes are known, such
-/// as slices and vectors; std tells none of standard input and output.
+/// as slices and vectors; std gives none for standard input and output.
 pub fn run_script<R: Source, W: Sink>(
     alloc: Global,
     setup: &Setup,

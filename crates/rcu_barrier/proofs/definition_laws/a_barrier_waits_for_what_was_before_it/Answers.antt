@@ -9,7 +9,8 @@ use Rattle.rcu_barrier.specs.Runs.{Tend, Visit, begins_barrier, lists_after}
 use Rattle.rcu_barrier.specs.Runs.{queued_before_barrier}
 use Rattle.rcu_barrier.proofs.definition_laws.a_barrier_waits_for_what_was_before_it.Goals as goal
 
--- what was queued before a begin is what was queued before a later call that begins none
+-- the callbacks queued before a begin are those queued before it, after a later call that begins
+-- none
 before : {X : Type 0} (first : AllLists X) (later calls : List (Call X))
     → list_any begins_barrier later ≡ false
     → queued_before_barrier first (later ++ BarrierBegin ∷ calls) ≡ (lists_after first calls).queued
@@ -26,7 +27,7 @@ before first (Renumber ∷ later) calls none = before first later calls none
 pub returns-clause-before : goal.returns-clause-before
 returns-clause-before g c = λ first later calls none. before first later calls none
 
--- it waits where the callback before it has not run, and for nothing where it has
+-- it waits if the callback before it has not run, and for nothing if it has
 waits : {X : Type 0} (most : ℕ) (at : Tag) (value : X) (ran : Bool) → barrier_test_answer
     (lists_after (at_first 2 most) ((if ran then Run 0 1 ∷ [] else [])
     ++ Queue 0 at value ∷ Visit 1 ∷ Visit 0 ∷ BarrierBegin ∷ Tend 0 4 ∷ Tend 0 0

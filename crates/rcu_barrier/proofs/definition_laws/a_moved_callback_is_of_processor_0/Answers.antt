@@ -6,7 +6,7 @@ use Rattle.rcu_barrier.specs.Lists.{at_first}
 use Rattle.rcu_barrier.specs.Runs.{Migrate, Queue, Run, Tend, times_handed_out}
 use Rattle.rcu_barrier.proofs.definition_laws.a_moved_callback_is_of_processor_0.Goals as goal
 
--- by processor 0, by the one whose list moved, and by one that there is not
+-- by processor 0, by the one whose list moved, and by one that does not exist
 by : {X : Type 0} (most : ℕ) (at : Tag) (value : X) (cpu : ℕ) → times_handed_out 1
     (at_first 2 most) (Run cpu 1 ∷ Migrate 1 ∷ Tend 1 4 ∷ Tend 1 0 ∷ Queue 1 at value ∷ [])
     ≡ (if cpu == 0 then 1 else 0)

@@ -4,7 +4,7 @@ use Rattle.rcu_cblist.specs.SegList.{markers, from_callback}
 use Rattle.rcu_cblist.specs.Entries.{unmarked}
 use Rattle.rcu_cblist.proofs.pop.drop_markers.Given as goal
 
--- what is dropped already and what is left is what there was
+-- the dropped items and the remaining ones are the items at first
 abbrev pub invariant-loop-items : goal.invariant-loop-items
 invariant-loop-items g l =
     (l.markers + length l.items.items < 2 ^ 63)

@@ -5,7 +5,7 @@ use Rattle.rcu_cblist.specs.SegList.{callbacks, markers, from_callback}
 use Rattle.rcu_cblist.specs.Entries.{unmarked}
 use Rattle.rcu_cblist.proofs.walks.take_first.Given as goal
 
--- what is taken already and what is still to be taken is what was to be taken
+-- the callbacks taken so far and those still to take are the callbacks to take
 abbrev pub invariant-loop-items : goal.invariant-loop-items
 invariant-loop-items g l =
     (vec_len l.calls + l.left ≤ vec_capacity l.calls)

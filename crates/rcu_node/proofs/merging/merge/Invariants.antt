@@ -2,7 +2,7 @@ use Rattle.std.proofs.Common.{◌≡◌}
 use Rattle.rcu_node.proofs.Merges.{IsCutBelow}
 use Rattle.rcu_node.proofs.merging.merge.Given as goal
 
--- so far the processors below the counter are taken out that the other no longer awaits
+-- so far the processors below the counter that the other no longer awaits are removed
 abbrev pub invariant-loop-cpu : goal.invariant-loop-cpu
 invariant-loop-cpu g l = record {
   tag : g.A.Awaited.tag l.to ≡ g.A.Awaited.tag l.initial.to;

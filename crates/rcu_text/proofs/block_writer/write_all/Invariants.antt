@@ -2,7 +2,7 @@ use Rattle.std.proofs.Common.{length}
 use Rattle.rcu_text.proofs.StreamLemmas.{TakesFront}
 use Rattle.rcu_text.proofs.block_writer.write_all.Given as goal
 
--- what is left is the rest
+-- the remaining bytes are the rest
 abbrev pub invariant-loop-rest : goal.invariant-loop-rest
 invariant-loop-rest g l =
     TakesFront (g.W.Sink.outgoing l.fn.sink) (g.W.Sink.outgoing l.sink) l.bytes l.rest

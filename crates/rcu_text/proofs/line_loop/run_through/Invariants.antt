@@ -2,7 +2,7 @@ use Rattle.std.proofs.Common.{◌≡◌, []}
 use Rattle.rcu_text.proofs.RunLemmas.{Midway}
 use Rattle.rcu_text.proofs.line_loop.run_through.Given as goal
 
--- the lines read so far are answered, and nothing waits
+-- the lines read so far are answered, and no byte is buffered
 abbrev pub invariant-loop-turn : goal.invariant-loop-turn
 invariant-loop-turn g l = record {
   goes : g.A.Responder.past l.fn.responder l.fn.responder [] []

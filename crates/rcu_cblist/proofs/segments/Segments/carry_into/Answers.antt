@@ -64,7 +64,7 @@ overflow_add-target g c =
     let small_there = t.items.small in
     omega arith
 
--- what goes in front and behind
+-- the parts that go in front and behind
 parts : (g : _) (c : goal.After-rise-3 g)
     → let s = c.args.self.now in
     Leaves (as_it_leaves (seen s) c.args.marked)
@@ -76,7 +76,7 @@ parts g c =
     leaves s.wait_number s.ready_number s.done.items s.wait.items s.ready.items s.items.items
     c.args.marked k.wait_behind k.ready_behind k.ready_tail.within k.segments c.requires.some
 
--- where they went
+-- the parts around the target's items
 around : (g : _) (c : goal.After-rise-3 g) →
     let s = c.args.self.now in
     c.join_marked.new.target.items ≡ moved_in_front s.items.items s.done.items c.args.marked

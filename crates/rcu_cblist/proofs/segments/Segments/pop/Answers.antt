@@ -48,7 +48,7 @@ overflow_sub-self g c =
     c.pop_first-call.new.items.items c.requires e.gone e.left e.items in
     far.of_all
 
--- what is left is cut as it has to be
+-- the rest is cut as it has to be
 kept : (g : _) (c : goal.After-fall-3 g)
     → AreTails c.pop_first-call.new.items.items c.fall.new.self c.fall-2.new.self c.fall-3.new.self
     (c.args.self.now.calls - 1) c.args.self.now.wait_number c.args.self.now.ready_number
@@ -80,7 +80,7 @@ call g c =
     c.args.self.now.cut))
     ∙ taken_least 1 1 (seen s) (omega arith))
 
--- what is left of the list
+-- the rest of the list
 left : (g : _) (c : goal.After-fall-3 g)
     → joined c.args.self.now.wait_number c.args.self.now.ready_number
     (take c.fall.new.self.items c.pop_first-call.new.items.items)

@@ -6,7 +6,7 @@ use Rattle.rcu_cblist.proofs.Marking.{Marked, entrained, push_marked, some_kept}
 use Rattle.rcu_cblist.proofs.Refusals.{list_is}
 use Rattle.rcu_cblist.proofs.segments.Segments.push_marker.Goals as goal
 
--- what the places are once the marker is there
+-- the places after the marker was put
 ends : (g : _) (c : goal.After-pass_marker-3 g)
     → let s = c.args.self.now in
     let ys = s.items.items ++ entry.Marker ∷ [] in

@@ -46,7 +46,7 @@ overflow_sub-self g c =
     c.take_first-markers.new.items.items c.requires.done e.gone e.left e.items in
     far.of_all
 
--- what is left is cut as it has to be
+-- the rest is cut as it has to be
 kept : (g : _) (c : goal.After-fall-3 g)
     → AreTails c.take_first-markers.new.items.items c.fall.new.self c.fall-2.new.self
     c.fall-3.new.self (c.args.self.now.calls - c.args.most) c.args.self.now.wait_number

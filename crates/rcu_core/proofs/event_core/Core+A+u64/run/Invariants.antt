@@ -4,7 +4,7 @@ use Rattle.rcu_core.specs.Runs.{RunsLegally}
 use Rattle.rcu_core.specs.Core.{Represents}
 use Rattle.rcu_core.proofs.event_core.Core+A+u64.run.Given as goal
 
--- the events so far were answered, and there is room for the other replies
+-- the events so far were answered, with room for the other replies
 abbrev pub invariant-loop-event : goal.invariant-loop-event
 invariant-loop-event g l = record {
   room : length l.events ≤ vec_capacity l.replies;

@@ -82,7 +82,7 @@ invariant_of-self g c =
           ∙ sym (ap (λ (y : Grace g.row.T.Denot). y.processors.online) state);
     }
 
--- where a begin is not refused no grace period runs
+-- if a begin is not refused, no grace period runs
 none_runs : (running is_last : Bool)
     → (if running then Some fault.Running else (if is_last then Some fault.Exhausted else None))
     ≡ None

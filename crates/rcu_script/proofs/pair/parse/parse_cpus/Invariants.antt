@@ -4,7 +4,7 @@ use Rattle.rcu_text.specs.Words.{words_of}
 use Rattle.rcu_script.proofs.PairLineLemmas.{with_front}
 use Rattle.rcu_script.proofs.pair.parse.parse_cpus.Given as goal
 
--- the processors so far stand before those of the rest, and each took a byte
+-- the processors so far come before those of the rest, and each took a byte
 abbrev pub invariant-loop-word : goal.invariant-loop-word
 invariant-loop-word l = record {
   listed : named_cpus (words_of l.words) ≡ with_front l.cpus (named_cpus (words_of l.rest));
