@@ -136,7 +136,7 @@ static inline const char *rcu_fault_text(uint32_t fault) {
     }
 }
 
-/* What a collection found. */
+/* The result of a collection. */
 enum rcu_collected {
     RCU_COLLECTED_IDLE = 0,    /* no grace period runs */
     RCU_COLLECTED_NOT_YET = 1, /* the processor did not pass a quiescent state in the running grace
@@ -146,14 +146,14 @@ enum rcu_collected {
     RCU_COLLECTED_REPEAT = 4   /* the processor is not awaited */
 };
 
-/* What a visit did. */
+/* The result of a visit. */
 enum rcu_visited {
     RCU_VISIT_MARKED = 0, /* the barrier put a marker behind the processor's list */
     RCU_VISIT_EMPTY = 1,  /* the processor's list was empty */
     RCU_VISIT_ALREADY = 2 /* the barrier had visited the processor already */
 };
 
-/* What a turn did. */
+/* The result of a turn. */
 enum rcu_turned {
     RCU_TURN_NOTHING = 0, /* no grace period runs, and none is needed */
     RCU_TURN_BEGUN = 1,   /* a grace period of this number began, and awaits this many processors */
@@ -178,7 +178,7 @@ typedef struct rcu_identity {
     uint64_t count; /* which of the engines that this counter numbered it is */
 } rcu_identity_t;
 
-/* What a turn did. */
+/* The result of a turn. */
 typedef struct rcu_turn {
     uint32_t what;    /* an rcu_turned */
     uint32_t awaited; /* how many processors are awaited, if it began one or waits; else 0 */
@@ -265,7 +265,7 @@ uint32_t rcu_seat_open(rcu_t *rcu, uint32_t cpu, rcu_seat_t *seat);
 /* Returns whether rcu_seat_open can deal the seat of the processor: there is such a processor, and
  * its seat is not dealt. False if `rcu` is not an open engine. Needs: `rcu` is under the caller's
  * lock.
- * Law in crates/rcu_c/src/: what_is_not_open_says_no (laws.rt#L105). */
+ * Law in crates/rcu_c/src/: what_is_not_open_says_no (laws.rt#L106). */
 bool rcu_has_seat(rcu_t *rcu, uint32_t cpu);
 
 /* Returns a seat to its engine, which can deal it again, and closes it: for a thread that ends. Its
@@ -292,11 +292,11 @@ void rcu_seat_close(rcu_seat_t *seat);
  * Faults: 8 if one runs; 11 if the number is the last one.
  * Laws in crates/rcu_c/src/: dealt_seats_are_of_their_engine (laws.rt#L48),
  * seats_stay_of_their_engine (laws.rt#L73), returned_seats_are_dealt_again (laws.rt#L61),
- * calls_are_steps_of_a_run (laws.rt#L140), waiting_for_a_barrier_is_a_run (laws.rt#L220),
- * a_run_goes_on_from_the_end_of_another (laws.rt#L209), no_callback_runs_twice (laws.rt#L228),
- * no_callback_is_lost (laws.rt#L237), barrier_covers_earlier_callbacks (laws.rt#L249),
- * a_barrier_waited_for_covers_earlier_callbacks (laws.rt#L262), no_callback_runs_early
- * (laws.rt#L284). */
+ * calls_are_steps_of_a_run (laws.rt#L141), waiting_for_a_barrier_is_a_run (laws.rt#L221),
+ * a_run_goes_on_from_the_end_of_another (laws.rt#L210), no_callback_runs_twice (laws.rt#L229),
+ * no_callback_is_lost (laws.rt#L238), barrier_covers_earlier_callbacks (laws.rt#L250),
+ * a_barrier_waited_for_covers_earlier_callbacks (laws.rt#L263), no_callback_runs_early
+ * (laws.rt#L285). */
 uint32_t rcu_begin(rcu_t *rcu, uint64_t *number, uint32_t *awaited);
 
 /* Ends the grace period. Writes the new number.
@@ -338,11 +338,11 @@ static inline uint32_t rcu_turn(rcu_t *rcu, rcu_turn_t *turn) {
  * Fault 1: there is no such processor.
  * Laws in crates/rcu_c/src/: dealt_seats_are_of_their_engine (laws.rt#L48),
  * seats_stay_of_their_engine (laws.rt#L73), returned_seats_are_dealt_again (laws.rt#L61),
- * calls_are_steps_of_a_run (laws.rt#L140), waiting_for_a_barrier_is_a_run (laws.rt#L220),
- * a_run_goes_on_from_the_end_of_another (laws.rt#L209), no_callback_runs_twice (laws.rt#L228),
- * no_callback_is_lost (laws.rt#L237), barrier_covers_earlier_callbacks (laws.rt#L249),
- * a_barrier_waited_for_covers_earlier_callbacks (laws.rt#L262), no_callback_runs_early
- * (laws.rt#L284). */
+ * calls_are_steps_of_a_run (laws.rt#L141), waiting_for_a_barrier_is_a_run (laws.rt#L221),
+ * a_run_goes_on_from_the_end_of_another (laws.rt#L210), no_callback_runs_twice (laws.rt#L229),
+ * no_callback_is_lost (laws.rt#L238), barrier_covers_earlier_callbacks (laws.rt#L250),
+ * a_barrier_waited_for_covers_earlier_callbacks (laws.rt#L263), no_callback_runs_early
+ * (laws.rt#L285). */
 uint32_t rcu_collect(rcu_t *rcu, uint32_t cpu, uint32_t *found);
 
 /* ---- processors that come and go: `rcu` is under the caller's lock, and `seat` is in no other
@@ -373,11 +373,11 @@ static inline uint32_t rcu_arrive(rcu_t *rcu, rcu_seat_t *seat) {
  * and its callbacks stay: the same call again moves them.
  * Laws in crates/rcu_c/src/: dealt_seats_are_of_their_engine (laws.rt#L48),
  * seats_stay_of_their_engine (laws.rt#L73), returned_seats_are_dealt_again (laws.rt#L61),
- * calls_are_steps_of_a_run (laws.rt#L140), waiting_for_a_barrier_is_a_run (laws.rt#L220),
- * a_run_goes_on_from_the_end_of_another (laws.rt#L209), no_callback_runs_twice (laws.rt#L228),
- * no_callback_is_lost (laws.rt#L237), barrier_covers_earlier_callbacks (laws.rt#L249),
- * a_barrier_waited_for_covers_earlier_callbacks (laws.rt#L262), no_callback_runs_early
- * (laws.rt#L284), a_seat_can_tell_of_itself (progress.rt#L88),
+ * calls_are_steps_of_a_run (laws.rt#L141), waiting_for_a_barrier_is_a_run (laws.rt#L221),
+ * a_run_goes_on_from_the_end_of_another (laws.rt#L210), no_callback_runs_twice (laws.rt#L229),
+ * no_callback_is_lost (laws.rt#L238), barrier_covers_earlier_callbacks (laws.rt#L250),
+ * a_barrier_waited_for_covers_earlier_callbacks (laws.rt#L263), no_callback_runs_early
+ * (laws.rt#L285), a_seat_can_tell_of_itself (progress.rt#L88),
  * a_word_is_the_one_that_the_seat_stored (progress.rt#L114). */
 uint32_t rcu_depart(rcu_t *rcu, rcu_seat_t *seat, uint64_t *moved);
 
@@ -385,11 +385,11 @@ uint32_t rcu_depart(rcu_t *rcu, rcu_seat_t *seat, uint64_t *moved);
  * engine they return 0 or false, unless the note says otherwise. */
 
 /* Returns how many processors the engine has.
- * Law in crates/rcu_c/src/: what_is_not_open_says_no (laws.rt#L105). */
+ * Law in crates/rcu_c/src/: what_is_not_open_says_no (laws.rt#L106). */
 uint32_t rcu_cpus(rcu_t *rcu);
 
 /* Returns the grace-period number: 4 for each grace period that ended, and 1 more while one runs.
- * Law in crates/rcu_c/src/: what_is_not_open_says_no (laws.rt#L105). */
+ * Law in crates/rcu_c/src/: what_is_not_open_says_no (laws.rt#L106). */
 uint64_t rcu_number(rcu_t *rcu);
 
 /* Returns whether a grace period runs. */
@@ -408,16 +408,16 @@ uint32_t rcu_awaited(rcu_t *rcu);
 /* Takes a cookie: the number at which a grace period that begins from now on has ended. It requests
  * no grace period: begin one (rcu_begin, or rcu_turn if a tended callback waits). Returns 2^64 - 1,
  * which is never done, if `rcu` is not an open engine.
- * Laws in crates/rcu_c/src/: what_is_not_open_says_no (laws.rt#L105),
- * sections_end_before_what_waits_for_them (laws.rt#L120). */
+ * Laws in crates/rcu_c/src/: what_is_not_open_says_no (laws.rt#L106),
+ * sections_end_before_what_waits_for_them (laws.rt#L121). */
 uint64_t rcu_take(rcu_t *rcu);
 
-/* Returns whether a cookie is done: the number has reached it, so each section that was open at its
- * taking has ended. For a number that no taking returned, the result means no more than that the
- * number has reached it. False if `rcu` is not an open engine.
+/* Returns whether a cookie is done: the number has reached it, so each section that was open when
+ * it was taken has ended. For a number that no snapshot returned, the result means no more than
+ * that the number has reached it. False if `rcu` is not an open engine.
  * If it returns true, of each section one of two holds: all of it comes before what follows this
  * call, or it sees what the thread that took the cookie did before it took it.
- * Law in crates/rcu_c/src/: sections_end_before_what_waits_for_them (laws.rt#L120). */
+ * Law in crates/rcu_c/src/: sections_end_before_what_waits_for_them (laws.rt#L121). */
 bool rcu_poll(rcu_t *rcu, uint64_t cookie);
 
 /* ---- callbacks, which are values of 64 bits: `rcu` is under the caller's lock */
@@ -427,23 +427,23 @@ bool rcu_poll(rcu_t *rcu, uint64_t cookie);
  * Of each section one of two holds: all of it comes before what follows the rcu_run that hands the
  * value out, or it sees what the thread did before this call.
  * Faults: 1 if there is no such processor; 2 if it is not online; 15 if 2^62 were queued; 16.
- * Laws in crates/rcu_c/src/: sections_end_before_what_waits_for_them (laws.rt#L120),
- * calls_are_steps_of_a_run (laws.rt#L140), waiting_for_a_barrier_is_a_run (laws.rt#L220),
- * a_run_goes_on_from_the_end_of_another (laws.rt#L209), no_callback_runs_twice (laws.rt#L228),
- * no_callback_is_lost (laws.rt#L237), barrier_covers_earlier_callbacks (laws.rt#L249),
- * a_barrier_waited_for_covers_earlier_callbacks (laws.rt#L262), no_callback_runs_early
- * (laws.rt#L284). */
+ * Laws in crates/rcu_c/src/: sections_end_before_what_waits_for_them (laws.rt#L121),
+ * calls_are_steps_of_a_run (laws.rt#L141), waiting_for_a_barrier_is_a_run (laws.rt#L221),
+ * a_run_goes_on_from_the_end_of_another (laws.rt#L210), no_callback_runs_twice (laws.rt#L229),
+ * no_callback_is_lost (laws.rt#L238), barrier_covers_earlier_callbacks (laws.rt#L250),
+ * a_barrier_waited_for_covers_earlier_callbacks (laws.rt#L263), no_callback_runs_early
+ * (laws.rt#L285). */
 uint32_t rcu_queue(rcu_t *rcu, uint32_t cpu, uint64_t value, uint64_t *place);
 
 /* Sets what the processor's callbacks wait for, and which are done. Call it after queueing, so that
  * a turn begins a grace period for them, and after its end. Writes how many are done and how many
  * wait.
  * Fault 1: there is no such processor.
- * Laws in crates/rcu_c/src/: calls_are_steps_of_a_run (laws.rt#L140),
- * waiting_for_a_barrier_is_a_run (laws.rt#L220), a_run_goes_on_from_the_end_of_another
- * (laws.rt#L209), no_callback_runs_twice (laws.rt#L228), no_callback_is_lost (laws.rt#L237),
- * barrier_covers_earlier_callbacks (laws.rt#L249), a_barrier_waited_for_covers_earlier_callbacks
- * (laws.rt#L262), no_callback_runs_early (laws.rt#L284), ended_grace_periods_are_counted
+ * Laws in crates/rcu_c/src/: calls_are_steps_of_a_run (laws.rt#L141),
+ * waiting_for_a_barrier_is_a_run (laws.rt#L221), a_run_goes_on_from_the_end_of_another
+ * (laws.rt#L210), no_callback_runs_twice (laws.rt#L229), no_callback_is_lost (laws.rt#L238),
+ * barrier_covers_earlier_callbacks (laws.rt#L250), a_barrier_waited_for_covers_earlier_callbacks
+ * (laws.rt#L263), no_callback_runs_early (laws.rt#L285), ended_grace_periods_are_counted
  * (progress.rt#L123), two_tends_and_two_grace_periods_finish_callbacks (progress.rt#L135),
  * four_calls_finish_a_list (progress.rt#L165). */
 uint32_t rcu_tend(rcu_t *rcu, uint32_t cpu, uint64_t *done, uint64_t *waiting);
@@ -452,12 +452,12 @@ uint32_t rcu_tend(rcu_t *rcu, uint32_t cpu, uint64_t *done, uint64_t *waiting);
  * `values` on, and how many they are; the rest of the room stays. A full grace period has passed
  * since each was queued, and none is handed out again. Takes no memory.
  * Fault 1: there is no such processor.
- * Laws in crates/rcu_c/src/: sections_end_before_what_waits_for_them (laws.rt#L120),
- * calls_are_steps_of_a_run (laws.rt#L140), waiting_for_a_barrier_is_a_run (laws.rt#L220),
- * a_run_goes_on_from_the_end_of_another (laws.rt#L209), no_callback_runs_twice (laws.rt#L228),
- * no_callback_is_lost (laws.rt#L237), barrier_covers_earlier_callbacks (laws.rt#L249),
- * a_barrier_waited_for_covers_earlier_callbacks (laws.rt#L262), no_callback_runs_early
- * (laws.rt#L284), ended_grace_periods_are_counted (progress.rt#L123),
+ * Laws in crates/rcu_c/src/: sections_end_before_what_waits_for_them (laws.rt#L121),
+ * calls_are_steps_of_a_run (laws.rt#L141), waiting_for_a_barrier_is_a_run (laws.rt#L221),
+ * a_run_goes_on_from_the_end_of_another (laws.rt#L210), no_callback_runs_twice (laws.rt#L229),
+ * no_callback_is_lost (laws.rt#L238), barrier_covers_earlier_callbacks (laws.rt#L250),
+ * a_barrier_waited_for_covers_earlier_callbacks (laws.rt#L263), no_callback_runs_early
+ * (laws.rt#L285), ended_grace_periods_are_counted (progress.rt#L123),
  * two_tends_and_two_grace_periods_finish_callbacks (progress.rt#L135), four_calls_finish_a_list
  * (progress.rt#L165), the_fourth_wait_for_a_barrier_writes_0 (progress.rt#L187). */
 uint32_t rcu_run(rcu_t *rcu, uint32_t cpu, uint64_t *values, size_t room, uint64_t *count);
@@ -472,21 +472,21 @@ uint32_t rcu_shrink(rcu_t *rcu, uint32_t cpu, uint64_t *room);
 
 /* Begins a barrier.
  * Fault 13: one runs.
- * Laws in crates/rcu_c/src/: calls_are_steps_of_a_run (laws.rt#L140),
- * waiting_for_a_barrier_is_a_run (laws.rt#L220), a_run_goes_on_from_the_end_of_another
- * (laws.rt#L209), no_callback_runs_twice (laws.rt#L228), no_callback_is_lost (laws.rt#L237),
- * barrier_covers_earlier_callbacks (laws.rt#L249), a_barrier_waited_for_covers_earlier_callbacks
- * (laws.rt#L262), no_callback_runs_early (laws.rt#L284). */
+ * Laws in crates/rcu_c/src/: calls_are_steps_of_a_run (laws.rt#L141),
+ * waiting_for_a_barrier_is_a_run (laws.rt#L221), a_run_goes_on_from_the_end_of_another
+ * (laws.rt#L210), no_callback_runs_twice (laws.rt#L229), no_callback_is_lost (laws.rt#L238),
+ * barrier_covers_earlier_callbacks (laws.rt#L250), a_barrier_waited_for_covers_earlier_callbacks
+ * (laws.rt#L263), no_callback_runs_early (laws.rt#L285). */
 uint32_t rcu_barrier_begin(rcu_t *rcu);
 
 /* Has the barrier visit a processor; it has to visit each, also those offline. Writes an
  * rcu_visited.
  * Faults: 1 if there is no such processor; 14 if none runs; 16, only if it would mark.
- * Laws in crates/rcu_c/src/: calls_are_steps_of_a_run (laws.rt#L140),
- * waiting_for_a_barrier_is_a_run (laws.rt#L220), a_run_goes_on_from_the_end_of_another
- * (laws.rt#L209), no_callback_runs_twice (laws.rt#L228), no_callback_is_lost (laws.rt#L237),
- * barrier_covers_earlier_callbacks (laws.rt#L249), a_barrier_waited_for_covers_earlier_callbacks
- * (laws.rt#L262), no_callback_runs_early (laws.rt#L284). */
+ * Laws in crates/rcu_c/src/: calls_are_steps_of_a_run (laws.rt#L141),
+ * waiting_for_a_barrier_is_a_run (laws.rt#L221), a_run_goes_on_from_the_end_of_another
+ * (laws.rt#L210), no_callback_runs_twice (laws.rt#L229), no_callback_is_lost (laws.rt#L238),
+ * barrier_covers_earlier_callbacks (laws.rt#L250), a_barrier_waited_for_covers_earlier_callbacks
+ * (laws.rt#L263), no_callback_runs_early (laws.rt#L285). */
 uint32_t rcu_barrier_visit(rcu_t *rcu, uint32_t cpu, uint32_t *did);
 
 /* Tests the barrier. Writes how many markers and unvisited processors are left; at 0 it is over,
@@ -495,23 +495,23 @@ uint32_t rcu_barrier_visit(rcu_t *rcu, uint32_t cpu, uint32_t *did);
  * is done under the lock under which rcu_run handed the value out. Else the caller counts what was
  * processed, and waits for that too.
  * Fault 14: none runs.
- * Laws in crates/rcu_c/src/: calls_are_steps_of_a_run (laws.rt#L140),
- * waiting_for_a_barrier_is_a_run (laws.rt#L220), a_run_goes_on_from_the_end_of_another
- * (laws.rt#L209), no_callback_runs_twice (laws.rt#L228), no_callback_is_lost (laws.rt#L237),
- * barrier_covers_earlier_callbacks (laws.rt#L249), a_barrier_waited_for_covers_earlier_callbacks
- * (laws.rt#L262), no_callback_runs_early (laws.rt#L284). */
+ * Laws in crates/rcu_c/src/: calls_are_steps_of_a_run (laws.rt#L141),
+ * waiting_for_a_barrier_is_a_run (laws.rt#L221), a_run_goes_on_from_the_end_of_another
+ * (laws.rt#L210), no_callback_runs_twice (laws.rt#L229), no_callback_is_lost (laws.rt#L238),
+ * barrier_covers_earlier_callbacks (laws.rt#L250), a_barrier_waited_for_covers_earlier_callbacks
+ * (laws.rt#L263), no_callback_runs_early (laws.rt#L285). */
 uint32_t rcu_barrier_test(rcu_t *rcu, uint64_t *left);
 
 /* ---- a thread by its seat, with no lock, beside all calls on other handles. No call here waits or
  * takes memory. */
 
 /* Returns the seat's processor, or 2^32 - 1, which is none, if `seat` is not an open seat.
- * Law in crates/rcu_c/src/: what_is_not_open_says_no (laws.rt#L105). */
+ * Law in crates/rcu_c/src/: what_is_not_open_says_no (laws.rt#L106). */
 uint32_t rcu_seat_cpu(rcu_seat_t *seat);
 
 /* Returns how deep the read sections of the seat nest: 0 if none is open, or if `seat` is not an
  * open seat.
- * Law in crates/rcu_c/src/: what_is_not_open_says_no (laws.rt#L105). */
+ * Law in crates/rcu_c/src/: what_is_not_open_says_no (laws.rt#L106). */
 uint32_t rcu_seat_depth(rcu_seat_t *seat);
 
 /* Returns whether the seat's processor is online, awake or idle. False if `seat` is not an open
@@ -813,9 +813,9 @@ uint32_t rcu_version(void);
 
 /* Requests the grace period of a cookie: if that is greater than each that was requested before,
  * rcu_requested_gp finds it from then on. Writes 1 if it is, and the driver says that it sleeps:
- * then the caller wakes it, by means of the program's own. Else 0. It orders nothing else: a taking
- * does. No request is taken back: for a cookie that no taking returned, as 2^64 - 1, the driver
- * makes grace periods without end. */
+ * then the caller wakes it, by means of the program's own. Else 0. It orders no other memory
+ * access, unlike a snapshot. A request cannot be taken back: for a cookie that no snapshot
+ * returned, such as 2^64 - 1, the driver makes grace periods without end. */
 uint32_t rcu_seat_request_gp(rcu_seat_t *seat, uint64_t cookie, uint32_t *wakes);
 
 /* Says whether the driver sleeps from now on, and then writes the greatest cookie that was
@@ -836,14 +836,14 @@ uint32_t rcu_requested_gp(rcu_t *rcu, bool sleeps, uint64_t *cookie);
  * Call it until it writes 0 or returns a fault. In between hand out by rcu_run of each processor,
  * and let other threads run. It orders what rcu_drive orders.
  * Faults: 16 if a list has no room for a marker; 11 if a grace period would begin, and the number
- * is the last one. After either the barrier goes on from where it came to, and so does the same
- * call again.
+ * is the last one. After either fault the barrier keeps its progress, and the same call continues
+ * it.
  * Fence: behind.
- * Laws in crates/rcu_c/src/: calls_are_steps_of_a_run (laws.rt#L140),
- * waiting_for_a_barrier_is_a_run (laws.rt#L220), a_run_goes_on_from_the_end_of_another
- * (laws.rt#L209), no_callback_runs_twice (laws.rt#L228), no_callback_is_lost (laws.rt#L237),
- * barrier_covers_earlier_callbacks (laws.rt#L249), a_barrier_waited_for_covers_earlier_callbacks
- * (laws.rt#L262), no_callback_runs_early (laws.rt#L284), the_fourth_wait_for_a_barrier_writes_0
+ * Laws in crates/rcu_c/src/: calls_are_steps_of_a_run (laws.rt#L141),
+ * waiting_for_a_barrier_is_a_run (laws.rt#L221), a_run_goes_on_from_the_end_of_another
+ * (laws.rt#L210), no_callback_runs_twice (laws.rt#L229), no_callback_is_lost (laws.rt#L238),
+ * barrier_covers_earlier_callbacks (laws.rt#L250), a_barrier_waited_for_covers_earlier_callbacks
+ * (laws.rt#L263), no_callback_runs_early (laws.rt#L285), the_fourth_wait_for_a_barrier_writes_0
  * (progress.rt#L187). */
 uint32_t rcu_barrier_wait_unfenced(rcu_t *rcu, uint64_t *left);
 static inline uint32_t rcu_barrier_wait(rcu_t *rcu, uint64_t *left) {
@@ -864,11 +864,11 @@ static inline uint32_t rcu_barrier_wait(rcu_t *rcu, uint64_t *left) {
  * lets go of the lock and sleeps in one step, as a condition variable does. Else writes 0. Writes
  * how many are awaited still; if none is, it says that it sleeps for none. Until then call it
  * again, also if the caller woke by chance.
- * Laws in crates/rcu_c/src/: calls_are_steps_of_a_run (laws.rt#L140),
- * waiting_for_a_barrier_is_a_run (laws.rt#L220), a_run_goes_on_from_the_end_of_another
- * (laws.rt#L209), no_callback_runs_twice (laws.rt#L228), no_callback_is_lost (laws.rt#L237),
- * barrier_covers_earlier_callbacks (laws.rt#L249), a_barrier_waited_for_covers_earlier_callbacks
- * (laws.rt#L262), no_callback_runs_early (laws.rt#L284). */
+ * Laws in crates/rcu_c/src/: calls_are_steps_of_a_run (laws.rt#L141),
+ * waiting_for_a_barrier_is_a_run (laws.rt#L221), a_run_goes_on_from_the_end_of_another
+ * (laws.rt#L210), no_callback_runs_twice (laws.rt#L229), no_callback_is_lost (laws.rt#L238),
+ * barrier_covers_earlier_callbacks (laws.rt#L250), a_barrier_waited_for_covers_earlier_callbacks
+ * (laws.rt#L263), no_callback_runs_early (laws.rt#L285). */
 uint32_t rcu_driver_prepare_wait(rcu_t *rcu, uint32_t *sleeps, uint32_t *left);
 
 /* Looks whether the driver sleeps for the seat's processor. A thread looks so after each call by

@@ -52,9 +52,9 @@ uint32_t rcu_open_map_as(uint32_t cpus, uint64_t max_number, rcu_identity_t iden
  * If it finds an entry, all that the thread that put it in did before comes before what follows
  * this call.
  * Faults: 5 if no section is open; 32 if an entry has another number of words.
- * Laws in crates/rcu_c/src/: keys_that_stay_are_found (map_laws.rt#L24), found_keys_were_there
- * (map_laws.rt#L42), found_entries_were_there (map_laws.rt#L59), no_key_that_stays_is_passed_over
- * (map_laws.rt#L92), reads_are_between_the_moments_that_they_know (map_laws.rt#L77). */
+ * Laws in crates/rcu_c/src/: keys_that_stay_are_found (map_laws.rt#L25), found_keys_were_there
+ * (map_laws.rt#L43), found_entries_were_there (map_laws.rt#L60), no_key_that_stays_is_passed_over
+ * (map_laws.rt#L93), reads_are_between_the_moments_that_they_know (map_laws.rt#L78). */
 uint32_t rcu_map_get(rcu_seat_t *seat, uint64_t key, uint64_t *entry, size_t room);
 
 /* Goes on from a key to the entry behind it, in the open section, and writes the words of that, or
@@ -65,9 +65,9 @@ uint32_t rcu_map_get(rcu_seat_t *seat, uint64_t key, uint64_t *entry, size_t roo
  * one for each bucket with no further entry, and one for each further word.
  * It orders what rcu_map_get orders.
  * Faults: 5 if no section is open; 32 if an entry has another number of words.
- * Laws in crates/rcu_c/src/: keys_that_stay_are_found (map_laws.rt#L24), found_keys_were_there
- * (map_laws.rt#L42), found_entries_were_there (map_laws.rt#L59), no_key_that_stays_is_passed_over
- * (map_laws.rt#L92), reads_are_between_the_moments_that_they_know (map_laws.rt#L77). */
+ * Laws in crates/rcu_c/src/: keys_that_stay_are_found (map_laws.rt#L25), found_keys_were_there
+ * (map_laws.rt#L43), found_entries_were_there (map_laws.rt#L60), no_key_that_stays_is_passed_over
+ * (map_laws.rt#L93), reads_are_between_the_moments_that_they_know (map_laws.rt#L78). */
 uint32_t rcu_map_next(rcu_seat_t *seat, uint64_t key, uint64_t *entry, size_t room);
 
 /* ---- updates of the map of an engine: `rcu` is under the caller's lock. Sections read the map
@@ -81,9 +81,9 @@ uint32_t rcu_map_next(rcu_seat_t *seat, uint64_t key, uint64_t *entry, size_t ro
  * Faults: 32 if an entry has another number of words than `entry` or `old`; 30 if the key is 0; 31
  * if no entry has the key, and the map is full or no node is free yet. It is full if it has as many
  * entries as it was opened for.
- * Laws in crates/rcu_c/src/: keys_that_stay_are_found (map_laws.rt#L24), found_keys_were_there
- * (map_laws.rt#L42), found_entries_were_there (map_laws.rt#L59), no_key_that_stays_is_passed_over
- * (map_laws.rt#L92), reads_are_between_the_moments_that_they_know (map_laws.rt#L77). */
+ * Laws in crates/rcu_c/src/: keys_that_stay_are_found (map_laws.rt#L25), found_keys_were_there
+ * (map_laws.rt#L43), found_entries_were_there (map_laws.rt#L60), no_key_that_stays_is_passed_over
+ * (map_laws.rt#L93), reads_are_between_the_moments_that_they_know (map_laws.rt#L78). */
 uint32_t rcu_map_insert(rcu_t *rcu, const uint64_t *entry, size_t length, uint64_t *old,
                         size_t room);
 
@@ -94,9 +94,9 @@ uint32_t rcu_map_insert(rcu_t *rcu, const uint64_t *entry, size_t length, uint64
  * rcu_queue or rcu_defer_link.
  * Faults: 32 as of rcu_map_insert; 30 if the key is 0; 31 if an entry has the key, and no node is
  * free yet. One will be, also in a full map: a node that no entry has waits for its grace period.
- * Laws in crates/rcu_c/src/: keys_that_stay_are_found (map_laws.rt#L24), found_keys_were_there
- * (map_laws.rt#L42), found_entries_were_there (map_laws.rt#L59), no_key_that_stays_is_passed_over
- * (map_laws.rt#L92), reads_are_between_the_moments_that_they_know (map_laws.rt#L77). */
+ * Laws in crates/rcu_c/src/: keys_that_stay_are_found (map_laws.rt#L25), found_keys_were_there
+ * (map_laws.rt#L43), found_entries_were_there (map_laws.rt#L60), no_key_that_stays_is_passed_over
+ * (map_laws.rt#L93), reads_are_between_the_moments_that_they_know (map_laws.rt#L78). */
 uint32_t rcu_map_replace(rcu_t *rcu, const uint64_t *entry, size_t length, uint64_t *old,
                          size_t room);
 
@@ -104,9 +104,9 @@ uint32_t rcu_map_replace(rcu_t *rcu, const uint64_t *entry, size_t length, uint6
  * if none has it, as rcu_map_insert. Writes the one that had it, or the key 0.
  * Faults: 32 as of rcu_map_insert; 30 if the key is 0; 31 if no node is free yet, or if the map is
  * full and no entry has the key.
- * Laws in crates/rcu_c/src/: keys_that_stay_are_found (map_laws.rt#L24), found_keys_were_there
- * (map_laws.rt#L42), found_entries_were_there (map_laws.rt#L59), no_key_that_stays_is_passed_over
- * (map_laws.rt#L92), reads_are_between_the_moments_that_they_know (map_laws.rt#L77). */
+ * Laws in crates/rcu_c/src/: keys_that_stay_are_found (map_laws.rt#L25), found_keys_were_there
+ * (map_laws.rt#L43), found_entries_were_there (map_laws.rt#L60), no_key_that_stays_is_passed_over
+ * (map_laws.rt#L93), reads_are_between_the_moments_that_they_know (map_laws.rt#L78). */
 uint32_t rcu_map_put(rcu_t *rcu, const uint64_t *entry, size_t length, uint64_t *old, size_t room);
 
 /* Takes the entry of a key out, by one store, and writes its words, or the key 0 if there is none.
@@ -114,9 +114,9 @@ uint32_t rcu_map_put(rcu_t *rcu, const uint64_t *entry, size_t length, uint64_t 
  * that a full grace period has passed since. Data that its words lead to may be freed when a full
  * grace period has passed.
  * Fault 32: an entry has another number of words.
- * Laws in crates/rcu_c/src/: keys_that_stay_are_found (map_laws.rt#L24), found_keys_were_there
- * (map_laws.rt#L42), found_entries_were_there (map_laws.rt#L59), no_key_that_stays_is_passed_over
- * (map_laws.rt#L92), reads_are_between_the_moments_that_they_know (map_laws.rt#L77). */
+ * Laws in crates/rcu_c/src/: keys_that_stay_are_found (map_laws.rt#L25), found_keys_were_there
+ * (map_laws.rt#L43), found_entries_were_there (map_laws.rt#L60), no_key_that_stays_is_passed_over
+ * (map_laws.rt#L93), reads_are_between_the_moments_that_they_know (map_laws.rt#L78). */
 uint32_t rcu_map_remove(rcu_t *rcu, uint64_t key, uint64_t *old, size_t room);
 
 /* Writes the words of the entry of a key as it is now, or the key 0: under the lock no change is
@@ -133,9 +133,9 @@ uint64_t rcu_map_len(rcu_t *rcu);
  * waits from now on or is free.
  * If a put finds no node free (31): call it, drive until the cookie is done, and call it again; or
  * call rcu_map_wait.
- * Laws in crates/rcu_c/src/: keys_that_stay_are_found (map_laws.rt#L24), found_keys_were_there
- * (map_laws.rt#L42), found_entries_were_there (map_laws.rt#L59), no_key_that_stays_is_passed_over
- * (map_laws.rt#L92), reads_are_between_the_moments_that_they_know (map_laws.rt#L77). */
+ * Laws in crates/rcu_c/src/: keys_that_stay_are_found (map_laws.rt#L25), found_keys_were_there
+ * (map_laws.rt#L43), found_entries_were_there (map_laws.rt#L60), no_key_that_stays_is_passed_over
+ * (map_laws.rt#L93), reads_are_between_the_moments_that_they_know (map_laws.rt#L78). */
 uint32_t rcu_map_reclaim(rcu_t *rcu, uint64_t *cookie);
 
 /* One step of waiting for a free node, for the driver: it looks at the number, as rcu_map_reclaim.
@@ -148,9 +148,9 @@ uint32_t rcu_map_reclaim(rcu_t *rcu, uint64_t *cookie);
  * room beside the entries before one is removed; 11 if a grace period would begin, and the number
  * is the last one. At 11 it has looked.
  * Fence: behind.
- * Laws in crates/rcu_c/src/: keys_that_stay_are_found (map_laws.rt#L24), found_keys_were_there
- * (map_laws.rt#L42), found_entries_were_there (map_laws.rt#L59), no_key_that_stays_is_passed_over
- * (map_laws.rt#L92), reads_are_between_the_moments_that_they_know (map_laws.rt#L77). */
+ * Laws in crates/rcu_c/src/: keys_that_stay_are_found (map_laws.rt#L25), found_keys_were_there
+ * (map_laws.rt#L43), found_entries_were_there (map_laws.rt#L60), no_key_that_stays_is_passed_over
+ * (map_laws.rt#L93), reads_are_between_the_moments_that_they_know (map_laws.rt#L78). */
 uint32_t rcu_map_wait_unfenced(rcu_t *rcu);
 static inline uint32_t rcu_map_wait(rcu_t *rcu) {
     uint32_t result = rcu_map_wait_unfenced(rcu);
@@ -164,9 +164,9 @@ static inline uint32_t rcu_map_wait(rcu_t *rcu) {
  * Faults: 26 if the seat is of another engine; 4 if a section is open on the seat; 31 as of
  * rcu_map_wait; 11 as of rcu_map_wait.
  * Fence: behind.
- * Laws in crates/rcu_c/src/: keys_that_stay_are_found (map_laws.rt#L24), found_keys_were_there
- * (map_laws.rt#L42), found_entries_were_there (map_laws.rt#L59), no_key_that_stays_is_passed_over
- * (map_laws.rt#L92), reads_are_between_the_moments_that_they_know (map_laws.rt#L77). */
+ * Laws in crates/rcu_c/src/: keys_that_stay_are_found (map_laws.rt#L25), found_keys_were_there
+ * (map_laws.rt#L43), found_entries_were_there (map_laws.rt#L60), no_key_that_stays_is_passed_over
+ * (map_laws.rt#L93), reads_are_between_the_moments_that_they_know (map_laws.rt#L78). */
 uint32_t rcu_seat_map_wait_unfenced(rcu_t *rcu, rcu_seat_t *seat);
 static inline uint32_t rcu_seat_map_wait(rcu_t *rcu, rcu_seat_t *seat) {
     uint32_t result = rcu_seat_map_wait_unfenced(rcu, seat);
@@ -183,9 +183,9 @@ static inline uint32_t rcu_seat_map_wait(rcu_t *rcu, rcu_seat_t *seat) {
  * what is written loses no update of another thread.
  * Faults: 32 as of rcu_map_insert; 30 if the key is 0; 33 if the entry of the key has other words
  * than `old`, or none has the key; 31 as of rcu_map_replace.
- * Laws in crates/rcu_c/src/: keys_that_stay_are_found (map_laws.rt#L24), found_keys_were_there
- * (map_laws.rt#L42), found_entries_were_there (map_laws.rt#L59), no_key_that_stays_is_passed_over
- * (map_laws.rt#L92), reads_are_between_the_moments_that_they_know (map_laws.rt#L77). */
+ * Laws in crates/rcu_c/src/: keys_that_stay_are_found (map_laws.rt#L25), found_keys_were_there
+ * (map_laws.rt#L43), found_entries_were_there (map_laws.rt#L60), no_key_that_stays_is_passed_over
+ * (map_laws.rt#L93), reads_are_between_the_moments_that_they_know (map_laws.rt#L78). */
 uint32_t rcu_map_compare_replace(rcu_t *rcu, const uint64_t *entry, size_t length, uint64_t *old,
                                  size_t room);
 
@@ -194,9 +194,9 @@ uint32_t rcu_map_compare_replace(rcu_t *rcu, const uint64_t *entry, size_t lengt
  * the key 0 if none has it, and changes nothing.
  * Faults: 32 if an entry has another number of words; 33 if the entry of the key has other words
  * than `old`, or none has the key.
- * Laws in crates/rcu_c/src/: keys_that_stay_are_found (map_laws.rt#L24), found_keys_were_there
- * (map_laws.rt#L42), found_entries_were_there (map_laws.rt#L59), no_key_that_stays_is_passed_over
- * (map_laws.rt#L92), reads_are_between_the_moments_that_they_know (map_laws.rt#L77). */
+ * Laws in crates/rcu_c/src/: keys_that_stay_are_found (map_laws.rt#L25), found_keys_were_there
+ * (map_laws.rt#L43), found_entries_were_there (map_laws.rt#L60), no_key_that_stays_is_passed_over
+ * (map_laws.rt#L93), reads_are_between_the_moments_that_they_know (map_laws.rt#L78). */
 uint32_t rcu_map_compare_remove(rcu_t *rcu, uint64_t *old, size_t room);
 
 /* <<< */

@@ -14,7 +14,7 @@ extern "C" {
 
 /* >>> types: written by tools/write_calls */
 
-/* What a report did. */
+/* The answer to a report. */
 enum rcu_answer {
     RCU_ANSWER_TAKEN = 0,  /* the processor was awaited, and others still are */
     RCU_ANSWER_LAST = 1,   /* the processor was the only one awaited */
@@ -33,11 +33,11 @@ typedef struct rcu_replica {
 
 /* ---- replicas of one engine on several machines: each hears of reports and departures by
  * messages, and those that began alike and heard the same processors await the same ones, in
- * whatever order, however often. A replica has no seats; what a call costs is what its number of
- * processors asks. */
+ * whatever order, however often. A replica has no seats; the cost of a call depends on its number
+ * of processors. */
 
-/* Opens a replica of 1 to 4,096 processors at number 0, which awaits nobody. No grace period begins
- * at `max_number`, a multiple of 4 from 4 to 2^62. Needs: `replica` is closed.
+/* Opens a replica of 1 to 4,096 processors at number 0, which awaits no processor. No grace period
+ * begins at `max_number`, a multiple of 4 from 4 to 2^62. Needs: `replica` is closed.
  * Faults: 17 for no processor or more than 4,096; 19 if `max_number` is no such number; 16. */
 uint32_t rcu_replica_open(uint32_t cpus, uint64_t max_number, rcu_replica_t *replica);
 

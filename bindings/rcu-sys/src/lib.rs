@@ -38,7 +38,7 @@ pub struct rcu_identity_t {
     pub count: u64,
 }
 
-/// What a turn did.
+/// The result of a turn.
 #[repr(C)]
 #[derive(Clone, Copy, Debug, Default, PartialEq, Eq)]
 pub struct rcu_turn_t {
@@ -133,7 +133,7 @@ pub const RCU_BAD_WORDS: u32 = 32;
 /// The entry of the map is not as it was read.
 pub const RCU_ENTRY_CHANGED: u32 = 33;
 
-// What a collection found.
+// The result of a collection.
 /// No grace period runs.
 pub const RCU_COLLECTED_IDLE: u32 = 0;
 /// The processor did not pass a quiescent state in the running grace period yet.
@@ -145,7 +145,7 @@ pub const RCU_COLLECTED_LAST: u32 = 3;
 /// The processor is not awaited.
 pub const RCU_COLLECTED_REPEAT: u32 = 4;
 
-// What a visit did.
+// The result of a visit.
 /// The barrier put a marker behind the processor's list.
 pub const RCU_VISIT_MARKED: u32 = 0;
 /// The processor's list was empty.
@@ -153,7 +153,7 @@ pub const RCU_VISIT_EMPTY: u32 = 1;
 /// The barrier had visited the processor already.
 pub const RCU_VISIT_ALREADY: u32 = 2;
 
-// What a turn did.
+// The result of a turn.
 /// No grace period runs, and none is needed.
 pub const RCU_TURN_NOTHING: u32 = 0;
 /// A grace period of this number began, and awaits this many processors.
@@ -163,7 +163,7 @@ pub const RCU_TURN_ENDED: u32 = 2;
 /// The grace period goes on, and awaits this many processors.
 pub const RCU_TURN_WAITING: u32 = 3;
 
-// What a report did.
+// The answer to a report.
 /// The processor was awaited, and others still are.
 pub const RCU_ANSWER_TAKEN: u32 = 0;
 /// The processor was the only one awaited.
@@ -333,8 +333,8 @@ extern "C" {
     /// Returns 2^64 - 1, which is never done, if `rcu` is not an open engine.
     pub fn rcu_take(rcu: *mut rcu_t) -> u64;
     /// Returns whether a cookie is done: the number has reached it, so each section that was open
-    /// at its taking has ended. For a number that no taking returned, the result means no more than
-    /// that the number has reached it. False if `rcu` is not an open engine.
+    /// when it was taken has ended. For a number that no snapshot returned, the result means no
+    /// more than that the number has reached it. False if `rcu` is not an open engine.
     ///
     /// If it returns true, of each section one of two holds: all of it comes before what follows
     /// this call, or it sees what the thread that took the cookie did before it took it.
@@ -617,8 +617,8 @@ extern "C" {
     /// Requests the grace period of a cookie: if that is greater than each that was requested
     /// before, `rcu_requested_gp` finds it from then on. Writes 1 if it is, and the driver says
     /// that it sleeps: then the caller wakes it, by means of the program's own. Else 0. It orders
-    /// nothing else: a taking does. No request is taken back: for a cookie that no taking returned,
-    /// as 2^64 - 1, the driver makes grace periods without end.
+    /// no other memory access, unlike a snapshot. A request cannot be taken back: for a cookie that
+    /// no snapshot returned, such as 2^64 - 1, the driver makes grace periods without end.
     pub fn rcu_seat_request_gp(seat: *mut rcu_seat_t, cookie: u64, wakes: *mut u32) -> u32;
     /// Says whether the driver sleeps from now on, and then writes the greatest cookie that was
     /// requested: 1, which is done at any number, if none was. The next step is `rcu_drive_for` of
@@ -639,8 +639,8 @@ extern "C" {
     /// processor, and let other threads run. It orders what `rcu_drive` orders.
     ///
     /// Faults: 16 if a list has no room for a marker; 11 if a grace period would begin, and the
-    /// number is the last one. After either the barrier goes on from where it came to, and so does
-    /// the same call again.
+    /// number is the last one. After either fault the barrier keeps its progress, and the same call
+    /// continues it.
     ///
     /// Fence: behind.
     pub fn rcu_barrier_wait_unfenced(rcu: *mut rcu_t, left: *mut u64) -> u32;
@@ -807,8 +807,8 @@ extern "C" {
     /// Faults: 32 if an entry has another number of words; 33 if the entry of the key has other
     /// words than `old`, or none has the key.
     pub fn rcu_map_compare_remove(rcu: *mut rcu_t, old: *mut u64, room: usize) -> u32;
-    /// Opens a replica of 1 to 4,096 processors at number 0, which awaits nobody. No grace period
-    /// begins at `max_number`, a multiple of 4 from 4 to 2^62. Needs: `replica` is closed.
+    /// Opens a replica of 1 to 4,096 processors at number 0, which awaits no processor. No grace
+    /// period begins at `max_number`, a multiple of 4 from 4 to 2^62. Needs: `replica` is closed.
     ///
     /// Faults: 17 for no processor or more than 4,096; 19 if `max_number` is no such number; 16.
     pub fn rcu_replica_open(cpus: u32, max_number: u64, replica: *mut rcu_replica_t) -> u32;
@@ -1193,8 +1193,8 @@ pub unsafe fn rcu_seat_repin(seat: *mut rcu_seat_t, number: *mut u64) -> u32 {
 /// processor, and let other threads run. It orders what `rcu_drive` orders.
 ///
 /// Faults: 16 if a list has no room for a marker; 11 if a grace period would begin, and the number
-/// is the last one. After either the barrier goes on from where it came to, and so does the same
-/// call again.
+/// is the last one. After either fault the barrier keeps its progress, and the same call continues
+/// it.
 ///
 /// Fence: behind.
 ///

@@ -1,5 +1,5 @@
--- Lists in two parts, of which the second has no marker: so no marker waits for what is not in the
--- first.
+-- Lists in two parts, of which the second has no marker: so no marker waits for an item that is not
+-- in the first.
 use Rattle.std.proofs.Common.{◌≡◌, ℕ, zero, suc, ◌≤◌, Bool, true, false, nat_le, List, [], ◌∷◌}
 use Rattle.std.proofs.Common.{◌++◌, refl, sym, ap, ◌∙◌, subst, arith, cond, map, append_assoc}
 use Rattle.std.proofs.Common.{append-nil, length, ◌+◌}

@@ -1,4 +1,4 @@
--- The handle and its parts own what a box at the same types owns.
+-- The handle and its parts own the same as a box at the same types.
 use mir.Syntax.{impl, tnil, dnil}
 use mathlib.Core.List.{[]}
 use denote.Signature.{Slot, plain}

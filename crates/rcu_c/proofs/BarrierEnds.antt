@@ -1,4 +1,4 @@
--- Waiting for a barrier comes to its end: what it waits for after each of four calls.
+-- Waiting for a barrier ends: the items that it waits for after each of four calls.
 use Rattle.std.proofs.Common.{◌≡◌, ℕ, ◌+◌, ◌<◌, ◌≤◌, true, List, [], ◌++◌, refl}
 use Rattle.std.proofs.Common.{sym, ap, ◌∙◌, subst, arith, inl, inr, length}
 use Rattle.std.specs.Prelude.{◌==◌, if◌then◌else◌}
@@ -119,7 +119,7 @@ module _ {C X : Type 0} (first : Locked C X) (new : IsNew first) where
         }
 
 module _ {C X : Type 0} where
-  -- the third call finds all done that is ahead of a marker, and the fourth finds none
+  -- the third call finds all items ahead of a marker done, and the fourth finds none
   then_done : (n k : ℕ) (third rest fourth : Locked C X) (w3 w4 : ℕ → ℕ)
       → At (Soon k) n third
       → k ≤ number_of third.grace.seq
@@ -165,7 +165,7 @@ module _ {C X : Type 0} where
       let all = (engine_after fourth (after_driving fourth w4)).grace.lists in
       zero_left all (barrier_left all) (nothing_left n all last.all)
 
-  -- the second call finds what it awaits reached, or ends the second grace period
+  -- the second call finds the awaited number reached, or ends the second grace period
   then_reached : (n k ends : ℕ) (second third rest fourth : Locked C X) (w2 w3 w4 : ℕ → ℕ)
       → At (Soon k) n second
       → ((now : Locked C X) → ends + 2 ≤ now.grace.seq.ends → k ≤ number_of now.grace.seq)

@@ -116,7 +116,7 @@ module _ {C X : Type 0} where
   queued_begun first calls true = refl
   queued_begun first calls false = refl
 
-  -- what was queued before the barrier that a step waits for: all, where the step began it
+  -- the callbacks queued before the barrier that a step waits for: all, if the step began it
   pub queued_by_step : (first : Locked C X) (calls : List (Call X)) (word : ℕ → ℕ)
       → queued_before_barrier first (whole_step (engine_after first calls) word ++ calls)
       ≡ (if (engine_after first calls).grace.lists.running then queued_before_barrier first calls

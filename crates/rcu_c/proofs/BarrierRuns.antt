@@ -89,7 +89,7 @@ module _ {C X : Type 0} where
     marks = marks;
   }
 
-  -- a list of a processor that is there is tended
+  -- a list of an existing processor is tended
   pub one_tended : {U : Type 0} (e now : Locked C X) (cpu : ℕ) (o : Result U Fault)
       → cpu < e.cpus → OnOk o (Makes (Tend cpu) e now) → result_err o ≡ cpu_refusal e cpu
       → now ≡ after_call e (Tend cpu)

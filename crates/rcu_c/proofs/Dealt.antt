@@ -2,7 +2,7 @@
 use Rattle.std.proofs.Common.{◌≡◌, ℕ, suc, ◌+◌, ◌-◌, ◌<◌, List, [], ◌∷◌, map, sym, ap, ◌∙◌, arith}
 use Rattle.std.specs.List.{range_with_len}
 
--- the first of what is made of the numbers from i up to n, and the others
+-- the first of the values made from the numbers from i up to n, and the others
 first : {A : Type 0} (f : ℕ → A) (i n : ℕ) → i < n
     → map f (range_with_len i (n - i)) ≡ f i ∷ map f (range_with_len (i + 1) (n - (i + 1)))
 first f i n low =
@@ -16,12 +16,12 @@ abbrev tail_of : {A : Type 0} → List A → List A
 tail_of [] = []
 tail_of (y ∷ ys) = ys
 
--- what comes first of it
+-- the value that comes first
 pub one_came : {A : Type 0} (f : ℕ → A) (i n : ℕ) (l left : List A) (x : A) → i < n
     → l ≡ map f (range_with_len i (n - i)) → l ≡ x ∷ left → x ≡ f i
 one_came f i n l left x low made is = ap (head_or x) (sym is ∙ made ∙ first f i n low)
 
--- and what is left
+-- and the values that are left
 pub others_left : {A : Type 0} (f : ℕ → A) (i n : ℕ) (l left : List A) (x : A) → i < n
     → l ≡ map f (range_with_len i (n - i)) → l ≡ x ∷ left
     → left ≡ map f (range_with_len (i + 1) (n - (i + 1)))

@@ -1,4 +1,4 @@
--- What a step of driving ends, as C is told.
+-- The end of a grace period by a step of driving, as returned to C.
 use Rattle.std.proofs.Common.{◌≡◌, ℕ, ◌+◌, ◌≤◌, ◌&&◌, Bool, true, false, not, List, [], ◌∷◌, refl}
 use Rattle.std.proofs.Common.{sym, ap, ◌∙◌, arith, Option, Some, None}
 use Rattle.std.specs.Prelude.{◌==◌, if◌then◌else◌}
@@ -43,7 +43,7 @@ drive_accepted (Some contents.Room) is = absurd (cc)
 done_at : (cookie number : ℕ) → cookie ≤ number → is_done_first (cookie_in_c cookie) number ≡ true
 done_at cookie number l = grind (arith, nat_tests)
 
--- a step of driving that leaves this, and finds these words, each of which tells of an awaited
+-- a step of driving with this effect, which finds these words, each of which reports an awaited
 -- processor
 module _ (rcu now : Option Contents) (word : ℕ → ℕ)
     (is : now ≡ on_engine (λ e. after_drive e (wants_begin e.grace) word) rcu)
@@ -82,7 +82,7 @@ module _ (rcu now : Option Contents) (word : ℕ → ℕ)
   done_then cookie l =
       let n = number_then in done_at cookie (number_of (grace_of now).seq) (omega (arith, l, n))
 
--- what C is told of an end
+-- the result of an end for C
 ended_if : (runs none was : Bool) (number awaited next : ℕ)
     → (turn_of (if not runs
     then turned.Nothing

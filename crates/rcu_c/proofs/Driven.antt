@@ -1,5 +1,5 @@
--- Steps of driving if every word says that its processor is quiescent: one ends a grace period, or
--- none is needed.
+-- Steps of driving if every word reports a quiescent state: one ends a grace period, or none is
+-- needed.
 use Rattle.std.proofs.Common.{◌≡◌, ◌⊎◌, ℕ, ◌≤◌, ◌&&◌, Bool, true, false, not, nat_lt, List, []}
 use Rattle.std.proofs.Common.{◌∷◌, if◌then◌else◌, sym, ap, ◌∙◌, subst, arith, inl, inr}
 use Rattle.std.specs.Prelude.{◌==◌}

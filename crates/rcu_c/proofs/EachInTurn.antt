@@ -17,7 +17,7 @@ use Rattle.rcu_c.specs.BarrierSteps.{tends}
 use Rattle.rcu_c.specs.Progress.{runs}
 
 module _ {Y : Type 0} (none : Y) (change : ℕ → Y → Y) where
-  -- the first so many are changed, one after another
+  -- this number of first ones is changed, one after another
   abbrev in_turn : List Y → ℕ → List Y
   in_turn ys zero = ys
   in_turn ys (suc n) =
@@ -79,7 +79,7 @@ module _ {C X : Type 0} where
       ap (λ (ys : List (List (Item X))). get_or ys c []) (tends_in_turn e n)
       ∙ in_turn_at [] (tended e) e.grace.lists.lists n c few l
 
-  -- a tend asks for what its list waits for, and for no less than was asked for
+  -- a tend requests the number that its list waits for, and no less than was requested before
   pub tend_needs : (e : Locked C X) (c : ℕ)
       → (e.grace.needed ≤ (after_call e (Tend c)).grace.needed)
       × IsAtMost (after_call e (Tend c)).grace.needed
@@ -92,7 +92,7 @@ module _ {C X : Type 0} where
         All-tail (λ k. k ≤ most) e.grace.needed (numbers xs) all,
       )
 
-  -- so what each list waits for is needed
+  -- so the number that each list waits for is needed
   pub each_needed : (e : Locked C X) (n c : ℕ) → n ≤ length e.grace.lists.lists → c < n
       → IsAtMost (engine_after e (tends n)).grace.needed
       (list_of (engine_after e (tends n)).grace.lists c)

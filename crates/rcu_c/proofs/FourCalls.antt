@@ -1,5 +1,5 @@
--- A tend, two steps of driving and a tend leave a list done, if every word says that its processor
--- is quiescent.
+-- A tend, two steps of driving and a tend leave a list done, if every word reports a quiescent
+-- state.
 use Rattle.std.proofs.Common.{◌≡◌, ℕ, ◌<◌, ◌≤◌, ◌&&◌, Bool, true, false, List, [], ◌∷◌}
 use Rattle.std.proofs.Common.{refl, sym, ap, ◌∙◌, subst, arith, inl, inr, length, append-nil}
 use Rattle.std.specs.Prelude.{◌==◌, if◌then◌else◌, All}
@@ -55,7 +55,7 @@ module _ {C X : Type 0} where
       either true x y i j = i
       either false x y i j = j
 
-  -- what a list waits for is reached
+  -- the number that a list waits for is reached
   reached_by : (k cpu : ℕ) (e now : Locked C X) → now.grace.lists ≡ e.grace.lists
       → cpu < length e.grace.lists.lists
       → All (Soon k) (list_of e.grace.lists cpu)

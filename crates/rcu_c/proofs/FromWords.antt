@@ -22,14 +22,14 @@ bit_of words cpu = has_bit (slice_index words (cpu / 64)) (cpu % 64)
 abbrev pub filled : ℕ → List ℕ → ℕ → List Bool
 filled n words i = listed n (λ cpu. nat_lt cpu i && bit_of words cpu)
 
--- what is below one more is below, but for that one
+-- a number below one more is below, but for that one
 below_more : (k i : ℕ) → k ≢ i → nat_lt k (i + 1) ≡ nat_lt k i
 below_more k i other = elim (cases_lt k i) [
   | inl l ↦ grind (arith, nat_tests, l)
   | inr l ↦ grind (arith, nat_tests, l, other)
 ]
 
--- neither here nor there, where the bit is not set
+-- neither here nor there, if the bit is not set
 no_flag : (here bit : Bool) → bit ≡ false → (here && bit) ≡ false
 no_flag true bit none = none
 no_flag false bit none = refl

@@ -7,7 +7,7 @@ use Rattle.std.proofs.lemmas.Option.{get_or_from_slice_get, slice_get_within}
 use Rattle.rcu_defer.specs.Marks.{Marking, after_take, ready_of}
 use Rattle.rcu_defer.specs.DeferList.{Deferring, list_after_take, taken_values}
 
--- after so many takes one more is left to take
+-- after this number of takes one more is left to take
 one_ready : (m : Marking) (i : ℕ) → i < ready_of m → min 1 (ready_of (after_take m i)) ≡ 1
 one_ready m i inside = omega arith
 
@@ -49,7 +49,7 @@ first_of_one : (xs : List ℕ) → slice_get (take 1 xs) 0 ≡ slice_get xs 0
 first_of_one [] = refl
 first_of_one (x ∷ xs) = refl
 
--- what the next take gives is the value at its place
+-- the next take returns the value at its place
 next_is : (s t : Deferring ℕ) (i : ℕ) → i < ready_of s.marks → t ≡ list_after_take s i
     → slice_get (taken_values t 1) 0 ≡ slice_get (drop i s.values) 0
 next_is s t i inside so_far =

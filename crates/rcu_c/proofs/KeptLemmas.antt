@@ -40,7 +40,7 @@ first_seats s places are =
     ap (map (seat_in s)) are
     ∙ map-map (seat_in s) (place_at_first s.words) (range_with_len 0 s.words.cpus)
 
--- where a call that is accepted leaves a place without its seat, the seats are without that one
+-- if an accepted call leaves a place without its seat, the seats are without that one
 pub now_dealt : {A E : Type 0} (s : Shared) (places : List Place) (cpu : ℕ) (left : Place)
     (was : Kept) (result : Result A E)
     → record { shared = s; seats = map (seat_in s) places } ≡ was
@@ -62,7 +62,7 @@ module _ (s : Shared) (places : List Place) (cpu : ℕ) (seat : Seat) (was : Kep
       ∙ ap (λ x. slice_set (map (seat_in s) places) cpu x) there
       ∙ ap (λ (k : Kept). slice_set k.seats cpu (Some seat)) is
 
-  -- where there is no place, the seats stay
+  -- if there is no place, the seats stay
   pub none_kept : length places ≤ cpu
       → map (seat_in s) places ≡ slice_set was.seats cpu (Some seat)
   none_kept past =

@@ -1,4 +1,4 @@
--- Processors that are listed in a buffer, as far as there is room.
+-- Processors that are listed in a buffer, as far as it has room.
 use Rattle.std.proofs.Common.{◌≡◌, ℕ, zero, suc, ◌+◌, ◌-◌, ◌<◌, ◌≤◌, Bool, true, false, List, []}
 use Rattle.std.proofs.Common.{◌∷◌, ◌++◌, length, take, ap, refl, sym, ◌∙◌, arith, append-nil}
 use Rattle.std.specs.Prelude.{filter, slice_set}
@@ -7,17 +7,17 @@ use Rattle.std.proofs.lemmas.List.{length-append, length-take, take-append-le, t
 use Rattle.std.proofs.lemmas.List.{take_more_set}
 use Rattle.rcu_node.proofs.RangeLemmas.{filter-range_more}
 
--- one more of so many, which is listed
+-- one more of this number, which is listed
 more_yes : (p : ℕ → Bool) (n : ℕ) → p n ≡ true
     → filter p (range_with_len 0 (n + 1)) ≡ filter p (range_with_len 0 n) ++ n ∷ []
 more_yes p n passes = filter-range_more p n ∙ rw passes refl
 
--- one more of so many, which is not
+-- one more of this number, which is not
 more_no : (p : ℕ → Bool) (n : ℕ) → p n ≡ false
     → filter p (range_with_len 0 (n + 1)) ≡ filter p (range_with_len 0 n)
 more_no p n fails = filter-range_more p n ∙ rw fails (append-nil (filter p (range_with_len 0 n)))
 
--- where there is room for more than these, it is for all of them
+-- if there is room for more than these, there is for all of them
 all_fit : (room : ℕ) (xs : List ℕ) → length (take room xs) < room → length xs ≤ room
 all_fit room xs short = omega (arith, short, length-take room xs)
 
@@ -45,8 +45,8 @@ full : (room : ℕ) (xs : List ℕ) (x : ℕ) → room ≤ length (take room xs)
     → take room (xs ++ x ∷ []) ≡ take room xs
 full room xs x none = take-append-le room xs (x ∷ []) (omega (arith, none, length-take room xs))
 
--- what is listed of one processor more: it passes and there is room; it does not pass; or there is
--- no room
+-- the list with one processor more: it passes and there is room; it does not pass; or there is no
+-- room
 pub listed_yes : (p : ℕ → Bool) (n room count : ℕ) (now : List ℕ) → p n ≡ true → count < room
     → count ≡ length (take room (filter p (range_with_len 0 n)))
     → take count now ≡ take room (filter p (range_with_len 0 n)) → count < length now
@@ -78,7 +78,7 @@ pub listed_full : (p : ℕ → Bool) (n room : ℕ)
     → take room (filter p (range_with_len 0 (n + 1))) ≡ take room (filter p (range_with_len 0 n))
 listed_full p n room none = full_more p n room (p n) refl none
 
--- nobody of the processors from one on is listed
+-- no processor from one on is listed
 passed_more : (p : ℕ → Bool) (from more n : ℕ) → n ≡ from + more
     → ((i : ℕ) → from ≤ i → i < n → p i ≡ false)
     → filter p (range_with_len 0 n) ≡ filter p (range_with_len 0 from)
@@ -111,7 +111,7 @@ full_to_more p from (suc m) n room end none =
     ∙ listed_full p (from + m) room still
     ∙ so_far
 
--- where there is no more room, what follows changes nothing
+-- if there is no more room, the rest changes nothing
 pub listed_full_to : (p : ℕ → Bool) (from n room : ℕ) → from ≤ n
     → room ≤ length (take room (filter p (range_with_len 0 from)))
     → take room (filter p (range_with_len 0 n)) ≡ take room (filter p (range_with_len 0 from))

@@ -1,4 +1,4 @@
--- What C is told of an entry, where a section's search found a node or none.
+-- The entry that C gets, if a section's search found a node, and if not.
 use Rattle.std.proofs.Common.{◌≡◌, ◌≢◌, ◌∙◌, ◌<◌, ℕ, Bool, true, false, List, Option, Some, None}
 use Rattle.std.proofs.Common.{ap, arith, length, refl, subst, sym}
 use Rattle.std.specs.Prelude.{◌==◌, if◌then◌else◌, IsSome, IsSomeAnd}
@@ -17,7 +17,7 @@ use Rattle.rcu_c.specs.Refusals.{first_of}
 use Rattle.rcu_c.specs.declared.refusal.Refusal.{Refusal}
 use Rattle.rcu_c.specs.declared.refusal.Refusal.TheVariants.{BadWords}
 
--- where a node was found, it is an entry of the key
+-- if a node was found, C gets an entry of the key
 pub told_of_key : (key : ℕ) (known : Known) (node : Option ℕ) (found : Option (List ℕ))
     (room entry : List ℕ)
     → IsOfNode (λ i e. IsEntryFound IsKeyed as_words key known i e) node found
@@ -28,7 +28,7 @@ told_of_key key known (Some i) None room entry is said some = absurd is
 told_of_key key known None (Some e) room entry is said some = absurd is
 told_of_key key known None None room entry is said some = cc some
 
--- where it is one of a key, a node was found, which the section holds with its words
+-- if C gets an entry of a key, a node was found, which the section holds with its words
 pub node_told : (key : ℕ) (known : Known) (node : Option ℕ) (found : Option (List ℕ))
     (room entry : List ℕ)
     → IsOfNode (λ i e. IsEntryFound IsKeyed as_words key known i e) node found
@@ -47,7 +47,7 @@ node_told key known None None room entry is wide said some =
     let none : key_in entry ≡ 0 = ap key_in said ∙ get_or-set_same room 0 0 0 wide in
     absurd (omega (arith, none, some))
 
--- where a next entry was found, it is one, and what is so of its key is so of the one that was told
+-- if a next entry was found, C gets it, and a property of its key holds for the key that C gets
 pub told_next : (buckets seed key stays : ℕ) (was now : Known) (found : Option (List ℕ))
     (room entry : List ℕ) → entry ≡ told room found
     → IsNextAfter IsKeyed as_words buckets seed key was found now

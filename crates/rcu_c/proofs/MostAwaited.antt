@@ -24,7 +24,7 @@ nothing_at (suc n) zero = refl
 nothing_at (suc n) (suc c) = nothing_at n c
 
 module _ {C X : Type 0} where
-  -- what the lists wait for is at most the snapshot of the number, also by the call that is made
+  -- the lists wait for at most the snapshot of the number, also after a call
   on_call : (e : Locked C X) (call : Call X)
       → AreMarked (snapshot (number_of e.grace.seq)) e.grace.lists
       → AreMarked (snapshot (number_of e.grace.seq))

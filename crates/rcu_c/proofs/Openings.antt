@@ -59,7 +59,7 @@ unfit_by_test s cpus last none true passed =
     }))
 unfit_by_test s cpus last none false failed = rw failed refl
 
--- what no map may have is refused
+-- sizes that no map may have are refused
 pub unfit_told : (s : MapSizes) (cpus last : ℕ)
     → (HasSizes s.buckets (width_in s) s.entries → ⊥)
     → Some (refusal_of BadSizes) ≡ map_opening_refusal s cpus last
@@ -105,7 +105,7 @@ module _ {A : Type 0} (s : MapSizes) (cpus last : ℕ) (plan : Plan) (result : R
     by_test false failed (not_opened.Fault why) is =
         let bad : result ≡ Err BadSizes = sized.1 (λ has. (cc (is_tested has))) in cc
 
-    -- of an opening that fails it is told what is told of its sizes, and then of its processors and
+    -- an opening that fails returns the refusal of its sizes, or else that of its processors and
     -- its last number
     pub refused_told : (why : NotOpened) → result ≡ Err why
         → tested_refusal {A = A} (Err (refusal_of why)) ≡ map_opening_refusal s cpus last
@@ -119,6 +119,6 @@ module _ {A : Type 0} (s : MapSizes) (cpus last : ℕ) (plan : Plan) (result : R
     by_acceptance false failed value is =
         let bad : result ≡ Err BadSizes = sized.1 (λ has. (cc (is_tested has))) in cc
 
-    -- and nothing speaks against one that does not
+    -- and no cause holds of one that does not fail
     pub accepted_told : (value : A) → result ≡ Ok value → None ≡ map_opening_refusal s cpus last
     accepted_told = by_acceptance (are_sizes s) refl

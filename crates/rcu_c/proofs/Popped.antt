@@ -19,7 +19,7 @@ use Rattle.rcu_graph.specs.declared.known.Planned.{Planned}
 abbrev pub listed : Locked Planned ℕ → ℕ → List (Item ℕ)
 listed e cpu = list_of e.grace.lists cpu
 
--- the engine once it handed out at most so many
+-- the engine once it handed out at most this number
 abbrev pub ran : Locked Planned ℕ → ℕ → ℕ → Locked Planned ℕ
 ran e cpu n = on_grace (λ g. after_run g cpu n) e
 
@@ -33,13 +33,13 @@ only : (ys : List (Queued ℕ)) (call : Queued ℕ) → Some call ≡ slice_get 
 only [] call is = absurd cc
 only (y ∷ ys) call is = cc
 
--- where there are some there is a first
+-- if there are some, there is a first
 some_first : (ys : List (Queued ℕ)) → 0 < length ys → None ≡ slice_get (take 1 ys) 0 → ⊥
 some_first [] some is = absurd (omega arith)
 some_first (y ∷ ys) some is = absurd cc
 
 module _ (e now : Locked Planned ℕ) (cpu i : ℕ) (so_far : now ≡ ran e cpu i) where
-  -- what is left of the list
+  -- the rest of the list
   left : listed now cpu ≡ after_take (listed e cpu) i
   left = ap (λ l. listed l cpu) so_far ∙ list_left e.grace.lists cpu i
 

@@ -1,11 +1,11 @@
--- What C's room is told of an entry that was read into it, or was not.
+-- The buffer of C after an entry was read into it, or was not.
 use Rattle.std.proofs.Common.{◌≡◌, Bool, true, false, ℕ, List, ap, refl}
 use Rattle.std.specs.Prelude.{IsSome, slice_set}
 use Rattle.std.proofs.lemmas.Bool.{false≢true}
 use Rattle.rcu_map.specs.Words.{words_if}
 use Rattle.rcu_c.specs.MapEntries.{told}
 
--- a room that was not read into is as it was
+-- a buffer that was not read into is as it was
 pub told_once : (there : Bool) (room read : List ℕ) → (there ≡ false → read ≡ room)
     → told read (words_if there read) ≡ told room (words_if there read)
 told_once true room read same = refl

@@ -1,4 +1,4 @@
--- What C's room is told of an entry that was compared, and what became of the entry.
+-- The buffer of C after a comparison of an entry, and the entry after it.
 use Rattle.std.proofs.Common.{◌≡◌, ◌≢◌, ℕ, List, Option, Some, Result, Ok, ap, refl, subst}
 use Rattle.std.specs.Prelude.{IfOk, OnOk, slice_set}
 use Rattle.rcu_live.specs.Watcher.{Watching}
@@ -15,7 +15,7 @@ use Rattle.rcu_map.specs.declared.compared.Compared.TheVariants.{Changed, Gone, 
 use Rattle.rcu_map.proofs.AsRead.{has_its_key}
 use Rattle.rcu_c.specs.MapEntries.{IsKeyed, told}
 
--- a room that was not written to is as it was
+-- a buffer that was not written to is as it was
 pub told_of_one : (found : Compared) (room read : List ℕ) → (found ≢ Changed → read ≡ room)
     → told read (words_found found read) ≡ told room (words_found found read)
 told_of_one Same room read same = refl
@@ -23,7 +23,7 @@ told_of_one Changed room read same = refl
 told_of_one Gone room read same =
     ap (λ (words : List ℕ). slice_set words 0 0) (same (λ e. absurd (cc)))
 
--- what a comparison came to, of these words and this room
+-- the result of a comparison, for these words and this buffer
 module _ (result : Result Compared Full) (new read words : List ℕ)
     (before after : Watching Planned)
     (by : HasComparedToReplace as_words IsKeyed key_in (key_in words) read words before

@@ -23,12 +23,12 @@ use Rattle.rcu_c.specs.Progress.{puts_off}
 use Rattle.rcu_c.proofs.Ahead.{Ahead, ahead_queued, ahead_taken, ahead_tended, none_ahead}
 
 module _ {X : Type 0} where
-  -- what is kept by a tend
+  -- a property that a tend keeps
   abbrev pub IsLasting : (Item X → Type 0) → Type 0
   IsLasting P = (v : ℕ) (x : Item X) → P x → P (remarked (mark_after_tend v) x)
 
-  -- there are so many lists, each processor was visited, and ahead of each marker of its list are
-  -- such items alone
+  -- there are this many lists, each processor was visited, and only such items are ahead of each
+  -- marker of a list
   pub record Visited (P : Item X → Type 0) (n : ℕ) (all : AllLists X) : Type 0 where
     pub sized : length all.lists ≡ n
     pub flags : length all.visited ≡ n
@@ -103,7 +103,7 @@ module _ {X : Type 0} where
       record { sized = f.sized; flags = f.flags; seen = f.seen; ahead = f.ahead }
   tested P n all false f = f
 
-  -- the call visits anew, or moves a list
+  -- the call begins new visits, or moves a list
   abbrev resets : lists.Call X → Bool
   resets (lists.Migrate cpu) = true
   resets lists.BarrierBegin = true
@@ -192,12 +192,12 @@ module _ {C X : Type 0} where
   undisturbed e (BarrierBegin ∷ calls) u = absurd (cc)
   undisturbed e (call ∷ calls) u = undisturbed e calls u
 
-  -- the lists of an engine of so many processors
+  -- the lists of an engine of this number of processors
   pub record At (P : Item X → Type 0) (n : ℕ) (e : Locked C X) : Type 0 where
     pub cpus : e.cpus ≡ n
     pub all : Visited P n e.grace.lists
 
-  -- as calls go on, it stays so
+  -- further calls keep it so
   pub stays : (P : Item X → Type 0) → IsLasting P → (n : ℕ) (e : Locked C X) (calls : List (Call X))
       → IsRun e calls → list_any puts_off calls ≡ false → At P n e → At P n (engine_after e calls)
   stays P k n e calls is u a =

@@ -1,4 +1,4 @@
--- What a step of waiting for a barrier does to its lists and to the number.
+-- The effect of a step of waiting for a barrier on its lists and on the number.
 use Rattle.std.proofs.Common.{◌≡◌, ◌≢◌, ℕ, zero, suc, ◌<◌, ◌≤◌, Bool, true, false, List, []}
 use Rattle.std.proofs.Common.{◌∷◌, ◌++◌, refl, sym, ap, ◌∙◌, subst, arith, inl, inr, set}
 use Rattle.std.proofs.Common.{length}
@@ -28,7 +28,7 @@ use Rattle.rcu_c.proofs.EachInTurn.{each_needed, each_tended, number_tended}
 use Rattle.rcu_c.proofs.Visited.{At, IsLasting, stays}
 
 module _ {X : Type 0} where
-  -- none of these calls puts the end of a barrier off
+  -- none of these calls delays the end of a barrier
   abbrev pub PutOffNothing : List (Call X) → Type 0
   PutOffNothing calls = list_any puts_off calls ≡ false
 

@@ -1,4 +1,4 @@
--- A handle into which what it holds is written back.
+-- A handle into which its contents are written back.
 use Rattle.std.proofs.Common.{◌≡◌, Option, Some, ap, sym, ◌∙◌}
 use Rattle.rcu_c.specs.declared.handle.Handle.{Handle}
 use Rattle.rcu_c.specs.declared.contents.Contents.{Contents}

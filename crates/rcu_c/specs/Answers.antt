@@ -1,4 +1,4 @@
--- The numbers that C is told.
+-- The numbers that calls return to C.
 use Rattle.std.specs.Prelude.{ℕ, Bool, ◌==◌, if◌then◌else◌, Option, Some, None}
 use Rattle.rcu_seq.specs.Fault.{fault_number}
 use Rattle.rcu_seq.specs.declared.cookie.Cookie.{Cookie}
@@ -19,12 +19,13 @@ use Rattle.rcu_c.specs.declared.refusal.Refusal.TheVariants.{Engine, SeatDealt, 
 use Rattle.rcu_c.specs.declared.refusal.Refusal.TheVariants.{OtherKind, BadSizes, BadKey, MapFull}
 use Rattle.rcu_c.specs.declared.refusal.Refusal.TheVariants.{BadWords, EntryChanged}
 
--- the number of a refusal, 0 where there is none
+-- the number of a refusal, 0 if there is none
 abbrev pub number_for : Option Fault → ℕ
 number_for None = 0
 number_for (Some fault) = fault_number fault
 
--- the number that a call returned, but 0 where memory was refused: what all other causes determine
+-- the number that a call returned, but 0 if memory was refused: the number that all other causes
+-- determine
 abbrev pub tested_number : ℕ → ℕ
 tested_number result = if result == 16 then 0 else result
 
@@ -46,12 +47,12 @@ abbrev pub refusal_of : NotOpened → Refusal
 refusal_of not_opened.BadSizes = BadSizes
 refusal_of (not_opened.Fault fault) = Engine fault
 
--- the number of such a refusal, 0 where there is none
+-- the number of such a refusal, 0 if there is none
 abbrev pub number_in_c : Option Refusal → ℕ
 number_in_c None = 0
 number_in_c (Some refusal) = refusal_number refusal
 
--- the number of such a refusal, and where there is none this number
+-- the number of such a refusal, and if there is none, this number
 abbrev pub number_or : Option Refusal → ℕ → ℕ
 number_or None number = number
 number_or (Some refusal) number = refusal_number refusal
@@ -60,14 +61,14 @@ number_or (Some refusal) number = refusal_number refusal
 abbrev pub cookie_in_c : ℕ → Cookie
 cookie_in_c number = record { epoch = 0; number = number }
 
--- what a turn did: 0 nothing, 1 begun, 2 ended, 3 waiting; how many are awaited; and a number
+-- the result of a turn: 0 nothing, 1 begun, 2 ended, 3 waiting; how many are awaited; and a number
 abbrev pub turn_of : Turned → Turn
 turn_of turned.Nothing = record { what = 0; awaited = 0; number = 0 }
 turn_of (turned.Begun number awaited) = record { what = 1; awaited = awaited; number = number }
 turn_of (turned.Ended number) = record { what = 2; awaited = 0; number = number }
 turn_of (turned.Waiting awaited) = record { what = 3; awaited = awaited; number = 0 }
 
--- what a collection found
+-- the number of a collection's result
 abbrev pub collected_number : Collected → ℕ
 collected_number collected.Idle = 0
 collected_number collected.NotYet = 1
@@ -75,7 +76,7 @@ collected_number collected.Taken = 2
 collected_number collected.Last = 3
 collected_number collected.Repeat = 4
 
--- what a barrier's visit did
+-- the number of a barrier visit's result
 abbrev pub visit_number : Visit → ℕ
 visit_number visit.Marked = 0
 visit_number visit.Empty = 1

@@ -8,7 +8,7 @@ use Rattle.rcu_live.specs.Drive.{drive_refusal, wants_begin}
 use Rattle.rcu_live.specs.Engine.{Locked}
 use Rattle.rcu_live.specs.Runs.{BarrierBegin, BarrierTest, Call, Drive, Tend, Visit, engine_after}
 
--- a barrier begins where none runs
+-- a barrier begins if none runs
 abbrev pub begun : {C X : Type 0} → Locked C X → List (Call X)
 begun e = if e.grace.lists.running then [] else BarrierBegin ∷ []
 
@@ -45,12 +45,12 @@ module _ {C X : Type 0} where
   step_refusal e =
       let now = (engine_after e (before_drive e)).grace in drive_refusal now (wants_begin now)
 
-  -- what its test answers
+  -- the answer of its test
   abbrev pub step_answer : Locked C X → (ℕ → ℕ) → BarrierState
   step_answer e word = barrier_test_answer (engine_after e (after_driving e word)).grace.lists
 
   -- a step for which memory was refused: a barrier runs, which visited the processors before one
-  -- whose list wants a marker
+  -- whose list needs a marker
   pub record IsCutOff (e now : Locked C X) : Type 0 where
     pub cpu : ℕ
     pub inside : cpu < e.cpus

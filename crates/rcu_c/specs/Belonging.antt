@@ -35,18 +35,18 @@ pub record IsSameObject (e f : Locked Planned ℕ) : Type 0 where
   pub table : f.table ≡ e.table
   pub cpus : f.cpus ≡ e.cpus
 
--- what holds of the words of a map of this plan, and of what all seats know of it: the rule of the
--- client of an engine of C's
+-- the rule of the client of an engine of C's: an invariant of the words of a map of this plan, and
+-- of the knowledge of all seats about it
 abbrev pub IsMapKept : Plan → List ℕ → Views Planned → Type 0
 IsMapKept = IsKeptBy (λ plan. IsWhole IsKeyed plan.words)
     (λ plan _ from to. GoesUp plan.roots plan.seed from to) (λ plan. root_words plan.words)
 
--- the shared words at one moment, and what each seat has seen of them
+-- the shared words at one moment, and the view of each seat
 abbrev pub Moment : Type 0
 Moment = State (Unit {0}) (View Planned)
 
--- at this moment the rule of the words holds, with that of the engine's map, and among those who
--- see them is the engine of the handle
+-- at this moment the rule of the words holds, with that of the engine's map, and the engine of the
+-- handle is among the seats
 pub record IsEngineAt (now : Moment) (id : ℕ) (rcu : std.Option Contents) : Type 0 where
   pub kept : IsKept (IsMapKept (engine_of rcu).view.client.plan) (engine_of rcu).cpus now
   pub here : get_elem? now.views id ≡ some (engine_of rcu).view

@@ -17,12 +17,12 @@ use Rattle.rcu_request.specs.Requests.{Requesting, requests_at_first}
 use Rattle.rcu_c.specs.Seats.{Seat, seat_at_first}
 use Rattle.rcu_c.specs.declared.identity.Identity.{Identity}
 
--- whether two identities are the same
+-- two identities are the same
 abbrev pub is_same : Identity → Identity → Bool
 is_same a b = (a.place == b.place) && (a.count == b.count)
 
--- the running engine, the seat of each processor, none where it is dealt, what it knows of
--- requests, what tells the engine from others, and the writer of its map
+-- the running engine, the seat of each processor, none if it is dealt, its knowledge about
+-- requests, its identity, and the writer of its map
 pub record EngineAndSeats : Type 0 where
   pub engine : Locked Planned ℕ
   pub seats : List (Option Seat)
@@ -30,12 +30,11 @@ pub record EngineAndSeats : Type 0 where
   pub identity : Identity
   pub map : Watching Planned
 
--- whether an engine takes a seat as one that it dealt: its identity is the engine's, and its
--- processor is one of those
+-- an engine takes a seat as one that it dealt: the seat has its identity, and one of its processors
 abbrev pub is_own : EngineAndSeats → Seat → Bool
 is_own o s = is_same o.identity s.identity && nat_lt s.cpu.cpu o.engine.cpus
 
--- the seat of a processor, where there is such a processor and its seat is not dealt yet
+-- the seat of a processor, if the processor exists and its seat is not dealt
 abbrev pub seat_at : EngineAndSeats → ℕ → Option Seat
 seat_at o cpu = slice_index_or o.seats cpu None
 
@@ -43,16 +42,16 @@ seat_at o cpu = slice_index_or o.seats cpu None
 abbrev pub without_seat : EngineAndSeats → ℕ → EngineAndSeats
 without_seat o cpu = record o { seats = slice_set o.seats cpu None }
 
--- a seat is handed back: its processor's seat is not dealt
+-- a seat is returned: its processor's seat is not dealt
 abbrev pub with_seat : EngineAndSeats → Seat → EngineAndSeats
 with_seat o s = record o { seats = slice_set o.seats s.cpu.cpu (Some s) }
 
--- how many callbacks may be queued in an engine of C's: so many that no program queues them all
+-- the limit of callbacks in an engine of C's: more than a program can queue
 abbrev pub most_in_c : ℕ
 most_in_c = 2 ^ 62
 
--- an engine of so many processors as it is opened, with a seat for each, with these words, these
--- for requests, and a map of this plan
+-- an engine of this number of processors as it is opened, with a seat for each, with these words,
+-- these for requests, and a map of this plan
 abbrev pub opened_at_first : Identity → TableId → TableId → Plan → ℕ → Number → EngineAndSeats
 opened_at_first identity table requests plan cpus last = record {
   engine = engine_at_first table cpus last most_in_c (of_plan plan Idle);

@@ -1,5 +1,4 @@
--- What a handle owns: where it is open, what a box of the thing that it holds owns; where it is
--- closed it is null.
+-- The resources of a handle: an open one owns those of a box of its contents; a closed one is null.
 use base.Fml.{Fml, feq}
 use base.Stored.{Coded}
 use denote.RawPtr.{Ptr, null_ptr}
@@ -15,6 +14,6 @@ abbrev pub handle_owns : Global → Ptr → Option the_row.Denot → Fml
 handle_owns alloc at None = feq Ptr at null_ptr
 handle_owns alloc at (Some contents) = box_owns (ghosts.dealloc_token alloc) the_row at contents
 
--- how the logic stores what a handle holds
+-- the encoding of a handle's contents in the logic
 abbrev pub contents_coded : Coded (Option the_row.Denot)
 contents_coded = coded_option the_row.coded

@@ -1,4 +1,4 @@
--- What a handle holds: the engine or the seat of an open one, and what a call changes of it.
+-- The contents of a handle: the engine or the seat of an open one, and their changes by calls.
 use Rattle.std.specs.Prelude.{◌≡◌, ℕ, ◌≤◌, ◌-◌, ◌^◌, [], List, take, Option, Some, None, ⊤}
 use Rattle.atomic_table.specs.Seated.{TableId}
 use Rattle.rcu_node.specs.CpuSet.{is_in}
@@ -36,7 +36,7 @@ HoldsSeat (Some (contents.Seat _)) = ⊤
 HoldsSeat (Some (contents.Replica _)) = ⊥
 HoldsSeat (Some contents.Room) = ⊥
 
--- no object: it stands for that of a handle that holds none
+-- no object: the value for a handle without one
 abbrev pub no_table : TableId
 no_table = record {
   words = 0;
@@ -48,11 +48,11 @@ no_table = record {
   slot_names = [];
 }
 
--- no identity: it stands for that of a handle that holds none
+-- no identity: the value for a handle without one
 abbrev pub no_identity : Identity
 no_identity = record { place = 0; count = 0 }
 
--- no map: it stands for that of a handle that holds none
+-- no map: the value for a handle without one
 abbrev pub no_plan : Plan
 no_plan = plan_of 0 0 0 0 0
 
@@ -80,7 +80,7 @@ grace_of h = (engine_of h).grace
 abbrev pub writer_of : Option Contents → Watching Planned
 writer_of h = (opened_of h).map
 
--- the processors that an engine awaits, in order, the first so many
+-- the processors that an engine awaits, in order, the first of them up to a number
 abbrev pub awaited_list : Locked Planned ℕ → ℕ → List ℕ
 awaited_list e room = take room (which e.cpus (is_in e.grace.processors.awaited))
 
@@ -120,11 +120,11 @@ values_of h = (seat_of h).values
 abbrev pub links_of : Option Contents → Links
 links_of h = (seat_of h).links
 
--- what it knows of requests
+-- its knowledge about requests
 abbrev pub requester_of : Option Contents → Requesting
 requester_of h = (seat_of h).requester
 
--- what an engine's handle knows of requests
+-- the knowledge of an engine's handle about requests
 abbrev pub requests_of : Option Contents → Requesting
 requests_of h = (opened_of h).requests
 
@@ -146,7 +146,7 @@ abbrev pub on_cpu : (Seated Planned → Seated Planned) → Option Contents → 
 on_cpu change h = Some (contents.Seat (record (seat_of h) { cpu = change (cpu_of h) }))
 
 -- a call of a seat was accepted at the number n, which is at least all that its processor's seat
--- saw before: this is what it leaves
+-- saw before, and this is the seat after it
 pub record AcceptedAt (after : Seated Planned → Number → Seated Planned) (h : Option Contents)
     (n : Number) (now : Option Contents) : Type 0 where
   pub state : now ≡ on_cpu (λ s. after s n) h
@@ -154,7 +154,7 @@ pub record AcceptedAt (after : Seated Planned → Number → Seated Planned) (h 
 
 -- a seat's section was renewed: a quiescent state was passed at the number n, which is at least all
 -- that its processor's seat saw before, and the next section began at a number that is no less;
--- this is what it leaves
+-- this is the seat after it
 pub record RenewedAt (h : Option Contents) (n : Number) (now : Option Contents) : Type 0 where
   pub state : now ≡ on_cpu (λ s. after_renew closing s n (cpu_of now).view.seen) h
   pub later : (cpu_of h).view.seen ≤ n
@@ -173,7 +173,7 @@ abbrev pub on_watcher : (Watching Planned → Watching Planned) → Option Conte
     → Option Contents
 on_watcher change h = Some (contents.Seat (record (seat_of h) { watcher = change (watcher_of h) }))
 
--- one load more of a seat's watcher, which saw n, at least all that it saw before
+-- one more load of a seat's watcher, which saw n, at least all that it saw before
 pub record WatchedAt (h : Option Contents) (n : Number) (now : Option Contents) : Type 0 where
   pub look : now ≡ on_watcher (λ w. after_watch w n) h
   pub later : (watcher_of h).view.seen ≤ n
@@ -183,16 +183,16 @@ pub record ReadsWordsOf (seat rcu : Option Contents) : Type 0 where
   pub table : (seat_of seat).words.table ≡ (engine_of rcu).table
   pub cpus : (seat_of seat).words.cpus ≡ (engine_of rcu).cpus
 
--- the seat reads the map that this engine's writer keeps
+-- the seat reads the map of this engine's writer
 pub record ReadsMapOf (seat rcu : Option Contents) : Type 0 where
   pub table : (seat_of seat).words.table ≡ (writer_of rcu).table
   pub plan : (seat_of seat).words.plan ≡ (writer_of rcu).view.client.plan
 
--- a seat's handle with what it knows of requests changed
+-- a seat's handle with its knowledge about requests changed
 abbrev pub on_requester : (Requesting → Requesting) → Option Contents → Option Contents
 on_requester change h =
     Some (contents.Seat (record (seat_of h) { requester = change (requester_of h) }))
 
--- an engine's handle with what it knows of requests changed
+-- an engine's handle with its knowledge about requests changed
 abbrev pub on_requests : (Requesting → Requesting) → Option Contents → Option Contents
 on_requests change = on_opened (λ o. record o { requests = change o.requests })

@@ -1,4 +1,4 @@
--- What a thread defers by its seat: links, and for which cookie it waits.
+-- The links that a thread defers by its seat, and the cookie that it waits for.
 use Rattle.std.specs.Prelude.{ℕ, ◌==◌, if◌then◌else◌, max, unwrap_or}
 use Rattle.rcu_seq.specs.Numbers.{Number}
 use Rattle.rcu_defer.specs.Marks.{Marking, after_defer, after_take, after_tend, at_first, count_of}
@@ -9,11 +9,11 @@ use Rattle.rcu_c.specs.declared.links.Links.{Links}
 abbrev pub no_links : Links
 no_links = record { marks = at_first; first = 0; last = 0 }
 
--- the link that was deferred last, 0 where none is left
+-- the link that was deferred last, 0 if none is left
 abbrev pub last_link : Links → ℕ
 last_link l = if count_of l.marks == 0 then 0 else l.last
 
--- the first link, where it is done, else 0
+-- the first link if it is done, else 0
 abbrev pub ready_link : Links → ℕ
 ready_link l = if ready_of l.marks == 0 then 0 else l.first
 
@@ -33,6 +33,6 @@ after_links_tend l n = record l { marks = after_tend l.marks n }
 abbrev pub after_pop : Links → ℕ → Links
 after_pop l next = record l { marks = after_take l.marks 1; first = next }
 
--- the cookie at which all is done that waits by these marks, 1 where none does
+-- the cookie at which all that wait by these marks are done, 1 if none waits
 abbrev pub cookie_for : Marking → Marking → ℕ
 cookie_for a b = max (unwrap_or (last_number a.waiting) 1) (unwrap_or (last_number b.waiting) 1)

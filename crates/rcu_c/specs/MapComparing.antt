@@ -13,8 +13,8 @@ use Rattle.rcu_c.specs.declared.contents.Contents.{Contents}
 abbrev pub IsAsReadInC : Option Contents → ℕ → List ℕ → Type 0
 IsAsReadInC h key read = IsAsRead (map_buckets h) (map_nodes h) key read
 
--- the writer was to replace the entry that was read so by this one, and this is what it returned
--- and left: of the engine nothing else changed
+-- the writer had to replace the entry that was read like this by this one, and these are its result
+-- and its effect: nothing else of the engine changed
 pub record HasComparedInC (entry read : List ℕ) (h : Option Contents)
     (result : Result (Option (List ℕ)) Full) (now : Option Contents) : Type 0 where
   pub state : now ≡ on_writer (λ _. writer_of now) h
@@ -26,7 +26,7 @@ pub record IsReplacedInC (entry read : List ℕ) (h now : Option Contents) : Typ
   pub as_read : IsAsReadInC h (key_in entry) read
   pub by : HasComparedInC entry read h (Ok (Some read)) now
 
--- another entry has the key, or none has it, and C's room was told of that
+-- another entry has the key, or none has it, and the buffer of C shows that
 pub record IsChangedInC (entry read old : List ℕ) (h now : Option Contents) : Type 0 where
   pub another : ¬ IsAsReadInC h (key_in entry) read
   pub had : Option (List ℕ)
@@ -38,20 +38,20 @@ pub record IsNotReplacedInC (entry read : List ℕ) (h now : Option Contents) : 
   pub full : Full
   pub by : HasComparedInC entry read h (Err full) now
 
--- the writer was to take the entry out that was read so, and this is what it returned and left: of
--- the engine nothing else changed
+-- the writer had to remove the entry that was read like this, and these are its result and its
+-- effect: nothing else of the engine changed
 pub record HasComparedToRemoveInC (read : List ℕ) (h : Option Contents) (had : Option (List ℕ))
     (now : Option Contents) : Type 0 where
   pub state : now ≡ on_writer (λ _. writer_of now) h
   pub removed : HasComparedToRemove as_words IsKeyed key_in (key_in read) read (writer_of h) had
       (writer_of now)
 
--- the entry of the key is as it was read, and it was taken out
+-- the entry of the key is as it was read, and it was removed
 pub record IsRemovedInC (read : List ℕ) (h now : Option Contents) : Type 0 where
   pub as_read : IsAsReadInC h (key_in read) read
   pub by : HasComparedToRemoveInC read h (Some read) now
 
--- another entry has the key, or none has it, and C's room was told of that
+-- another entry has the key, or none has it, and the buffer of C shows that
 pub record IsNotRemovedInC (read old : List ℕ) (h now : Option Contents) : Type 0 where
   pub another : ¬ IsAsReadInC h (key_in read) read
   pub had : Option (List ℕ)

@@ -6,8 +6,8 @@ use Rattle.rcu_map.specs.Keys.{key_in}
 abbrev pub IsKeyed : List ℕ → Type 0
 IsKeyed words = 0 < key_in words
 
--- what is written to C's room of an entry that may be there: its words, or the key 0, and then the
--- other words of the room stay
+-- the buffer of C after the write of an entry that may exist: its words, or the key 0, and then the
+-- other words of the buffer stay
 abbrev pub told : List ℕ → Option (List ℕ) → List ℕ
 told room None = slice_set room 0 0
 told room (Some words) = words

@@ -10,12 +10,12 @@ use Rattle.rcu_c.specs.declared.map_sizes.MapSizes.{MapSizes}
 use Rattle.rcu_c.specs.declared.refusal.Refusal.{Refusal}
 use Rattle.rcu_c.specs.declared.refusal.Refusal.TheVariants.{BadSizes}
 
--- how many words an entry has: 0 stands for 2, a key and a value
+-- how many words an entry has: 0 means 2, a key and a value
 abbrev pub width_in : MapSizes → ℕ
 width_in s = if s.words == 0 then 2 else s.words
 
--- whether a map may have these sizes: there is a bucket, an entry has two words or more, and the
--- words of all nodes, with a link each, are no more than 2^32
+-- a map may have these sizes: it has a bucket, an entry has two words or more, and the words of all
+-- nodes, with a link each, are no more than 2^32
 abbrev pub are_sizes : MapSizes → Bool
 are_sizes s =
     nat_lt 0 s.buckets
@@ -25,11 +25,11 @@ are_sizes s =
 abbrev pub plan_of_sizes : MapSizes → Plan
 plan_of_sizes s = plan_of_map s.buckets (width_in s) s.entries s.seed
 
--- those of the least map, which has no room for an entry
+-- the sizes of the smallest map, which has no room for an entry
 abbrev pub least_sizes : MapSizes
 least_sizes = record { buckets = 1; entries = 0; seed = 0; words = 0 }
 
--- why an engine is not opened with a map of these sizes: no map has them, and else as one without
+-- why an engine is not opened with a map of these sizes: no map has them, or as without a map
 abbrev pub map_opening_refusal : MapSizes → ℕ → Number → Option Refusal
 map_opening_refusal s cpus last =
     if are_sizes s then by_engine (opening_refusal 16 64 cpus last) else Some BadSizes

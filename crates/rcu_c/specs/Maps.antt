@@ -1,4 +1,4 @@
--- The map of an engine, as its writer knows it and as a seat's section reads it.
+-- The map of an engine, in its writer's knowledge and as a seat's section reads it.
 use Rattle.std.specs.Prelude.{◌≡◌, ◌≢◌, ◌≤◌, ◌<◌, ◌==◌, ◌^◌, ℕ, if◌then◌else◌, IfNone, IsSome, List}
 use Rattle.std.specs.Prelude.{Option, Some, None, Result, Ok, Err, length, nat_lt}
 use Rattle.rcu_seq.specs.Numbers.{Number, snapshot}
@@ -35,18 +35,19 @@ use Rattle.rcu_c.specs.declared.contents.Contents.{Contents}
 use Rattle.rcu_c.specs.declared.refusal.Refusal.{Refusal}
 use Rattle.rcu_c.specs.declared.refusal.Refusal.TheVariants.{BadKey, BadWords}
 
--- the nodes that the writer of an engine's map keeps, and how many of them are buckets
+-- the nodes known to the writer of an engine's map, and how many of them are buckets
 abbrev pub map_nodes : Option Contents → List Node
 map_nodes h = nodes_in (writer_of h).view.client.known
 
 abbrev pub map_buckets : Option Contents → ℕ
 map_buckets h = buckets_in (writer_of h)
 
--- an engine's handle with what the writer of its map knows changed
+-- an engine's handle with the knowledge of its map's writer changed
 abbrev pub on_writer : (Watching Planned → Watching Planned) → Option Contents → Option Contents
 on_writer change = on_opened (λ o. record o { map = change o.map })
 
--- why room for so many words is not taken for an entry's, which has this many: it is another number
+-- why a buffer of this number of words is refused for an entry, which has that many: the numbers
+-- differ
 abbrev pub width_refusal : ℕ → ℕ → Option Refusal
 width_refusal words room = if room == words then None else Some BadWords
 
@@ -54,12 +55,12 @@ width_refusal words room = if room == words then None else Some BadWords
 abbrev pub key_refusal : ℕ → Option Refusal
 key_refusal key = if key == 0 then Some BadKey else None
 
--- how many words an entry has in the map that the writer keeps
+-- how many words an entry has in the writer's map
 abbrev pub writer_width : Option Contents → ℕ
 writer_width h = (writer_of h).view.client.plan.words
 
--- why these words are not put in, with room for so many: they, or the room, are not as many as an
--- entry has; their key is 0
+-- why these words are not put in, with a buffer of this number of words: they, or the buffer, are
+-- not as many as an entry has; their key is 0
 abbrev pub entry_refusal : Option Contents → List ℕ → ℕ → Option Refusal
 entry_refusal h entry room =
     first_of (width_refusal (writer_width h) (length entry))
@@ -69,30 +70,30 @@ entry_refusal h entry room =
 abbrev pub HoldsEntry : Option Contents → ℕ → Option (List ℕ) → Type 0
 HoldsEntry h key = Holds as_words IsKeyed key_in (map_buckets h) (map_nodes h) key
 
--- the writer was to put an entry in, and this is what it returned and left: of the engine nothing
--- else changed
+-- the writer had to put an entry in, and these are its result and its effect: nothing else of the
+-- engine changed
 pub record HasPutInC (how : Put) (entry : List ℕ) (h : Option Contents)
     (result : Result (Option (List ℕ)) Full) (now : Option Contents) : Type 0 where
   pub state : now ≡ on_writer (λ _. writer_of now) h
   pub answered : HasAnswered as_words IsKeyed key_in how (key_in entry) entry (writer_of h) result
       (writer_of now)
 
--- the writer did what it was to do, and C's room was told of the entry that had the key
+-- the writer did so, and the buffer of C shows the entry that had the key
 pub record IsPutInC (how : Put) (entry : List ℕ) (h : Option Contents) (room old : List ℕ)
     (now : Option Contents) : Type 0 where
   pub had : Option (List ℕ)
   pub is_told : old ≡ told room had
   pub by : HasPutInC how entry h (Ok had) now
 
--- an entry, which may be put in, needs a node, and none is free
+-- an entry that may be put in needs a node, and none is free
 pub record IsNotPutInC (how : Put) (entry : List ℕ) (room : ℕ) (h now : Option Contents) : Type 0
   where
     pub taken : entry_refusal h entry room ≡ None
     pub full : Full
     pub by : HasPutInC how entry h (Err full) now
 
--- the entry of a key was taken out, where there was one, and C's room was told of it: of the engine
--- nothing else changed
+-- the entry of a key was removed, if there was one, and the buffer of C shows it: nothing else of
+-- the engine changed
 pub record IsTakenOutInC (key : ℕ) (h : Option Contents) (room old : List ℕ)
     (now : Option Contents) : Type 0 where
   pub had : Option (List ℕ)
@@ -104,15 +105,15 @@ pub record IsTakenOutInC (key : ℕ) (h : Option Contents) (room old : List ℕ)
       (writer_of h) (writer_of now)
   pub unchanged : IfNone had (writer_of now ≡ writer_of h)
 
--- C's room was told of the entry of a key, where there is one
+-- the buffer of C shows the entry of a key, if there is one
 pub record IsFoundInC (key : ℕ) (h : Option Contents) (room entry : List ℕ) : Type 0 where
   pub found : Option (List ℕ)
   pub is_told : entry ≡ told room found
   pub holds : HoldsEntry h key found
 
--- the writer looked at a number, which is at least all that it saw before: what was left was
--- retired at it, and what was retired a full grace period before it is free. C was told the cookie
--- of that number
+-- the writer loaded a number, which is at least all that it saw before: unlinked nodes were retired
+-- at it, and nodes that were retired a full grace period before it are free. C got the cookie of
+-- that number
 pub record HasReclaimedInC (h : Option Contents) (cookie : ℕ) (now : Option Contents) : Type 0 where
   pub number : Number
   pub state : now ≡ on_writer (λ k. after_look k number) h
@@ -130,8 +131,8 @@ pub record HasDrivenFor (cookie : Cookie) (h : Option Contents) (result : ℕ)
       ≡ on_engine (λ e. after_drive e (wants_for cookie e.grace) (latest_words (engine_of now))) h
   pub unchanged : result ≢ 0 → now ≡ h
 
--- the writer looked at a number. Where a node was free then, that was all; and else the engine took
--- a step of driving for the cookie of that number
+-- the writer loaded a number. If a node was free then, that was all; otherwise the engine took a
+-- step of driving for the cookie of that number
 pub record HasWaitedInC (h : Option Contents) (result : ℕ) (now : Option Contents) : Type 0 where
   pub cookie : ℕ
   pub looked : Option Contents
@@ -140,30 +141,31 @@ pub record HasWaitedInC (h : Option Contents) (result : ℕ) (now : Option Conte
   pub driven : AreAllUsed (map_nodes looked) → HasDrivenFor (cookie_in_c cookie) looked result now
 
 -- why the thread of a seat does not wait for a free node: the handles are not those of an engine
--- and of a seat of it; a section is open on the seat, which it would wait for
+-- and of a seat of it; a section is open on the seat, for which it would wait
 abbrev pub waiting_refusal : Option Contents → Option Contents → Option Refusal
 waiting_refusal rcu seat =
     if_own rcu seat (if nat_lt 0 (cpu_of seat).depth then Some InSection else None)
 
--- what the section of a seat came to
+-- the knowledge of a seat's section
 abbrev pub known_of : Option Contents → Known
 known_of h = (cpu_of h).view.client.known
 
--- how large the map is that the seat reads
+-- the size of the map that the seat reads
 abbrev pub map_plan : Option Contents → Plan
 map_plan h = (seat_of h).words.plan
 
--- the section of a seat went on among the nodes, and came to this: of the seat nothing else changed
+-- the section of a seat went on among the nodes, with this knowledge: nothing else of the seat
+-- changed
 abbrev pub HasWalked : Option Contents → Option Contents → Type 0
 HasWalked h now = now ≡ on_cpu (λ s. after_word_step s (cpu_of now).view.client) h
 
--- why the map is not read into room for so many words: no section is open; an entry has another
--- number of words
+-- why the map is not read into a buffer of this number of words: no section is open; an entry has
+-- another number of words
 abbrev pub reading_refusal : Option Contents → ℕ → Option Refusal
 reading_refusal h room =
     first_of (by_engine (exit_refusal (cpu_of h))) (width_refusal (map_plan h).words room)
 
--- the section looked a key up, and C's room was told of the entry that it found
+-- the section looked a key up, and the buffer of C shows the entry that it found
 pub record IsGotInC (key : ℕ) (h : Option Contents) (room entry : List ℕ)
     (now : Option Contents) : Type 0 where
   pub found : Option (List ℕ)
@@ -172,7 +174,7 @@ pub record IsGotInC (key : ℕ) (h : Option Contents) (room entry : List ℕ)
   pub got : 0 < key → IsGot IsKeyed as_words (map_plan h).roots (map_plan h).seed key (known_of h)
       found (known_of now)
 
--- the section went from a key to the next entry behind it, and C's room was told of that
+-- the section went from a key to the next entry behind it, and the buffer of C shows that
 pub record IsNextInC (key : ℕ) (h : Option Contents) (room entry : List ℕ)
     (now : Option Contents) : Type 0 where
   pub found : Option (List ℕ)
@@ -181,7 +183,7 @@ pub record IsNextInC (key : ℕ) (h : Option Contents) (room entry : List ℕ)
       found (known_of now)
 
 -- between two moments of a run of the words of a map of this plan, a section looked a key up, and
--- C's room, which is for an entry's words, was told of this entry
+-- the buffer of C, which is for an entry's words, shows this entry
 pub record IsGotBetween (plan : Plan) (key : ℕ) (first last : Moment) (h : Option Contents)
     (room entry : List ℕ) (now : Option Contents) : Type 0 where
   pub planned : map_plan h ≡ plan
@@ -190,7 +192,7 @@ pub record IsGotBetween (plan : Plan) (key : ℕ) (first last : Moment) (h : Opt
   pub sized : length room ≡ plan.words
   pub got : IsGotInC key h room entry now
 
--- between two such moments a section went on from a key, and C's room was told of this entry
+-- between two such moments a section went on from a key, and the buffer of C shows this entry
 pub record IsNextBetween (plan : Plan) (key : ℕ) (first last : Moment) (h : Option Contents)
     (room entry : List ℕ) (now : Option Contents) : Type 0 where
   pub planned : map_plan h ≡ plan

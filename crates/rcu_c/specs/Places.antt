@@ -48,13 +48,13 @@ seat_in s (Fresh fresh) = Some (fresh_seat s fresh)
 seat_in s Dealt = None
 seat_in s (Kept room) = room.value
 
--- whether there is one
+-- there is one
 abbrev pub has_seat : Place → Bool
 has_seat (Fresh fresh) = true
 has_seat Dealt = false
 has_seat (Kept room) = is_some room.value
 
--- whether it is one that no thread has had
+-- it is one that no thread has had
 abbrev pub is_fresh : Place → Bool
 is_fresh (Fresh fresh) = true
 is_fresh Dealt = false

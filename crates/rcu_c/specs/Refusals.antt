@@ -17,14 +17,14 @@ use Rattle.rcu_c.specs.declared.refusal.Refusal.TheVariants.{OtherKind}
 use Rattle.rcu_c.specs.declared.contents.Contents.TheVariants as contents
 use Rattle.rcu_c.specs.Answers.{number_or}
 
--- where a processor's callback is queued: there is such a processor, it is online in the engine,
--- and there is room
+-- a processor's callback can be queued: the processor exists, it is online in the engine, and its
+-- list has room
 pub record CanQueue (e : Locked Planned ℕ) (cpu : ℕ) : Type 0 where
   pub inside : cpu < e.cpus
   pub online : is_in e.grace.processors.online cpu ≡ true
   pub room : e.grace.lists.queued < e.grace.lists.most
 
--- why a handle is not taken for an engine's: it is closed; it is of the other kind
+-- why a handle is not taken as an engine's: it is closed; it is of the other kind
 abbrev pub engine_refusal : Option Contents → Option Refusal
 engine_refusal None = Some Closed
 engine_refusal (Some (contents.Engine _)) = None
@@ -32,7 +32,7 @@ engine_refusal (Some (contents.Seat _)) = Some OtherKind
 engine_refusal (Some (contents.Replica _)) = Some OtherKind
 engine_refusal (Some contents.Room) = Some OtherKind
 
--- why a handle is not taken for a seat's
+-- why a handle is not taken as a seat's
 abbrev pub seat_refusal : Option Contents → Option Refusal
 seat_refusal None = Some Closed
 seat_refusal (Some (contents.Engine _)) = Some OtherKind
@@ -40,13 +40,11 @@ seat_refusal (Some (contents.Seat _)) = None
 seat_refusal (Some (contents.Replica _)) = Some OtherKind
 seat_refusal (Some contents.Room) = Some OtherKind
 
--- the number that a call of an engine's handle returns: why the handle is not taken for one, and
--- else this
+-- the number that a call of an engine's handle returns: why the handle is not taken, or else this
 abbrev pub engine_number : Option Contents → ℕ → ℕ
 engine_number rcu number = number_or (engine_refusal rcu) number
 
--- the number that a call of a seat's handle returns: why the handle is not taken for one, and else
--- this
+-- the number that a call of a seat's handle returns: why the handle is not taken, or else this
 abbrev pub seat_number : Option Contents → ℕ → ℕ
 seat_number seat number = number_or (seat_refusal seat) number
 
@@ -55,20 +53,20 @@ abbrev pub first_of : Option Refusal → Option Refusal → Option Refusal
 first_of None later = later
 first_of (Some first) later = Some first
 
--- the engine's fault, where it has one
+-- the engine's fault, if it has one
 abbrev pub by_engine : Option Fault → Option Refusal
 by_engine None = None
 by_engine (Some fault) = Some (Engine fault)
 
--- the refusal that a call's tests found, before it asked for memory: none where it is accepted, or
--- where memory is refused
+-- the refusal that a call's tests found, before it asked for memory: none if it is accepted, or if
+-- memory is refused
 abbrev pub tested_refusal : {A : Type 0} → Result A Refusal → Option Refusal
 tested_refusal (Ok value) = None
 tested_refusal (Err (Engine fault)) = by_engine (tested_fault {A = Unit {0}} (Err fault))
 tested_refusal (Err refusal) = Some refusal
 
--- why an engine does not take a seat: the engine's handle is not taken for one; the seat's is not;
--- the seat is of another engine; and else this
+-- why an engine does not take a seat: the engine's handle is not taken as one; the seat's is not;
+-- the seat is of another engine; or else this
 abbrev pub if_own : Option Contents → Option Contents → Option Fault → Option Refusal
 if_own rcu seat fault =
     first_of (engine_refusal rcu) (first_of (seat_refusal seat)
@@ -86,7 +84,7 @@ going_refusal rcu seat = if_own rcu seat (depart_refusal (cpu_of seat))
 abbrev pub return_refusal : Option Contents → Option Contents → Option Refusal
 return_refusal rcu seat = if_own rcu seat None
 
--- why the seat of a processor is not dealt: there is no such processor; it is dealt
+-- why the seat of a processor is not dealt: the processor does not exist; its seat is dealt
 abbrev pub deal_refusal : EngineAndSeats → ℕ → Option Refusal
 deal_refusal o cpu =
     if nat_le o.engine.cpus cpu then Some (Engine BadCpu)

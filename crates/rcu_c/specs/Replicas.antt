@@ -1,5 +1,5 @@
--- What a replica's handle holds, why a call does not take a handle for one, and what a call changes
--- of it.
+-- The contents of a replica's handle, why a call does not take a handle as one, and their changes
+-- by calls.
 use Rattle.std.specs.Prelude.{ℕ, Bool, List, Option, Some, None, take, ⊤}
 use Rattle.rcu_node.specs.CpuSet.{is_in}
 use Rattle.rcu_node.specs.Words.{flags_in}
@@ -33,7 +33,7 @@ replica_of (Some (contents.Seat _)) = no_replica
 replica_of (Some (contents.Replica r)) = r
 replica_of (Some contents.Room) = no_replica
 
--- why a handle is not taken for a replica's: it is closed; it is of another kind
+-- why a handle is not taken as a replica's: it is closed; it is of another kind
 abbrev pub replica_refusal : Option Contents → Option Refusal
 replica_refusal None = Some Closed
 replica_refusal (Some (contents.Engine _)) = Some OtherKind
@@ -41,12 +41,11 @@ replica_refusal (Some (contents.Seat _)) = Some OtherKind
 replica_refusal (Some (contents.Replica _)) = None
 replica_refusal (Some contents.Room) = Some OtherKind
 
--- the number that a call of a replica's handle returns: why the handle is not taken for one, and
--- else this
+-- the number that a call of a replica's handle returns: why the handle is not taken, or else this
 abbrev pub replica_number : Option Contents → ℕ → ℕ
 replica_number replica number = number_or (replica_refusal replica) number
 
--- what a call of a replica's handle leaves
+-- a replica's handle after a call
 abbrev pub after : Call → Option Contents → Option Contents
 after call h = Some (contents.Replica (after_call (replica_of h) call))
 
@@ -54,11 +53,11 @@ after call h = Some (contents.Replica (after_call (replica_of h) call))
 abbrev pub set_in : Option Contents → List ℕ → List Bool
 set_in h words = flags_in (cpus_of (replica_of h)) words
 
--- the processors that a replica awaits, in order, the first so many
+-- the processors that a replica awaits, in order, the first of them up to a number
 abbrev pub awaited_by : Replicated → ℕ → List ℕ
 awaited_by r room = take room (which (cpus_of r) (is_in r.awaited))
 
--- what a report did
+-- the number of the answer to a report
 abbrev pub answer_number : Answer → ℕ
 answer_number Taken = 0
 answer_number Last = 1

@@ -15,26 +15,26 @@ use Rattle.rcu_c.specs.Links.{no_links}
 use Rattle.rcu_c.specs.declared.identity.Identity.{Identity}
 use Rattle.rcu_c.specs.declared.links.Links.{Links}
 
--- what is left of what a seat knows of the map when its section closes
+-- the knowledge about the map that a seat keeps when its section closes
 abbrev pub closing : Planned → Planned
 closing c = knowing c (closed c.known)
 
--- the words that a seat reads, how many processors have one among them, and how large the map
--- behind those is
+-- the words that a seat reads, how many processors have one among them, and the size of the map
+-- behind those
 pub record Words : Type 0 where
   pub table : TableId
   pub cpus : ℕ
   pub plan : Plan
 
--- which words the seats of an engine read, which ones they have for requests, and what tells the
--- engine from others
+-- the words that the seats of an engine read, their words for requests, and the identity of the
+-- engine
 pub record Shared : Type 0 where
   pub words : Words
   pub requests : TableId
   pub identity : Identity
 
--- which words it reads, what its processor's seat is, what its watcher has seen, what its thread
--- deferred, what it knows of requests, and what tells its engine from others
+-- the words that it reads, its processor's seat, its watcher's view, the values and links that its
+-- thread deferred, its knowledge about requests, and its engine's identity
 pub record Seat : Type 0 where
   pub words : Words
   pub cpu : Seated Planned
@@ -44,8 +44,8 @@ pub record Seat : Type 0 where
   pub requester : Requesting
   pub identity : Identity
 
--- the seats of an engine that no thread has: what all its seats share, and for each processor its
--- seat, none where a thread has it
+-- the seats of an engine that no thread has: the parts that all its seats share, and for each
+-- processor its seat, none if a thread has it
 pub record Kept : Type 0 where
   pub shared : Shared
   pub seats : List (Option Seat)

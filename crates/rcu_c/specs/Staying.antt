@@ -1,5 +1,5 @@
--- What a refused call leaves as it was: a handle, and what it would have written, or another
--- handle.
+-- The things that a refused call leaves as they were: a handle, and the memory that it would have
+-- written, or another handle.
 use Rattle.std.specs.Prelude.{◌≡◌}
 
 -- two things stay

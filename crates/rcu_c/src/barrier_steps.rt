@@ -94,8 +94,8 @@ fn drive_and_test(engine: &mut TreeEngine) -> Result<u64, Fault>
 /// processor, and let other threads run. It orders what `rcu_drive` orders.
 ///
 /// Faults: 16 if a list has no room for a marker; 11 if a grace period would begin, and the number
-/// is the last one. After either the barrier goes on from where it came to, and so does the same
-/// call again.
+/// is the last one. After either fault the barrier keeps its progress, and the same call continues
+/// it.
 ///
 /// Fence: behind.
 #[unsafe(no_mangle)]

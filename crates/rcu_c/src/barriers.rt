@@ -27,7 +27,7 @@ pub extern "C" fn rcu_barrier_begin(rcu: &mut Rcu) -> u32
     status(opened.inner.barrier_begin())
 }
 
-/// What a visit did, as C sees it: an `rcu_visited`, as `RCU_VISIT_MARKED`.
+/// The result of a visit, as C sees it: an `rcu_visited`, as `RCU_VISIT_MARKED`.
 fn visit_in_c(visit: Visit) -> u32
     ensures { result ≡ visit_number visit }
 {

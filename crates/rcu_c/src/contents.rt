@@ -1,4 +1,4 @@
-//! What a handle holds.
+//! The contents of a handle.
 ghost use Rattle.std.specs.Prelude.{◌≡◌, Some};
 ghost use Rattle.rcu_c.specs.Holding.{HoldsSeat, seat_of};
 
@@ -7,7 +7,7 @@ use crate::engine_box::EngineBox;
 use crate::open_replica::OpenReplica;
 use std::mem;
 
-/// What an open handle holds.
+/// The contents of an open handle.
 #[derive(Drop)]
 pub enum Contents {
     /// The engine.

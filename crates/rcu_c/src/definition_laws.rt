@@ -1,4 +1,5 @@
-//! What the words of the laws say: where each holds, and where it does not.
+//! Laws that pin the definitions of the laws: a case in which each holds, and one in which it does
+//! not.
 ghost use Rattle.std.specs.Prelude.{◌≡◌, ◌≢◌, ◌≤◌, ◌<◌, ◌+◌, [], ◌∷◌, ℕ, Bool, List, None, Option};
 ghost use Rattle.std.specs.Prelude.{Some, false, length, slice_index, true};
 ghost use mathlib.Core.Option.{some};
@@ -33,8 +34,8 @@ ghost use Rattle.rcu_c.specs.declared.contents.Contents.{Contents};
 ghost use Rattle.rcu_c.specs.declared.map_sizes.MapSizes.{MapSizes};
 ghost use Rattle.rcu_map.specs.Keys.{key_in};
 
-/// A moment has the open section of a seat where its views show it, and none of a seat outside of
-/// one. It has an engine where the rule holds, its views show the engine's, and that has seen the
+/// A moment has the open section of a seat if its views show it, and none of a seat outside of one.
+/// It has an engine if the rule holds, its views show the engine's view, and that has seen the
 /// engine's number.
 pub fn moments_have_what_their_views_show()
     ensures section { (now : Moment) (id : ℕ) (seat : Option Contents) (at : Number) →
@@ -50,8 +51,9 @@ pub fn moments_have_what_their_views_show()
         (engine_of rcu).view.seen ≢ number_of (grace_of rcu).seq → IsEngineAt now id rcu → ⊥ }
 {}
 
-/// A seat that belongs to an engine reads its words and its map, requests where it looks, and is
-/// taken by it. None is taken of another identity, or of a processor that the engine does not have.
+/// A seat that belongs to an engine reads its words and its map, makes requests in the words that
+/// the engine reads, and the engine takes it. An engine takes no seat with another identity, or of
+/// a processor that the engine does not have.
 pub fn seats_belong_to_who_takes_them()
     ensures taken { (seat rcu : Option Contents) → BelongsTo seat rcu →
         is_own (opened_of rcu) (seat_of seat) ≡ true }
@@ -92,8 +94,8 @@ pub fn accepted_calls_saw_no_less()
         (watcher_of seat).view.seen ≤ n }
 {}
 
-/// The driver sleeps for the first processor that was awaited, if one is awaited still, and may
-/// sleep where that first one is; else it sleeps for none, and may not.
+/// The driver sleeps for the first awaited processor, if one is still awaited, and may sleep if
+/// that first one is; else it sleeps for none, and may not.
 pub fn who_drives_sleeps_for_the_first_that_is_awaited()
     ensures first { (e now : Locked Planned ℕ) (word : ℕ) (sleeps : Bool) →
         0 < awaited_in now.grace → IsForFirst e now word sleeps →
@@ -104,14 +106,14 @@ pub fn who_drives_sleeps_for_the_first_that_is_awaited()
         awaited_in now.grace ≡ 0 → IsForFirst e now word sleeps → sleeps ≡ false }
 {}
 
-/// What stays is what it was: both things, or all three.
+/// Two things that stay are as before, and so are three.
 pub fn what_stays_is_what_it_was()
     ensures first { (a a' b b' : ℕ) → BothStay a a' b b' → a' ≡ a }
     ensures second { (a a' b b' : ℕ) → BothStay a a' b b' → b' ≡ b }
     ensures all { (a a' b b' c c' : ℕ) → AllStay a a' b b' c c' → (a' ≡ a) × (b' ≡ b) × (c' ≡ c) }
 {}
 
-/// C's room has the words of the entry that it is told of. Of none it has the key 0, and its other
+/// A buffer of C gets the words of an entry. If there is no entry, it gets the key 0, and its other
 /// words stay.
 pub fn rooms_are_told_of_entries()
     ensures entry { (room words : List ℕ) → told room (Some words) ≡ words }
@@ -120,8 +122,8 @@ pub fn rooms_are_told_of_entries()
         slice_index (told room None) i ≡ slice_index room i }
 {}
 
-/// An entry has as many words as its map's sizes say: two where they say 0, and never one. The map
-/// has room for as many entries as they say.
+/// An entry has as many words as its map's sizes say: two if they say 0, and never one. The map has
+/// room for as many entries as they say.
 pub fn sizes_say_how_many_words_an_entry_has()
     ensures two { (s : MapSizes) → s.words ≡ 0 → (plan_of_sizes s).words ≡ 2 }
     ensures said { (s : MapSizes) → 0 < s.words → (plan_of_sizes s).words ≡ s.words }

@@ -14,7 +14,7 @@ use crate::handle::Rcu;
 use rcu_live::Collected;
 use rcu_state::Turned;
 
-/// What a turn did (`rcu_turn_t`).
+/// The result of a turn (`rcu_turn_t`).
 #[repr(C)]
 #[derive(Clone, Copy)]
 pub struct Turn {
@@ -26,7 +26,7 @@ pub struct Turn {
     pub number: u64,
 }
 
-/// What a turn did, as C sees it: an `rcu_turned`, as `RCU_TURN_NOTHING`.
+/// The result of a turn, as C sees it: an `rcu_turned`, as `RCU_TURN_NOTHING`.
 pub(crate) fn turn_in_c(turned: Turned) -> Turn
     ensures { result ≡ turn_of turned }
 {
@@ -43,7 +43,7 @@ pub(crate) fn turn_in_c(turned: Turned) -> Turn
     }
 }
 
-/// What a collection found, as C sees it: an `rcu_collected`, as `RCU_COLLECTED_IDLE`.
+/// The result of a collection, as C sees it: an `rcu_collected`, as `RCU_COLLECTED_IDLE`.
 fn collected_in_c(collected: Collected) -> u32
     ensures { result ≡ collected_number collected }
 {

@@ -75,7 +75,7 @@ impl Handle {
         !self.at.is_null()
     }
 
-    /// What an open handle holds.
+    /// Returns the contents of an open handle.
     fn contents(&mut self) -> &mut Contents
         requires { IsSome self.old.contents }
         ensures* writes_back { sem 𝓛 (lends_contents self.entry result) }
@@ -108,8 +108,8 @@ impl Handle {
         self.is_open() && matches!(self.contents(), Contents::Replica(_))
     }
 
-    /// Why the handle is not taken, which is not of the kind that is wanted. (Out of the way of the
-    /// calls that take it: a section costs a quarter more where this is among them.)
+    /// Returns why a handle of the wrong kind is not taken. (Kept apart from the calls that take a
+    /// handle: a section costs a quarter more with this code among them.)
     #[cold]
     #[inline(never)]
     fn refusal(&mut self) -> Refusal
@@ -219,7 +219,7 @@ impl Handle {
         }
     }
 
-    /// Closes an open handle. What it held is to be put into a box again.
+    /// Closes an open handle. The caller has to put its contents into a box again.
     pub(crate) fn close(&mut self, alloc: Global) -> RawBox<Contents, Global>
         requires { IsSome self.old.contents }
         ensures value { self.old.contents ≡ Some result.value }
@@ -228,7 +228,7 @@ impl Handle {
         mem::replace(self, Handle::closed(alloc)).into_raw_box()
     }
 
-    /// What an open handle holds, to be put into a box again.
+    /// Returns the contents of an open handle, to be put into a box again.
     pub(crate) fn into_raw_box(self) -> RawBox<Contents, Global>
         requires { IsSome self.contents }
         ensures { self.contents ≡ Some result.value }

@@ -49,7 +49,7 @@ impl KeptSeats {
         KeptSeats { shared, places }
     }
 
-    /// Returns what tells their engine from others.
+    /// Returns the identity of their engine.
     pub(crate) fn identity(&self) -> Identity
         ensures { result ≡ self.now.shared.identity }
     {

@@ -1,4 +1,4 @@
-//! What the definitions of handles say together.
+//! Laws that combine the definitions of handles.
 ghost use Rattle.std.specs.Prelude.{◌≡◌, ◌≢◌, ◌<◌, ◌≤◌, ◌+◌, ◌-◌, ◌^◌, ◌∷◌, ◌++◌, ℕ, List, None};
 ghost use Rattle.std.specs.Prelude.{Option, Some, false, if◌then◌else◌, length, slice_get, true};
 ghost use Rattle.atomic_table.specs.Seated.{TableId};
@@ -43,8 +43,8 @@ ghost use Rattle.rcu_c.specs.declared.identity.Identity.{Identity};
 use crate::open_engine::Rule;
 use rcu_live::{definition_laws, laws};
 
-/// A newly opened engine has the seat of each processor to deal. Each is one of its own: it reads
-/// the words that the engine writes, and the engine's map, and the engine takes it.
+/// A newly opened engine has a seat to deal for each processor. Each seat belongs to it: the seat
+/// reads the words that the engine writes, and the engine's map, and the engine takes it.
 pub fn dealt_seats_are_of_their_engine()
     ensures waits { (identity : Identity) (table requests : TableId) (plan : Plan)
         (cpus last cpu : ℕ) → cpu < cpus →
@@ -56,8 +56,8 @@ pub fn dealt_seats_are_of_their_engine()
         (Some (Contents.Engine (opened_at_first identity table requests plan cpus last))) }
 {}
 
-/// A seat is dealt to one at a time: one that is dealt is not there to deal. One that is handed
-/// back is there again, as it stands, and no other processor's moves.
+/// A seat is dealt to one thread at a time: a dealt seat cannot be dealt again. A seat that is
+/// returned can be dealt again, in its state, and no other processor's seat changes.
 pub fn returned_seats_are_dealt_again()
     ensures once { (opened : EngineAndSeats) (cpu : ℕ) →
         seat_at (without_seat opened cpu) cpu ≡ None }
@@ -99,9 +99,10 @@ pub fn seats_stay_of_their_engine()
         BelongsTo seat rcu → BelongsTo (on_watcher change seat) rcu }
 {}
 
-/// What a call says of a handle that it does not take. There is no processor, the number is 0, no
-/// grace period runs, nobody is awaited, and no seat can be dealt. A seat is of no processor, is
-/// offline, and has no section open. A cookie is done at no number that an engine has.
+/// The results of calls for a handle that they do not take. There is no processor, the number is 0,
+/// no grace period runs, no processor is awaited, and no seat can be dealt. A seat is of no
+/// processor, is offline, and has no section open. A cookie is done at no number that an engine
+/// has.
 pub fn what_is_not_open_says_no()
     ensures cpus { no_engine.engine.cpus ≡ 0 }
     ensures number { number_of no_engine.engine.grace.seq ≡ 0 }
@@ -115,8 +116,8 @@ pub fn what_is_not_open_says_no()
         is_done_first (record { epoch = 0; number = never_done }) number ≡ false }
 {}
 
-/// A section that was open as a cookie was taken, or a value queued, is open still: then `rcu_poll`
-/// does not tell the cookie done, and `rcu_run` does not hand the value out.
+/// If a section that was open when a cookie was taken, or a value queued, is still open, `rcu_poll`
+/// does not return done for the cookie, and `rcu_run` does not hand the value out.
 pub fn sections_end_before_what_waits_for_them()
     ensures poll { (before after : Moment) (i j k l : ℕ) (at : Number)
         (taking polled seat later : Option Contents) → IsEngineAt before i taking →
@@ -131,12 +132,12 @@ pub fn sections_end_before_what_waits_for_them()
         HasWaited (number_of (grace_of running).seq) (tag_of (grace_of queueing).seq) → ⊥ }
 {}
 
-/// Each call that changes an engine, and returns 0, is a step of a run of it: what its clause
-/// `state` says is what the step leaves, and what its faults say is why the step may be made. A
-/// departure that returns 2 or 16 is one, too. Collecting from all, also before a sleep
-/// (`rcu_driver_prepare_wait`), is none where no grace period runs: it changes nothing then. Nor is
-/// an update of the map, or a wait for a node that finds one free: it leaves the running engine as
-/// it is. An engine is new as it is opened.
+/// Each call that changes an engine, and returns 0, is a step of a run of it: its clause `state`
+/// gives the engine after the step, and its faults exclude the cases in which the step is not
+/// allowed. A departure that returns 2 or 16 is a step, too. Collecting from all processors, also
+/// before a sleep (`rcu_driver_prepare_wait`), is no step if no grace period runs: it then changes
+/// nothing. Neither is an update of the map, or a wait for a node that finds one free: they leave
+/// the running engine as it is. An engine is new when it is opened.
 pub fn calls_are_steps_of_a_run()
     ensures new { (identity : Identity) (table requests : TableId) (plan : Plan) (cpus last : ℕ) →
         IsNew (opened_at_first identity table requests plan cpus last).engine }
@@ -256,9 +257,9 @@ pub fn barrier_covers_earlier_callbacks()
     laws::barrier_covers_earlier_callbacks::<u64, Rule>();
 }
 
-/// A barrier that was waited for until 0 was written covers what was queued before it began. It
-/// began in the first step of the wait where none ran, and else before that: a step that joins one
-/// begins none.
+/// A barrier that was waited for until 0 was written covers the callbacks that were queued before
+/// it began. It began in the first step of the wait if none ran, and earlier otherwise: a step that
+/// joins a barrier begins none.
 pub fn a_barrier_waited_for_covers_earlier_callbacks()
     ensures begun { (first : Locked Planned ℕ) (calls : List (Call ℕ)) (word : ℕ → ℕ) →
         (engine_after first calls).grace.lists.running ≡ false →
@@ -279,8 +280,8 @@ pub fn a_barrier_waited_for_covers_earlier_callbacks()
     barrier_covers_earlier_callbacks();
 }
 
-/// No callback runs early: each that is handed out was queued, is what it was then, and a full
-/// grace period lies since: one began after it and ended.
+/// No callback runs early: each callback that is handed out is as it was queued, and a full grace
+/// period began and ended since.
 pub fn no_callback_runs_early()
     ensures queued { (first : Locked Planned ℕ) (calls : List (Call ℕ)) (cpu most at : ℕ)
         (handed : Queued ℕ) → IsNew first → IsRun first calls →

@@ -17,13 +17,13 @@ use crate::handle::RcuSeat;
 use rcu_defer::Marks;
 use rcu_seq::Fault;
 
-/// The links that a thread deferred, in order: what they wait for, the first one that was not taken
-/// out, and the last one.
+/// The links that a thread deferred, in order: the numbers that they wait for, the first one that
+/// was not taken out, and the last one.
 #[derive(Drop)]
 pub struct Links {
-    /// What they wait for.
+    /// The numbers that they wait for.
     pub(crate) marks: Marks,
-    /// The first one that was not taken out; it means nothing if there is none.
+    /// The first one that was not taken out, meaningless if there is none.
     pub(crate) first: u64,
     /// The last one that was deferred, 0 before any.
     pub(crate) last: u64,

@@ -18,7 +18,8 @@ use crate::keyed_words::tell;
 use crate::refusal::Refusal;
 use rcu_map::Compared;
 
-/// Tells C whether an entry is as it was read. If no entry has the key, C's room is told of that.
+/// Returns to C whether an entry is as it was read. If no entry has the key, the buffer of C shows
+/// that.
 fn answer(found: Compared, old: &mut [u64]) -> u32
     requires { 0 < length old.old }
     ensures same { result ≡ 0 ↔ (found ≡ Compared.Same) }

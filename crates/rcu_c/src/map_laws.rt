@@ -1,4 +1,5 @@
-//! What sections find in the map of an engine, over runs of the shared words by atomic steps.
+//! Laws of the entries that sections find in the map of an engine, over runs of the shared words by
+//! atomic steps.
 ghost use Rattle.std.specs.Prelude.{◌≡◌, ◌≤◌, ◌<◌, ◌+◌, ℕ, List, Option, length};
 ghost use Rattle.rcu_live.specs.Watcher.{Watching};
 ghost use Rattle.rcu_graph.specs.Beside.{Moment};
@@ -71,9 +72,9 @@ pub fn found_entries_were_there()
     laws::words_found_over_a_run_were_there::<KeyedWords, 0>();
 }
 
-/// A read is between two moments of a run where the seat reads the map of its plan, and the section
-/// knows at the call what it knows at the first one, and at the return what it knows at the last
-/// one. The rest is what an `rcu_map_get` or an `rcu_map_next` that returns 0 says itself.
+/// A read is between two moments of a run if the seat reads the map of its plan, the section's
+/// knowledge at the call is that of the first moment, and its knowledge at the return is that of
+/// the last one. The clauses of an `rcu_map_get` or an `rcu_map_next` that returns 0 give the rest.
 pub fn reads_are_between_the_moments_that_they_know()
     ensures got { (plan : Plan) (key : ℕ) (first last : Moment) (before after : Option Contents)
         (room entry : List ℕ) → map_plan before ≡ plan → known_of before ≡ first.section →

@@ -21,7 +21,7 @@ use std::marker::Model;
 #[derive(Drop)]
 pub struct OpenReplica {
     inner: Replica<Tree<16, 64>>,
-    /// The processors that a beginning grace period is to await. It is filled anew for each.
+    /// The processors of a beginning grace period. Each begin fills the set again.
     set: CpuSet,
 }
 

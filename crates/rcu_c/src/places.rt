@@ -1,4 +1,4 @@
-//! Places, in each of which an engine keeps the seat of a processor while no thread has it.
+//! Places of seats: an engine keeps the seat of a processor in its place while no thread has it.
 ghost use Rattle.std.specs.Prelude.{◌≡◌, ◌≢◌, IfOk, None, OnErr, OnOk, Some, false, true};
 ghost use Rattle.rcu_c.specs.Places.{IsFreshOf, IsPlaceOf, fresh_seat, has_seat, is_fresh};
 ghost use Rattle.rcu_c.specs.Places.{seat_in};

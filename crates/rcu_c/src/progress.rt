@@ -1,5 +1,5 @@
-//! No handle is stuck: how a grace period, a callback and a barrier come to their ends by calls of
-//! C on one engine's handle. Nothing is claimed of who makes these calls, or when.
+//! No handle is stuck: how a grace period, a callback and a barrier end, by calls of C on one
+//! engine's handle. These laws do not say which threads make the calls, or when.
 ghost use Rattle.std.specs.Prelude.{◌≡◌, ◌<◌, ◌≤◌, ◌+◌, ◌^◌, ◌∷◌, [], ◌++◌, ℕ, List, Option};
 ghost use Rattle.std.specs.Prelude.{false, length, slice_index, true};
 ghost use Rattle.std.specs.List.{list_any};

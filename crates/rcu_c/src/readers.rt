@@ -106,9 +106,9 @@ pub extern "C" fn rcu_take(rcu: &mut Rcu) -> u64
     opened.inner.grace().take().number
 }
 
-/// Returns whether a cookie is done: the number has reached it, so each section that was open at
-/// its taking has ended. For a number that no taking returned, the result means no more than that
-/// the number has reached it. False if `rcu` is not an open engine.
+/// Returns whether a cookie is done: the number has reached it, so each section that was open when
+/// it was taken has ended. For a number that no snapshot returned, the result means no more than
+/// that the number has reached it. False if `rcu` is not an open engine.
 ///
 /// If it returns true, of each section one of two holds: all of it comes before what follows this
 /// call, or it sees what the thread that took the cookie did before it took it.

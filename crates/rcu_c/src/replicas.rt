@@ -1,6 +1,6 @@
 //! Replicas of one engine on several machines: each hears of reports and departures by messages,
 //! and those that began alike and heard the same processors await the same ones, in whatever order,
-//! however often. A replica has no seats; what a call costs is what its number of processors asks.
+//! however often. A replica has no seats; the cost of a call depends on its number of processors.
 //!
 //! Header: `rcu/replica.h`.
 ghost use Rattle.std.specs.Prelude.{◌≡◌, ◌≢◌, IfOk, IsNone, None, Some, drop, length, take};
@@ -39,7 +39,7 @@ fn box_replica(alloc: Global, cpus: u32, max_number: u64) -> Result<Box<Contents
     Ok(Box::new(alloc, Contents::Replica(made))?)
 }
 
-/// Opens a replica of 1 to 4,096 processors at number 0, which awaits nobody. No grace period
+/// Opens a replica of 1 to 4,096 processors at number 0, which awaits no processor. No grace period
 /// begins at `max_number`, a multiple of 4 from 4 to 2^62. Needs: `replica` is closed.
 ///
 /// Faults: 17 for no processor or more than 4,096; 19 if `max_number` is no such number; 16.
@@ -86,7 +86,7 @@ pub extern "C" fn rcu_replica_begin(
     write_out(replica.begin(words), number)
 }
 
-/// What a report did, as C sees it: an `rcu_answer`, as `RCU_ANSWER_TAKEN`.
+/// The answer to a report, as C sees it: an `rcu_answer`, as `RCU_ANSWER_TAKEN`.
 fn answer_in_c(answer: Answer) -> u32
     ensures { result ≡ answer_number answer }
 {

@@ -15,11 +15,11 @@ ghost use Rattle.rcu_c.specs.Staying.{BothStay};
 use crate::codes::accepted;
 use crate::handle::{Rcu, RcuSeat};
 
-/// Requests the grace period of a cookie: if that is greater than each that was requested
-/// before, `rcu_requested_gp` finds it from then on. Writes 1 if it is, and the driver says that it
-/// sleeps: then the caller wakes it, by means of the program's own. Else 0. It orders nothing else:
-/// a taking does. No request is taken back: for a cookie that no taking returned, as 2^64 - 1, the
-/// driver makes grace periods without end.
+/// Requests the grace period of a cookie: if that is greater than each that was requested before,
+/// `rcu_requested_gp` finds it from then on. Writes 1 if it is, and the driver says that it sleeps:
+/// then the caller wakes it, by means of the program's own. Else 0. It orders no other memory
+/// access, unlike a snapshot. A request cannot be taken back: for a cookie that no snapshot
+/// returned, such as 2^64 - 1, the driver makes grace periods without end.
 #[unsafe(no_mangle)]
 pub extern "C" fn rcu_seat_request_gp(seat: &mut RcuSeat, cookie: u64, wakes: &mut u32) -> u32
     ensures fault { result ≡ seat_number seat.old.contents 0 }

@@ -15,8 +15,8 @@ use rcu_request::Requester;
 use std::alloc::{AllocError, Global};
 use std::marker::Model;
 
-/// What all seats of an engine share: the map among the words that they read, their requests, and
-/// what tells the engine from others.
+/// The parts that all seats of an engine share: the map among the words that they read, their
+/// requests, and the identity of the engine.
 #[derive(Drop)]
 pub(crate) struct SharedParts {
     pub(crate) map: Map<KeyedWords, 0>,
@@ -64,8 +64,8 @@ pub(crate) type CpuSeat = MapSeat<KeyedWords, 0>;
 /// A watcher of an engine with a map.
 pub(crate) type Watcher = MapWatcher<KeyedWords, 0>;
 
-/// The seat of an open handle: a processor's, with a watcher, what its thread deferred, its end of
-/// the requests, and the map among the words that all seats share.
+/// The seat of an open handle: a processor's, with a watcher, the values and links that its thread
+/// deferred, its end of the requests, and the map among the words that all seats share.
 #[derive(Drop)]
 pub struct SeatParts {
     pub(crate) map: Map<KeyedWords, 0>,

@@ -46,7 +46,7 @@ pub fn six_calls_lose_nothing()
     laws::no_callback_is_lost();
 }
 
-/// What the sixth call hands out is not early.
+/// The value that the sixth call hands out is not early.
 pub fn six_calls_hand_out_nothing_early()
     ensures { (identity : Identity) (table requests : TableId) (plan : Plan) (last value at : ℕ)
         (handed : Queued ℕ) → slice_get (take_answer (list_of
@@ -69,8 +69,8 @@ pub fn a_barrier_covers_the_value_before_it()
     laws::barrier_covers_earlier_callbacks();
 }
 
-/// The grace period that ran at the queueing does not finish the value: a tend after its end, which
-/// one step of driving made, leaves it waiting.
+/// The grace period that ran when the value was queued does not finish it: a tend after its end,
+/// which one step of driving made, leaves it waiting.
 pub fn one_grace_period_may_not_be_enough()
     ensures { (identity : Identity) (table requests : TableId) (plan : Plan) (last value : ℕ) →
         copies 1 (callbacks (behind (list_of

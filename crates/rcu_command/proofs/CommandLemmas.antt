@@ -1,4 +1,4 @@
--- What the command line orders.
+-- The orders of the command line.
 use Rattle.std.proofs.Common.{◌≡◌, ◌≤◌, Bool, true, false, List, [], ◌∷◌, Option, Some, None}
 use Rattle.std.proofs.Common.{IsSome, MatchOption, codes, arith, is_some, refl, sym, ◌∙◌, subst}
 use Rattle.std.proofs.Common.{if◌then◌else◌}
@@ -24,7 +24,7 @@ use Rattle.rcu_command.proofs.SubcommandLemmas.{script_numbers, torture_numbers}
 use Rattle.rcu_command.proofs.GetterLemmas.{lies_within, widened}
 use Rattle.rcu_command.proofs.WalkLemmas.{first_none, next_none}
 
--- matches of `script` that make no setup say no order
+-- matches of `script` that make no setup give no order
 pub no_script : (name : Text) (rows : List Row) → name ≡ codes "script"
     → HasNoSetup (codes "leaf") (codes "inner") rows → HasNoOrder (Some (name, rows))
 no_script name rows is none (Script setup) p = none setup p.1
@@ -35,7 +35,7 @@ no_script name rows is none (Torture workers rounds seed) p =
     let other : codes "script" ≡ codes "torture" = sym is ∙ p.0 in
     cc
 
--- matches of `pair` that make no setup say no order
+-- matches of `pair` that make no setup give no order
 pub no_pair : (name : Text) (rows : List Row)
     → name ≡ codes "pair" → HasNoSetup (codes "leaf2") (codes "inner2") rows
     → HasNoOrder (Some (name, rows))
@@ -47,7 +47,7 @@ no_pair name rows is none (Torture workers rounds seed) p =
     let other : codes "pair" ≡ codes "torture" = sym is ∙ p.0 in
     cc
 
--- matches of `torture` that give one of its numbers no value say no order
+-- matches of `torture` that give one of its numbers no value give no order
 no_torture : (name : Text) (rows : List Row)
     → name ≡ codes "torture"
     → ((workers rounds seed : ℕ) → IsTortureOf rows workers rounds seed → ⊥)
@@ -78,7 +78,7 @@ pub no_seed : (name : Text) (rows : List Row) → name ≡ codes "torture"
 no_seed name rows is none =
     no_torture name rows is (λ workers rounds seed so. no_value _ _ none so.of_seed)
 
--- matches that make no setup, and no torture run, say no order
+-- matches that make no setup, and no torture run, give no order
 pub ruleset no_order = (no_script, no_pair, no_workers, no_rounds, no_seed)
 
 -- ---- a parse of `rcu`
@@ -102,7 +102,7 @@ pub met_as : (a : App) (words : List Text) (m : ArgMatches) → a ≡ rcu → Ha
     → subcommand_rows_of m ≡ subcommand_of rcu words
 met_as a words m is has = (subst (λ (b : App). HasMatchesOf b words m) is has rcu_is_simple).1
 
--- ---- where `clap` has no fault there is an order
+-- ---- if `clap` has no fault, there is an order
 
 -- a test that there is a number gives the number
 some_value : (o : Option ℕ) → is_some o ≡ true → (n : ℕ) × (o ≡ Some n)
@@ -140,12 +140,12 @@ numbers_make second_leaf second_inner rows has none =
       last = last.1;
     })
 
--- they say an order, and each that they say is within its limits
+-- they give an order, and each that they give is within its limits
 pub record Settles (met : Option (Text × List Row)) : Type 0 where
   pub some : HasNoOrder met → ⊥
   pub limits : (order : Order) → IsOrderOf met order → IsWithinLimits order
 
--- what `script` and `pair` say has none
+-- the orders of `script` and `pair` have none
 no_limits : (name : Text) (rows : List Row) → (name ≡ codes "torture" → ⊥) → (order : Order)
     → IsOrderOf (Some (name, rows)) order → IsWithinLimits order
 no_limits name rows other (Script setup) p = tt

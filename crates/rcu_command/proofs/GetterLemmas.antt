@@ -1,4 +1,4 @@
--- What a typed getter reads.
+-- The values that a typed getter reads.
 use Rattle.std.proofs.Common.{◌≡◌, ◌+◌, ◌^◌, ◌<◌, ◌≤◌, ℕ, List, Bool, true, false, Option, Some}
 use Rattle.std.proofs.Common.{None, Result, ap, sym, refl, is_some, ◌∙◌, true≢false, arith}
 use Rattle.std.proofs.Common.{if◌then◌else◌}
@@ -11,7 +11,7 @@ use Rattle.clap.specs.Words.{IsUnsignedIn, ReadsOne}
 use Rattle.clap.specs.declared.builder.value_parser.ValueParser.TheVariants as vp
 use Rattle.clap.proofs.ValueTestLemmas.{accepts-Accepts, Accepts-accepts}
 
--- what `from_str` says of an unsigned type of k bits
+-- the result of `from_str` for an unsigned type of k bits
 abbrev pub Gives : ℕ → List ℕ → Result ℕ ParseIntError → Type 0
 Gives k text r =
     ParsesUnsigned k 10 text r × ExplainsUnsignedError 10 text r × HasUnsignedDigitsIfOk text r
@@ -19,7 +19,7 @@ Gives k text r =
 abbrev pub value : List ℕ → ℕ
 value text = digits_value 10 (without_leading_plus text)
 
--- the number that a text writes, where it lies in this range
+-- the number that a text writes, if it is in this range
 abbrev pub number_within : ℕ → ℕ → List ℕ → Option ℕ
 number_within least most text = if is_unsigned_in least most text then Some (value text) else None
 
@@ -48,7 +48,7 @@ within_numeral k most top text e =
     let in_range : IsUnsignedIn 0 most text = accepts-Accepts false (vp.Unsigned 0 most) text e in
     (in_range.0, omega (arith, in_range.3))
 
--- a text is read as the number that it writes, and not read where it writes none of k bits
+-- a text is read as the number that it writes, and not read if it writes none of k bits
 number_of_text : (k most : ℕ) → most + 1 ≡ 2 ^ k → most < 2 ^ 64 → (text : List ℕ) (r : Option ℕ)
     → ReadsOne (Gives k) text r → r ≡ number_at_most most text
 number_of_text k most top fits text (Some n) given =
@@ -72,7 +72,7 @@ pub reads_number : (k most : ℕ)
 reads_number k most top fits None r none some = none refl
 reads_number k most top fits (Some t) r none some = number_of_text k most top fits t r (some t refl)
 
--- such a number is what a getter reads
+-- a getter reads such a number
 pub reads_back : (k most : ℕ) → most + 1 ≡ 2 ^ k → most < 2 ^ 64 → (text : List ℕ)
     → ReadsOne {T = ℕ} {E = ℕ} (λ t r. ParsesUnsigned k 10 t r) text (number_at_most most text)
 reads_back k most top fits text = go (is_unsigned_in 0 most text) refl
@@ -86,7 +86,7 @@ reads_back k most top fits text = go (is_unsigned_in 0 most text) refl
 
 -- ---- ranges
 
--- a number that was read and lies in a narrower range is one of that range
+-- a number that was read and is in a narrower range is one of that range
 pub narrowed : (least most top : ℕ) (text : List ℕ) (n : ℕ)
     → number_at_most top text ≡ Some n → least ≤ n → n ≤ most
     → is_some (number_within least most text) ≡ true
@@ -132,7 +132,7 @@ widened least most top fits (Some text) there = go (is_unsigned_in least most te
         ap (λ (b : Bool). is_some (if b then Some (value text) else None))
         (Accepts-accepts false (vp.Unsigned 0 top) text all)
 
--- and lies in it
+-- and is in it
 pub lies_within : (least most top : ℕ) (text : Option (List ℕ)) (n : ℕ)
     → is_some (option_and_then (number_within least most) text) ≡ true
     → option_and_then (number_at_most top) text ≡ Some n → (least ≤ n) × (n ≤ most)

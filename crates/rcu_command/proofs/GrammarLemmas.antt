@@ -22,7 +22,7 @@ with_option old a new app rule adds ruled local is = record {
   local = adds.globals ∙ ap (λ (b : Bool). b || a.global) is.local ∙ local;
 }
 
--- with the last one, where that is added
+-- with the last one, if that is added
 pub with_last_option : {E : Type 0} (r : Result Command E) (old : Command) (a : Arg) (app : App)
     (rule : Rule)
     → IfOk r (λ new. AddsArg old a new)
@@ -34,7 +34,7 @@ with_last_option (Ok new) old a app rule adds ruled local is =
     with_option old a new app rule adds ruled local is
 with_last_option (Err e) old a app rule adds ruled local is = tt
 
--- what it is then
+-- the command after that
 pub app_kept : {E : Type 0} (r : Result Command E) (app : App) → IfOk r (λ new. IsLocal new app)
     → IfOk r (λ new. app_of new ≡ app)
 app_kept (Ok new) app is = is.app
@@ -57,7 +57,7 @@ with_below old sub new app below adds is sub_is local =
     ∙ ap (λ (x : App). with_subcommand x (shape_of sub)) is
     ∙ ap (λ (x : App). with_subcommand app x.top) sub_is
 
--- with the last one, where that is added
+-- with the last one, if that is added
 pub with_last_below : {E : Type 0} (r : Result Command E) (old sub : Command) (app below : App)
     → IfOk r (λ new. AddsSubcommand old sub new)
     → app_of old ≡ app

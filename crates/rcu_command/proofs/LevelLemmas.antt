@@ -1,4 +1,4 @@
--- A subcommand whose options have numbers: where a parse of its words has no fault, they do.
+-- A subcommand whose options have numbers: if a parse of its words has no fault, they do.
 use Rattle.std.proofs.Common.{◌≡◌, ◌≤◌, ◌<◌, ◌^◌, ◌&&◌, ◌||◌, arith, not, ℕ, Bool, true, false}
 use Rattle.std.proofs.Common.{List, [], ◌∷◌, fold, Option, Some, None, is_some, refl, sym, ap, lit<}
 use Rattle.std.proofs.Common.{if◌then◌else◌, true≢false}
@@ -66,7 +66,7 @@ abbrev pub AllGiven : List Row → List Rule → Type 0
 AllGiven rows [] = Unit {0}
 AllGiven rows (a ∷ rest) = (a.required ≡ true → is_given a.id rows ≡ true) × AllGiven rows rest
 
--- the test of what is required, argument by argument
+-- the test of the required arguments, one by one
 given_by_tests : (rows : List Row) (rules : List Rule)
     → list_any (λ a. a.required && not (is_given a.id rows)) rules ≡ false → AllGiven rows rules
 given_by_tests rows [] e = tt
@@ -80,7 +80,7 @@ given_by_tests rows (a ∷ rest) e = go a.required (is_given a.id rows) e (given
     go true false e later = absurd (true≢false e)
     go false g e later = (λ t. absurd (true≢false (sym t)), later e)
 
--- the last checks have no fault only where nothing that is required is missing
+-- the last checks have no fault only if no required argument is missing
 required_tests : (x y n any : Bool) → check_kinds x y (not (n && false) && any) ≡ [] → any ≡ false
 required_tests true y n any e = cc
 required_tests false true n any e = cc
@@ -102,7 +102,7 @@ all_given s words e =
 
 -- ---- numbers of 32 and of 64 bits
 
--- what the parser of a u32 in a range takes is read as one of that range
+-- a text that the parser of a u32 in a range takes is read as one of that range
 pub within_takes : (least most : ℕ) → most ≤ u32_max → (text : Text)
     → accepts false (vp.Signed (pos least) (pos most)) text ≡ true
     → is_some (number_within least most (without_minus text)) ≡ true
@@ -115,7 +115,7 @@ within_takes least most fits text e =
     (reads_back 32 u32_max refl (lit< tt) (without_minus text)) (λ t r h. h) small passed in
     narrowed least most u32_max (without_minus text) read.0 read.1 read.2 read.3
 
--- what the parser of a u64 takes is read as a u64
+-- a text that the parser of a u64 takes is read as a u64
 pub u64_takes : (text : Text) → accepts false (vp.Unsigned 0 u64_max) text ≡ true
     → is_some (number_at_most u64_max text) ≡ true
 u64_takes text e = ap (λ (b : Bool). is_some (if b then Some (value text) else None)) e

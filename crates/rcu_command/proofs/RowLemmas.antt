@@ -73,7 +73,7 @@ module _ (range_of : Text → Option Range) where
       go rest true = h.1
       go rest false = (h.0, rest)
 
-  -- also where a row gets values
+  -- also if a row gets values
   values_read : (id : Text) (how : Reading) (source : ValueSource) (values : List Text)
       (rows : List Row)
       → IsNumber (range_of id) how values
@@ -273,7 +273,7 @@ default_there a v vs rows is = go (has_row a.id rows) refl
 abbrev pub IsThere : Text → List Row → Type 0
 IsThere id rows = is_some (find (λ r. bytes_eq r.id id) rows) ≡ true
 
--- it stays where another one gets values
+-- it stays if another one gets values
 there_with_values : (id other : Text) (how : Reading) (source : ValueSource) (values : List Text)
     (rows : List Row)
     → IsThere id rows
@@ -322,7 +322,7 @@ there_with_default id a rows h = go (has_row a.id rows)
     go true = h
     go false = by_values a.defaults
 
--- or where all the others get their defaults
+-- or if all the others get their defaults
 there_after : (id : Text) (rules : List Rule) (rows : List Row) → IsThere id rows
     → IsThere id (fold with_default rows rules)
 there_after id [] rows h = h

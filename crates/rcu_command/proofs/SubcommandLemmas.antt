@@ -1,5 +1,4 @@
--- The subcommands: where a parse of the words of one has no fault, each of its options has a
--- number.
+-- The subcommands: if a parse of the words of one has no fault, each of its options has a number.
 use Rattle.std.proofs.Common.{◌≡◌, ℕ, true, false, List, [], ◌∷◌, Option, Some, None, is_some}
 use Rattle.std.proofs.Common.{codes, refl, sym, ap, subst, arith, ◌≤◌, ◌||◌, if◌then◌else◌}
 use Rattle.std.specs.Prelude.{option_and_then, pos}

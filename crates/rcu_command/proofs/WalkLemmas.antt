@@ -1,4 +1,5 @@
--- What each use of an option keeps of the rows, a walk over words that has no fault keeps.
+-- A property of the rows that each use of an option keeps is kept by a walk over words that has no
+-- fault.
 use Rattle.std.proofs.Common.{◌≡◌, ◌&&◌, not, ℕ, zero, suc, Bool, true, false, List, [], ◌∷◌}
 use Rattle.std.proofs.Common.{length, drop, fold, Option, Some, None, is_some, refl, if◌then◌else◌}
 use Rattle.std.specs.Prelude.{encode_utf8, slice_get}
@@ -95,7 +96,7 @@ module _ (s : Shape) (names : Names) (Good : List Row → Type 0)
       by_kind false (Some x) e = g
       by_kind false None e = reacts p a is [] h e g
 
-  -- a short option or flag, and what follows it in its word
+  -- a short option or flag, and the rest of its word
   shorts : (p : Rule → Bool) (found : Option Rule) → find p s.rules ≡ found
       → (rest : Text) (h : Held) (go_on : Held → Held × Outcome) (fault : Held → Kinds)
       → ((k : Held) → fault k ≡ [] → Good k.rows → Good (go_on k).0.rows)
@@ -156,7 +157,7 @@ module _ (s : Shape) (names : Names) (Good : List Row → Type 0)
   plain_rows idle word h g = g
   plain_rows positional word h g = g
 
-  -- what follows a flag
+  -- the rest behind a flag
   after_rows : (waiting : Waiting) (word : Text) (h : Held) (outcome : Outcome) → Good h.rows
       → Good (after_flag s.rules waiting word h outcome).0.rows
   after_rows waiting word h done g = g

@@ -88,9 +88,9 @@ rcu = with_subcommand (with_subcommand (with_subcommand (on_top (λ top. record 
   has_version = true;
 }) (new_app (codes "rcu"))) script.top) pair.top) torture.top
 
--- ---- what the matches say
+-- ---- the orders of the matches
 
--- the number that an option has among the matches, where it has a numeral of at most `most`
+-- the number that an option has among the matches, if it has a numeral of at most `most`
 abbrev pub number_up_to : ℕ → List Row → Text → Option ℕ
 number_up_to most rows name = option_and_then
     (λ text.
@@ -113,8 +113,8 @@ pub record IsTortureOf (rows : List Row) (workers rounds seed : ℕ) : Type 0 wh
   pub of_rounds : number_up_to u32_max rows (codes "rounds") ≡ Some rounds
   pub of_seed : number_up_to u64_max rows (codes "seed") ≡ Some seed
 
--- the order is what the subcommand of this name says with its matches: the second replica of a
--- script is as the first
+-- the order is that of the subcommand of this name with its matches: the second replica of a script
+-- is as the first
 abbrev pub IsOrder : Text → List Row → Order → Type 0
 IsOrder name rows (Script setup) =
     (name ≡ codes "script") × IsSetupOf (codes "leaf") (codes "inner") rows setup
@@ -123,7 +123,7 @@ IsOrder name rows (Pair setup) =
 IsOrder name rows (Torture workers rounds seed) =
     (name ≡ codes "torture") × IsTortureOf rows workers rounds seed
 
--- the order is what the subcommand says, if there is one
+-- the order is that of the subcommand, if there is one
 abbrev pub IsOrderOf : Option (Text × List Row) → Order → Type 0
 IsOrderOf None order = ⊥
 IsOrderOf (Some met) order = IsOrder met.0 met.1 order
@@ -133,7 +133,7 @@ abbrev pub HasNoSetup : Text → Text → List Row → Type 0
 HasNoSetup second_leaf second_inner rows =
     (setup : Setup) → ¬ (IsSetupOf second_leaf second_inner rows setup)
 
--- the subcommand says no order
+-- the subcommand gives no order
 abbrev pub HasNoOrder : Option (Text × List Row) → Type 0
 HasNoOrder met = (order : Order) → ¬ (IsOrderOf met order)
 

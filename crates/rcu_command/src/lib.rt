@@ -1,4 +1,4 @@
-//! The command line, and why what it orders stopped.
+//! The command line, and why an order stopped.
 #![tactic(auto)]
 
 pub mod command;

@@ -1,4 +1,4 @@
-//! What standard error says of a run that stopped.
+//! The message on standard error for a run that stopped.
 
 use crate::command::Order;
 use rcu_script::{RunFault, Setup};

@@ -23,7 +23,7 @@ due_more b n (u ∷ us) order = elim (cases_Bool (nat_le u b)) [
   | inr none ↦ rw none (omega arith)
 ]
 
--- where more come behind, no less is due
+-- if more come behind, no fewer are due
 due_behind : (b : Number) (us vs : List Number) → due b us ≤ due b (us ++ vs)
 due_behind b [] vs = omega arith
 due_behind b (u ∷ us) vs = elim (cases_Bool (nat_le u b)) [
@@ -31,7 +31,7 @@ due_behind b (u ∷ us) vs = elim (cases_Bool (nat_le u b)) [
   | inr none ↦ rw none (omega arith)
 ]
 
--- what is due of a list is due of what a tend leaves of it, or is done
+-- a due deferral of a list is due in the list after a tend, or done
 due_rest : (b n : Number) (us vs : List Number)
     → due b us ≤ due n us + due b (drop (due n us) us ++ vs)
 due_rest b n [] vs = omega arith
@@ -46,7 +46,7 @@ due_rest b n (u ∷ us) vs = elim (cases_Bool (nat_le u n)) [
   | inr none ↦ let all = due_behind b (u ∷ us) vs in rw none (omega arith)
 ]
 
--- all is due where each number is reached
+-- all are due if each number is reached
 due_all : (b : Number) (us : List Number) → ((j d : ℕ) → j < length us → get_or us j d ≤ b)
     → due b us ≡ length us
 due_all b [] each = omega arith
@@ -95,7 +95,7 @@ module _ {X : Type 0} where
             omega arith
       ]
 
-  -- what is done or due at a number stays so
+  -- a deferral that is done or due at a number stays so
   stays_due : (b k : ℕ) (later earlier : List (Call X)) →
       k ≤ (marks_after earlier).done + due b (marks_after earlier).waiting →
       k ≤ (marks_after (later ++ earlier)).done + due b (marks_after (later ++ earlier)).waiting
@@ -108,7 +108,7 @@ module _ {X : Type 0} where
       let rest = due_rest b n m.waiting (replicate m.fresh (snapshot n)) in
       omega arith
 
-  -- what is done stays done
+  -- a done deferral stays done
   stays_done : (later earlier : List (Call X))
       → (marks_after earlier).done ≤ (marks_after (later ++ earlier)).done
   stays_done [] earlier = omega arith

@@ -16,7 +16,7 @@ module _ {X : Type 0} where
   same_marks (Tend n ∷ calls) = ap (λ m. after_tend m n) (same_marks calls)
   same_marks (Take most ∷ calls) = ap (λ m. after_take m most) (same_marks calls)
 
-  -- what was taken out, and what is there
+  -- the values that were taken out, and those in the list
   pub in_order : (calls : List (Call X))
       → taken_in calls ++ (list_after calls).values ≡ deferred_in calls
   in_order [] = refl
@@ -30,7 +30,7 @@ module _ {X : Type 0} where
       append_assoc (taken_in calls) (take count s.values) (drop count s.values)
       ∙ (ap (λ l. taken_in calls ++ l) (take-append-drop count s.values) ∙ in_order calls)
 
-  -- what was taken out came first
+  -- the values that were taken out came first
   pub taken_first : (calls : List (Call X))
       → taken_in calls ≡ take (length (taken_in calls)) (deferred_in calls)
   taken_first calls =

@@ -19,7 +19,7 @@ use Rattle.rcu_defer.specs.Moments.{HasOpen, IsMoment, Moment, calls_of}
 use Rattle.rcu_defer.proofs.Waits.{done_has_waited}
 
 module _ {A : Type 0} where
-  -- where a list that is put together has an item: in its first part, or in its second
+  -- a list made of two parts has an item in its first part, or in its second
   split_at : (a b c d : List A) (x : A) → a ++ b ≡ c ++ x ∷ d →
       ((r : List A) × (a ≡ c ++ x ∷ r)) ⊎ ((r : List A) × (b ≡ r ++ x ∷ d))
   split_at [] b c d x h = inr (c, h)
@@ -93,7 +93,7 @@ module _ {C : Type 0} where
       ≡ false
 
 module _ {C X : Type 0} where
-  -- a section is open where a deferral is marked, and where that is done
+  -- a section is open when a deferral is marked, and when that is done
   both_open : (holds : List ℕ → Views C → Type 0)
       → FinishesBeforeDone holds
       → (cpus seat : ℕ) (at marked now : Number)
@@ -140,7 +140,7 @@ module _ {C X : Type 0} where
             absurd (omega arith)
       ]
 
-  -- so no more is done than was deferred before
+  -- so no more are done than were deferred before
   pub none_done : (holds : List ℕ → Views C → Type 0)
       → FinishesBeforeDone holds
       → (cpus seat : ℕ) (at : Number) (later earlier : List (Moment C X))

@@ -17,19 +17,19 @@ is_due n until h = grind (arith, nat_tests)
 not_due : (n until : ℕ) → n < until → nat_le until n ≡ false
 not_due n until h = grind (arith, nat_tests)
 
--- a batch whose number is reached is due, and then what is due behind it
+-- a batch whose number is reached is due, and then those due behind it
 due_front : (n until count : ℕ) (others : List Number) → until ≤ n →
     due n (replicate count until ++ others) ≡ due n others + count
 due_front n until zero others h = omega arith
 due_front n until (suc count) others h =
     let rest = due_front n until count others h in rw (is_due n until h) (omega arith)
 
--- nothing is due of a batch whose number is not reached
+-- no deferral of a batch is due if its number is not reached
 due_none : (n until count : ℕ) → n < until → due n (replicate count until) ≡ 0
 due_none n until zero h = refl
 due_none n until (suc count) h = rw (not_due n until h) refl
 
--- what is behind a batch
+-- the rest behind a batch
 drop_front : (until count : ℕ) (others : List Number)
     → drop count (replicate count until ++ others) ≡ others
 drop_front until zero others = refl
@@ -81,7 +81,7 @@ advanced_both taken done first second none other deferred seen n empty bare h k 
       length-replicate second.count second.until,
     ))))) (omega arith)
 
--- a mark where deferrals wait for the same number
+-- a mark if deferrals wait for the same number
 pub marked_same : (taken done : ℕ) (first second now : Batch) (deferred seen : ℕ)
     → second.count ≡ 0
     → first.until ≡ snapshot seen
@@ -109,7 +109,7 @@ joined zero until n fresh same = ap (λ k. replicate k n) (omega arith)
 joined (suc count) until n fresh same =
     rw (same (omega arith)) (replicate-append-replicate (suc count) fresh n)
 
--- one where deferrals wait for another number
+-- one if deferrals wait for another number
 pub marked_second : (taken done : ℕ) (first second now : Batch) (deferred seen : ℕ)
     → (0 < second.count → second.until ≡ snapshot seen)
     → now.until ≡ snapshot seen
@@ -142,7 +142,7 @@ last_behind from until next zero zero some = absurd (omega arith)
 last_behind from until next zero (suc b) some = last_for next b
 last_behind from until next (suc a) b some = last_behind until until next a b some
 
--- of two batches, where the second one has any
+-- of two batches, if the second one has any
 pub last_of_two : (until next a b : ℕ) → 0 < b →
     last_number (replicate a until ++ replicate b next) ≡ Some next
 last_of_two until next zero zero some = absurd (omega arith)

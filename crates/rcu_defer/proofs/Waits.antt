@@ -1,4 +1,4 @@
--- Over all calls: what is due, how many there are, and that none is done early.
+-- Over all calls: the due deferrals, their count, and that none is done early.
 use Rattle.std.proofs.Common.{◌≡◌, ℕ, zero, suc, ◌+◌, ◌-◌, ◌<◌, ◌≤◌, nat_le, List, [], ◌∷◌, ◌++◌}
 use Rattle.std.proofs.Common.{length, take, drop, replicate, get_or, refl, ap, ◌∙◌, subst, arith}
 use Rattle.std.proofs.Common.{inl, inr, length-append, length-drop}
@@ -47,7 +47,7 @@ due_front n (u ∷ us) = elim (cases_Bool (nat_le u n)) [
   | inr none ↦ rw none (All-nil (λ until. until ≤ n))
 ]
 
--- what comes behind it is not
+-- the next one behind it is not
 pub due_longest : (n : Number) (us : List Number)
     → IfSome (slice_get us (due n us)) (λ until. n < until)
 due_longest n [] = tt
@@ -78,7 +78,7 @@ module _ {X : Type 0} where
   all_counted (Tend n ∷ calls) = tended_counted (marks_after calls) n ∙ all_counted calls
   all_counted (Take most ∷ calls) = all_counted calls
 
-  -- what was taken out is done
+  -- a value that was taken out is done
   pub taken_done : (calls : List (Call X)) → (marks_after calls).taken ≤ (marks_after calls).done
   taken_done [] = omega arith
   taken_done (Defer x ∷ calls) = taken_done calls
@@ -95,7 +95,7 @@ module _ {X : Type 0} where
     before : k < length (deferred_in earlier)
     until : u ≡ snapshot at
 
-  -- what is known of each that is done, and of each that waits
+  -- facts on each done deferral, and on each waiting one
   record IsTold (calls : List (Call X)) : Type 0 where
     out : (k : ℕ) → k < (marks_after calls).done → HasWaited calls k
     waiting : (j : ℕ) → j < length (marks_after calls).waiting →
@@ -140,7 +140,7 @@ module _ {X : Type 0} where
     reached = (let until = h.until in omega arith);
   }
 
-  -- what is done after a tend
+  -- the done deferrals after a tend
   out_tended : (n : Number) (calls : List (Call X)) → IsTold calls → (k : ℕ) →
       k < (marks_after (Tend n ∷ calls)).done → HasWaited (Tend n ∷ calls) k
   out_tended n calls t k low =
@@ -156,7 +156,7 @@ module _ {X : Type 0} where
             (due_reached n m.waiting j 0 (omega arith)))
       ]
 
-  -- what waits then
+  -- the waiting ones after it
   waiting_tended : (n : Number) (calls : List (Call X))
       → IsTold calls
       → (j : ℕ) → j < length (marks_after (Tend n ∷ calls)).waiting
@@ -212,8 +212,7 @@ module _ {X : Type 0} where
       → HasWaited calls k
   done_has_waited calls k low = (told calls).out k low
 
--- where the number went from one to the snapshot of that or further, a full grace period lies
--- between
+-- if the number went from one to the snapshot of that or further, a full grace period lies between
 pub full_between : (first : Periods) (turns : List Turn)
     → is_done (cookie_of first) (after_turns first turns) ≡ has_full_period turns
     → first.epoch ≡ 0 → (after_turns first turns).epoch ≡ 0

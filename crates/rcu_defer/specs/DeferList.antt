@@ -7,7 +7,7 @@ use Rattle.rcu_defer.specs.Marks.{Marking, after_defer, after_take, after_tend, 
 use Rattle.rcu_defer.specs.Marks.{defer_refusal, ready_of}
 
 -- what contracts see of a list: the values that were not taken out, the oldest first; the marks;
--- and how many values there is room for before the list grows
+-- and for how many values the list has room before it grows
 pub record Deferring (X : Type 0) : Type 0 where
   pub values : List X
   pub marks : Marking
@@ -22,7 +22,7 @@ module _ {X : Type 0} where
   abbrev pub with_room : Deferring X → ℕ → Deferring X
   with_room s room = record s { room = room }
 
-  -- the fault of a deferral that is refused: memory, where nothing else refuses it
+  -- the fault of a refused deferral: memory, if no other cause holds
   abbrev pub defer_fault : Deferring X → Fault
   defer_fault s = unwrap_or (defer_refusal s.marks) NoMemory
 
@@ -34,11 +34,11 @@ module _ {X : Type 0} where
   abbrev pub list_after_tend : Deferring X → Number → Deferring X
   list_after_tend s n = record s { marks = after_tend s.marks n }
 
-  -- the values that a take of so many at most takes out: the first ones, of those that are done
+  -- the values that a take of at most this number takes out: the first ones, of those that are done
   abbrev pub taken_values : Deferring X → ℕ → List X
   taken_values s most = take (min most (ready_of s.marks)) s.values
 
-  -- after it
+  -- the list after that take
   abbrev pub list_after_take : Deferring X → ℕ → Deferring X
   list_after_take s most = record s {
     values = drop (min most (ready_of s.marks)) s.values;

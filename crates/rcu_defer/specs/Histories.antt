@@ -1,11 +1,11 @@
--- What a thread did to its deferrals, the newest call first.
+-- A thread's calls on its deferrals, the newest call first.
 use Rattle.std.specs.Prelude.{◌≡◌, ℕ, ◌<◌, ◌≤◌, List, [], ◌∷◌, ◌++◌, length}
 use Rattle.rcu_seq.specs.Numbers.{Number, snapshot}
 use Rattle.rcu_defer.specs.DeferList.{Deferring, list_after_defer, list_after_take, list_after_tend}
 use Rattle.rcu_defer.specs.DeferList.{list_at_first, taken_values}
 use Rattle.rcu_defer.specs.Marks.{Marking, after_defer, after_take, after_tend, at_first}
 
--- a call: it defers a value, tends at a number, or takes out so many at most
+-- a call: it defers a value, tends at a number, or takes out at most this number of values
 pub data Call (X : Type 0) : Type 0 where
   Defer : X → Call X
   Tend : Number → Call X
@@ -40,8 +40,9 @@ module _ {X : Type 0} where
   taken_in (Tend n ∷ earlier) = taken_in earlier
   taken_in (Take most ∷ earlier) = taken_in earlier ++ taken_values (list_after earlier) most
 
-  -- the deferral of this place, from 0, has waited: it came before a tend, and at a later one the
-  -- number was at least the snapshot of that one's, so that a full grace period lies between
+  -- the deferral of this place, from 0, has waited: it came before a tend, and at a later tend the
+  -- number was at least the snapshot of the first tend's number, so a full grace period lies
+  -- between
   pub record HasWaited (calls : List (Call X)) (k : ℕ) : Type 0 where
     pub at : Number
     pub now : Number

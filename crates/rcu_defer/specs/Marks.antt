@@ -1,4 +1,4 @@
--- What one thread's deferrals wait for, in order.
+-- The numbers that one thread's deferrals wait for, in order.
 use Rattle.std.specs.Prelude.{◌≡◌, ℕ, suc, ◌+◌, ◌-◌, ◌<◌, ◌≤◌, ◌%◌, ◌^◌, ◌==◌, min, nat_le}
 use Rattle.std.specs.Prelude.{if◌then◌else◌, List, [], ◌∷◌, ◌++◌, drop, length, replicate, Option}
 use Rattle.std.specs.Prelude.{Some, None}
@@ -8,9 +8,9 @@ use Rattle.rcu_seq.specs.declared.fault.Fault.{Fault}
 use Rattle.rcu_seq.specs.declared.fault.Fault.TheVariants.{CallbacksFull}
 use Rattle.rcu_defer.specs.declared.marks.Batch.{Batch}
 
--- what contracts see of them: how many were taken out; how many are done, with those; for what
--- number each of those waits that come behind, in order; how many came since the last tend; and the
--- number of that tend
+-- what contracts see of them: how many were taken out; how many are done, with those; the number
+-- that each later one waits for, in order; how many came since the last tend; and the number of
+-- that tend
 pub record Marking : Type 0 where
   pub taken : ℕ
   pub done : ℕ
@@ -22,7 +22,7 @@ pub record Marking : Type 0 where
 abbrev pub at_first : Marking
 at_first = record { taken = 0; done = 0; waiting = []; fresh = 0; seen = 0 }
 
--- how many there were
+-- the number of deferrals so far
 abbrev pub deferred_of : Marking → ℕ
 deferred_of m = m.done + length m.waiting + m.fresh
 
@@ -34,7 +34,7 @@ count_of m = deferred_of m - m.taken
 abbrev pub ready_of : Marking → ℕ
 ready_of m = m.done - m.taken
 
--- so many there may be
+-- the most deferrals
 abbrev pub most_deferred : ℕ
 most_deferred = 2 ^ 62
 
@@ -72,7 +72,7 @@ after_tend m n = record m {
   seen = n;
 }
 
--- after a take of so many at most
+-- after a take of at most this number
 abbrev pub after_take : Marking → ℕ → Marking
 after_take m most = record m { taken = m.taken + min most (ready_of m) }
 
@@ -86,7 +86,7 @@ abbrev pub last_number : List Number → Option Number
 last_number [] = None
 last_number (until ∷ others) = Some (last_from until others)
 
--- the marks that these counts are, with two batches behind those that are done
+-- the marks with these counts, with two batches behind those that are done
 abbrev pub shown : ℕ → ℕ → Batch → Batch → ℕ → Number → Marking
 shown taken done first second deferred seen = record {
   taken = taken;
@@ -103,8 +103,8 @@ pub record IsAhead (seen until : Number) : Type 0 where
   pub within : until ≤ snapshot seen
   pub even : until % 4 ≡ 0
 
--- two batches behind those that are done, of so many deferrals: the second one has any only where
--- the first has, and its number is the greater one then
+-- two batches behind those that are done, of this number of deferrals: the second one has any only
+-- if the first has, and then its number is the greater one
 pub record AreBatches (taken done : ℕ) (first second : Batch) (deferred : ℕ)
     (seen : Number) : Type 0 where
   pub order : taken ≤ done

@@ -10,7 +10,7 @@ use Rattle.rcu_live.specs.declared.view.Role.TheVariants.{Cpu}
 use Rattle.rcu_live.specs.declared.view.View.{View}
 use Rattle.rcu_defer.specs.Histories.{Call, Tend}
 
--- a moment: all shared words and seats, and the call that the thread makes then
+-- a moment: all shared words and seats, and the thread's call at that moment
 pub record Moment (C X : Type 0) : Type 0 where
   pub state : State (Unit {0}) (View C)
   pub call : Call X

@@ -19,7 +19,7 @@ use std::marker::Model;
 pub struct DeferList<T: Drop> {
     /// The values that were not taken out yet.
     values: VecDeque<T>,
-    /// What they wait for.
+    /// The numbers that they wait for.
     marks: Marks,
 }
 
@@ -54,10 +54,10 @@ impl<T: Drop> DeferList<T> {
         }
     }
 
-    /// Defers a value, behind all others. Costs a step, and one a value where the list grows.
+    /// Defers a value, behind all others. Costs a step, and one for each value if the list grows.
     ///
     /// Faults, with the value: `CallbacksFull` (15) if there were 2^62; `NoMemory` (16), only if
-    /// there is no room for it and an allocation failed.
+    /// the list has no room for it and an allocation failed.
     pub fn defer(&mut self, value: T) -> Result<(), Refused<T>>
         ensures state { OnOk result
             (self.new ≡ with_room (list_after_defer self.old value) self.new.room) }
@@ -87,7 +87,7 @@ impl<T: Drop> DeferList<T> {
         Ok(())
     }
 
-    /// Tends the list at a number, as [`Marks::tend`].
+    /// Tends the list at a number, as [`Marks::tend`] does.
     pub fn tend(&mut self, number: u64)
         requires later { self.old.marks.seen ≤ number }
         requires bounded { number ≤ 2 ^ 62 }
@@ -97,7 +97,7 @@ impl<T: Drop> DeferList<T> {
         self.marks.tend(number);
     }
 
-    /// Takes out the first value, if it is done. Costs a step, however many there are.
+    /// Takes out the first value, if it is done. Costs a step, however long the list is.
     pub fn take(&mut self) -> Option<T>
         ensures value { result ≡ slice_get (taken_values self.old 1) 0 }
         ensures state { self.new ≡ list_after_take self.old 1 }
@@ -108,7 +108,7 @@ impl<T: Drop> DeferList<T> {
         self.values.pop_front()
     }
 
-    /// Returns how many values there are.
+    /// Returns how many values the list has.
     pub fn count(&self) -> usize
         ensures { result ≡ length self.now.values }
     {
@@ -130,14 +130,14 @@ impl<T: Drop> DeferList<T> {
         self.marks.seen()
     }
 
-    /// What the values wait for.
+    /// Returns the numbers that the values wait for.
     pub fn marks(&self) -> &Marks
         ensures { result.now ≡ self.now.marks }
     {
         &self.marks
     }
 
-    /// The greatest number that a value waits for, as [`Marks::last_until`].
+    /// Returns the greatest number that a value waits for, as [`Marks::last_until`] does.
     pub fn last_until(&self) -> Option<u64>
         ensures last { result ≡ last_number self.now.marks.waiting }
         ensures each { IfSome result (λ last. All (λ until. until ≤ last) self.now.marks.waiting) }
@@ -145,7 +145,7 @@ impl<T: Drop> DeferList<T> {
         self.marks.last_until()
     }
 
-    /// For how many values there is room before it grows: never fewer than there are.
+    /// Returns for how many values the list has room before it grows: never fewer than it has.
     pub fn room(&self) -> usize
         ensures value { result ≡ self.now.room }
         ensures fits { length self.now.values ≤ result }
@@ -153,8 +153,8 @@ impl<T: Drop> DeferList<T> {
         self.values.capacity()
     }
 
-    /// Gives back the memory that its values do not need, as [`VecDeque::shrink_to_fit`]. It keeps
-    /// what it has where the smaller block is refused; an empty list keeps none. Costs a step a
+    /// Frees the memory that its values do not need, as [`VecDeque::shrink_to_fit`] does. It keeps
+    /// its memory if the smaller block is refused; an empty list keeps none. Costs a step for each
     /// value.
     pub fn shrink(&mut self)
         ensures values { self.new ≡ with_room self.old self.new.room }

@@ -1,4 +1,4 @@
-//! A thread's deferred values with the watcher by which it tends them: nothing here waits or takes
+//! A thread's deferred values with the watcher by which it tends them: no call here waits or takes
 //! a lock.
 ghost use Rattle.std.specs.Prelude.{◌≡◌, ◌<◌, ◌≤◌, ℕ, All, IfErr, IfOk, IsOk, None, OnErr, OnOk};
 ghost use Rattle.std.specs.Prelude.{length, slice_get, slice_index};
@@ -20,10 +20,10 @@ use std::alloc::Global;
 use std::marker::Model;
 
 /// The values that one thread deferred, and its watcher (Linux's `call_rcu` on the processor's own
-/// list). A value is done once each section that was open at its deferral has ended.
+/// list). A value is done once each section that was open when it was deferred has ended.
 ///
-/// It goes with no processor: where the thread's departs, the values stay, and any thread that has
-/// the deferrer goes on with them.
+/// It belongs to no processor: if the thread's processor departs, the values stay, and any thread
+/// that has the deferrer can continue with them.
 #[derive(Drop)]
 pub struct Deferrer<T: Drop, P: Client = NoClient> {
     list: DeferList<T>,
@@ -42,7 +42,7 @@ impl<T: Drop, P: Client> Model for Deferrer<T, P> {
 }
 
 impl<T: Drop, P: Client> Deferrer<T, P> {
-    /// No value yet, with this watcher. It takes no memory.
+    /// Returns an empty deferrer with this watcher. It needs no memory.
     pub fn new(alloc: Global, watcher: Watcher<P>) -> Deferrer<T, P>
         ensures list { result.list ≡ list_at_first }
         ensures watcher { result.watcher ≡ watcher }
@@ -53,10 +53,10 @@ impl<T: Drop, P: Client> Deferrer<T, P> {
         }
     }
 
-    /// Defers a value, as [`DeferList::defer`]: no load and no store of a shared word.
+    /// Defers a value, as [`DeferList::defer`] does, without a load or a store of a shared word.
     ///
     /// Faults, with the value: `CallbacksFull` (15) if there were 2^62; `NoMemory` (16), only if
-    /// there is no room for it and an allocation failed.
+    /// the list has no room for it and an allocation failed.
     pub fn defer(&mut self, value: T) -> Result<(), Refused<T>>
         ensures state { OnOk result
             (self.new.list ≡ with_room (list_after_defer self.old.list value) self.new.list.room) }
@@ -73,9 +73,8 @@ impl<T: Drop, P: Client> Deferrer<T, P> {
         self.list.defer(value)
     }
 
-    /// Tends the values by one load of the number, which it returns, as [`DeferList::tend`]. No
-    /// later load is below it. At whichever moment the watcher made that load, the tend is at the
-    /// number of then.
+    /// Tends the values, as [`DeferList::tend`] does, by one load of the number, which it returns.
+    /// No later load is below it. The tend is at the number of the moment of that load.
     pub fn tend<L: Shared<P>>(&mut self, live: &L) -> u64
         requires { self.old.watcher.table ≡ (L.object live.now).table }
         ensures look { WatchedAt self.old.watcher result self.new.watcher }
@@ -92,7 +91,7 @@ impl<T: Drop, P: Client> Deferrer<T, P> {
         number
     }
 
-    /// Takes out the first value, if it is done, as [`DeferList::take`].
+    /// Takes out the first value, if it is done, as [`DeferList::take`] does.
     pub fn take(&mut self) -> Option<T>
         ensures value { result ≡ slice_get (taken_values self.old.list 1) 0 }
         ensures state { self.new.list ≡ list_after_take self.old.list 1 }
@@ -101,9 +100,9 @@ impl<T: Drop, P: Client> Deferrer<T, P> {
         self.list.take()
     }
 
-    /// The cookie at which all that was deferred before the last tend is done, none where none of
-    /// it waits: a driver that drives the engine for it, as by [`Live::drive_for`](rcu_live::Live),
-    /// drives for all.
+    /// Returns the cookie at which all values deferred before the last tend are done, none if none
+    /// of them waits. A driver that drives the engine for this cookie, as by
+    /// [`Live::drive_for`](rcu_live::Live), drives for all of them.
     pub fn cookie(&self) -> Option<Cookie>
         ensures { result ≡ option_map (λ last. record { epoch = 0; number = last })
             (last_number self.now.list.marks.waiting) }
@@ -114,7 +113,7 @@ impl<T: Drop, P: Client> Deferrer<T, P> {
         }
     }
 
-    /// What was deferred, and was not taken out yet.
+    /// Returns the values that were deferred and not yet taken out.
     pub fn list(&self) -> &DeferList<T>
         ensures { result.now ≡ self.now.list }
     {

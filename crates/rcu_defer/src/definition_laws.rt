@@ -1,4 +1,4 @@
-//! The definitions that the laws name: a case in which each holds, and one in which it does not.
+//! The definitions that the laws use: a case in which each holds, and one in which it does not.
 ghost use Rattle.std.specs.Prelude.{◌≡◌, ◌≢◌, ◌<◌, ◌≤◌, [], ◌∷◌, ℕ, List, None, Some, slice_index};
 ghost use mathlib.Core.Option.{some};
 ghost use lib.ListN.{get_elem?};
@@ -42,7 +42,7 @@ pub fn a_moment_has_the_sections_that_its_views_show<T, P: Client>()
 {}
 
 /// The numbers of the tends never fall if each is no less than that of the tend before. A deferral
-/// and a take have none.
+/// and a take have no number.
 pub fn numbers_never_fall_where_each_is_no_less<T>()
     ensures none { NeverFalls {X = T} [] }
     ensures defer { (calls : List (Call T)) (value : T) → NeverFalls calls →

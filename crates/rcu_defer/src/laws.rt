@@ -13,7 +13,7 @@ use rcu_live::Client;
 use rcu_live::laws::readers_finish_before_done;
 use rcu_seq::laws::done_means_a_full_grace_period;
 
-/// The due deferrals are the longest front of those whose number has been reached.
+/// The due deferrals are the longest prefix whose numbers have all been reached.
 pub fn due_is_the_longest_front()
     ensures front { (n : Number) (us : List Number) →
         All (λ until. until ≤ n) (take (due n us) us) }
@@ -32,8 +32,8 @@ pub fn deferrals_are_counted_once<T>()
 
 /// No value comes early: a full grace period lies between its deferral and the tend at which it is
 /// done. More exactly: it was deferred before a tend, and the number at a later tend has reached
-/// the first tend's snapshot; whichever begins and ends led from the one number to the other, a
-/// grace period began among them and ended. A value that was taken out is done.
+/// the first tend's snapshot; whichever begins and ends led from one number to the other, a grace
+/// period began and ended among them. A value that was taken out is done.
 pub fn no_value_comes_early<T>()
     ensures waited { (calls : List (Call T)) (k : ℕ) → k < (marks_after calls).done →
         HasWaited calls k }
@@ -72,10 +72,10 @@ pub fn no_value_is_lost<T: Drop>()
 {}
 
 /// Sections end before deferrals are done: while a section stays open, only values that were
-/// deferred before are done or taken out. So each section that was open at a deferral has ended
+/// deferred before it are done or taken out. So each section that was open at a deferral has ended
 /// once the value is done. The calls are made at moments of the engine, at each of which the
-/// engine's rule holds, and each tend is at the number of its moment, as `Deferrer::tend` is: at
-/// that of its one load.
+/// engine's rule holds, and each tend is at the number of its moment: that of its one load, for
+/// `Deferrer::tend`.
 pub fn sections_end_before_deferrals_are_done<T, P: Client>()
     ensures { (plan : P.Plan) (cpus seat : ℕ) (at : Number)
         (later earlier : List (Moment P.Known T)) →

@@ -1,4 +1,4 @@
-//! What one thread's deferrals wait for, apart from what is deferred.
+//! The numbers that one thread's deferrals wait for, apart from the deferred values.
 ghost use Rattle.std.specs.Prelude.{◌≡◌, ◌==◌, ◌<◌, ◌≤◌, ◌^◌, All, IfSome, OnErr, OnOk, min};
 ghost use Rattle.std.specs.Result.{result_err};
 ghost use Rattle.rcu_defer.specs.Marks.{after_advance, after_defer, after_mark, after_take};
@@ -9,29 +9,30 @@ use rcu_seq::Fault;
 use rcu_seq::cookie::snapshot;
 use std::marker::Model;
 
-/// How many deferrals there may be.
+/// The most deferrals.
 const MOST_DEFERRED: u64 = 1 << 62;
 
 /// Deferrals in a row that wait for one number.
 #[derive(Clone, Copy, Debug)]
 pub(crate) struct Batch {
-    /// The number that they wait for; it means nothing if there is none of them.
+    /// The number that they wait for, meaningless if the batch is empty.
     pub(crate) until: u64,
-    /// How many they are.
+    /// The number of deferrals in the batch.
     pub(crate) count: u64,
 }
 
 impl Batch {
-    /// No deferral.
+    /// An empty batch.
     pub(crate) const NONE: Batch = Batch { until: 0, count: 0 };
 }
 
-/// What one thread's deferrals wait for, in order (the marks of Linux's `rcu_segcblist`): those
-/// that are done, those that wait for a number, and those that came since the last tend. What is
-/// deferred is kept elsewhere, in the same order; so no call here takes memory.
+/// The numbers that one thread's deferrals wait for, in order (the marks of Linux's
+/// `rcu_segcblist`): those that are done, those that wait for a number, and those that came since
+/// the last tend. The deferred values are kept elsewhere, in the same order, so no call here needs
+/// memory.
 ///
-/// At any number the deferrals that wait do so for one of two numbers at most: that at which the
-/// grace period that runs ends, and the next one's. So two batches serve.
+/// At any number, waiting deferrals wait for at most two numbers: the one at which the running
+/// grace period ends, and the one at which the next one ends. So two batches suffice.
 #[derive(Debug, Drop)]
 pub struct Marks {
     /// How many were taken out.
@@ -42,7 +43,7 @@ pub struct Marks {
     first: Batch,
     /// Those behind these, which wait for a greater number.
     second: Batch,
-    /// How many there were.
+    /// The number of deferrals so far.
     deferred: u64,
     /// The number of the last tend.
     seen: u64,
@@ -73,9 +74,9 @@ impl Marks {
         }
     }
 
-    /// Counts a deferral more, behind all others.
+    /// Counts one more deferral, behind all others.
     ///
-    /// Fault `CallbacksFull` (15) if there were 2^62.
+    /// Fault `CallbacksFull` (15) if 2^62 were made.
     pub fn defer(&mut self) -> Result<(), Fault>
         ensures fault { result_err result ≡ defer_refusal self.old }
         ensures state { OnOk result (self.new ≡ after_defer self.old) }
@@ -88,9 +89,9 @@ impl Marks {
         Ok(())
     }
 
-    /// Tends at a number, which is at least that of the last tend and at most 2^62: the deferrals
-    /// whose number is reached are done, and those that came since the last tend wait for its
-    /// snapshot. Costs a few steps, however many they are.
+    /// Tends at a number, which is at least that of the last tend and at most 2^62: makes the
+    /// deferrals done whose number is reached, and lets those that came since the last tend wait
+    /// for its snapshot. Costs a few steps, however many they are.
     pub fn tend(&mut self, number: u64)
         requires later { self.old.seen ≤ number }
         requires bounded { number ≤ 2 ^ 62 }
@@ -101,7 +102,7 @@ impl Marks {
         self.mark();
     }
 
-    /// The deferrals whose number is reached are done (Linux's `rcu_segcblist_advance`).
+    /// Makes the deferrals done whose number is reached (Linux's `rcu_segcblist_advance`).
     fn advance(&mut self, number: u64)
         requires later { self.old.seen ≤ number }
         ensures state { self.new ≡ after_advance self.old number }
@@ -121,8 +122,8 @@ impl Marks {
         self.first = Batch::NONE;
     }
 
-    /// The deferrals that came since the last tend wait for the snapshot of its number (Linux's
-    /// `rcu_segcblist_accelerate`).
+    /// Lets the deferrals that came since the last tend wait for the snapshot of its number
+    /// (Linux's `rcu_segcblist_accelerate`).
     fn mark(&mut self)
         requires { self.old.seen ≤ 2 ^ 62 }
         ensures { self.new ≡ after_mark self.old }
@@ -157,7 +158,7 @@ impl Marks {
         count
     }
 
-    /// Returns whether there were as many as there may be.
+    /// Returns whether the limit of deferrals is reached.
     pub fn is_full(&self) -> bool
         ensures { result ≡ (deferred_of self.now == most_deferred) }
     {
@@ -186,8 +187,8 @@ impl Marks {
         self.seen
     }
 
-    /// The greatest number that a deferral waits for, none where none waits: once it is reached, a
-    /// tend makes all done that came before the last one.
+    /// Returns the greatest number that a deferral waits for, none if none waits. Once it is
+    /// reached, a tend makes all deferrals done that came before the last tend.
     pub fn last_until(&self) -> Option<u64>
         ensures last { result ≡ last_number self.now.waiting }
         ensures each { IfSome result (λ last. All (λ until. until ≤ last) self.now.waiting) }

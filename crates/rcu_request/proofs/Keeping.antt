@@ -1,4 +1,4 @@
--- The rule where the view of one end changes: what the others keep.
+-- The rule if the view of one end changes: what the others keep.
 use Rattle.std.proofs.Common.{◌≡◌, ◌≢◌, ℕ, zero, suc, ◌<◌, ◌≤◌, List, [], ◌∷◌, ◌++◌, length}
 use Rattle.std.proofs.Common.{get_or, set, true, false, Bool, refl, sym, ap, ◌∙◌, subst}
 use Rattle.std.proofs.Common.{⊎_elim, arith}
@@ -19,7 +19,8 @@ inside (x ∷ xs) (suc i) a e = let h = inside xs i a e in omega (arith, h)
 pub true_or_false : (b : Bool) → b ≡ true → b ≡ false → ⊥
 true_or_false b here there = cc
 
--- who raised the greatest request, where that stays, and what the changed end raised it to
+-- the end that raised the greatest request, if that stays, and the value to which the changed end
+-- raised it
 pub made_still : (s : Moment) → IsKept s → (id : ℕ) (v w : Knowledge) (words : List ℕ)
     → get_elem? s.views id ≡ some v → w.raised ≡ v.raised → get_or words 0 0 ≡ get_or s.words 0 0
     → IsRaised record { words = words; homes = s.homes; views = set s.views id w }
@@ -42,7 +43,7 @@ made_still s k id v w words at same number =
       is = m.is ∙ sym number;
     })
 
--- one view changes, and words do: the rule is kept where the others fit, and the changed one does
+-- one view changes, and words do: the rule is kept if the others fit, and the changed one does
 pub changed : (s : Moment) (k : IsKept s) (id : ℕ) (v w : Knowledge) (words : List ℕ)
     → get_elem? s.views id ≡ some v
     → cpu_index < length words
@@ -167,7 +168,7 @@ dealt s k = added
       };
     }
 
--- who raised the greatest request, where that is one that the sleeping driver did not find
+-- the end that raised the greatest request, if the sleeping driver did not find it
 pub woken : (s : Moment) (id : ℕ) (driver : Knowledge)
     → IsKept s
     → get_elem? s.views id ≡ some driver

@@ -1,4 +1,4 @@
--- The ends of the requests, and what a step leaves of one.
+-- The ends of the requests, and an end after a step.
 use Rattle.std.specs.Prelude.{◌≡◌, ℕ, ◌≤◌, ◌==◌, nat_lt, Bool, true, false, if◌then◌else◌, List}
 use Rattle.std.specs.Prelude.{replicate, slice_set, suc, Option, Some, None}
 use Rattle.atomic_table.specs.Seated.{TableId}
@@ -15,11 +15,11 @@ asleep_index = 16
 abbrev pub cpu_index : ℕ
 cpu_index = 32
 
--- that a driver sleeps, or not
+-- the word for a driver that sleeps, or does not
 abbrev pub asleep_word : Bool → ℕ
 asleep_word asleep = if asleep then 1 else 0
 
--- the processor for which a driver sleeps, or none
+-- the word for the processor for which a driver sleeps, or none
 abbrev pub cpu_word : Option ℕ → ℕ
 cpu_word None = 0
 cpu_word (Some cpu) = suc cpu
@@ -58,19 +58,19 @@ after_saying v word = record v { asleep = (word == 1); has_looked = false }
 abbrev pub after_finding : Knowledge → ℕ → Knowledge
 after_finding v n = record v { found = n; has_looked = true }
 
--- what that look tells: the greatest request never falls
+-- the relation of that look: the greatest request never falls
 pub record Found (v : Knowledge) (n : ℕ) (w : Knowledge) : Type 0 where
   pub state : w ≡ after_finding v n
   pub found : v.found ≤ n
   pub raised : v.raised ≤ n
 
--- after a thread raised the greatest request, which was n, to the cookie, where that is greater
+-- after a thread raised the greatest request, which was n, to the cookie, if that is greater
 abbrev pub after_raise : Knowledge → ℕ → ℕ → Knowledge
 after_raise v cookie n =
     if nat_lt n cookie then record v { raised = cookie; found = n; has_looked = false }
     else record v { found = n }
 
--- what that tells
+-- the relation of that raise
 pub record Raised (cookie : ℕ) (v : Knowledge) (n : ℕ) (w : Knowledge) : Type 0 where
   pub state : w ≡ after_raise v cookie n
   pub found : v.found ≤ n
@@ -84,13 +84,12 @@ after_look_at_driver v word = record v { asleep = (word == 1); has_looked = true
 abbrev pub knowing_cpu : Knowledge → ℕ → Knowledge
 knowing_cpu v word = record v { sleeps_for = word }
 
--- an end of the requests: at which words, and what it knows
+-- an end of the requests: its words, and its knowledge
 pub record Requesting : Type 0 where
   pub words : TableId
   pub knows : Knowledge
 
--- after a thread requested the cookie, where the greatest request was n, and the driver slept or
--- not
+-- after a thread requested the cookie, if the greatest request was n, and the driver slept or not
 abbrev pub after_request : Requesting → ℕ → ℕ → Bool → Requesting
 after_request w cookie n asleep = record w {
   knows = if nat_lt n cookie

@@ -1,4 +1,4 @@
--- The rule of the requests: what holds of the words and of all ends between any two atomic steps.
+-- The rule of the requests: an invariant of the words and of all ends between any two atomic steps.
 use Rattle.std.specs.Prelude.{◌≡◌, ℕ, ◌<◌, ◌≤◌, true, false, length, slice_index}
 use mathlib.Core.Option.{some}
 use lib.ListN.{get_elem?}
@@ -6,7 +6,7 @@ use Rattle.atomic_table.specs.Table.{State}
 use Rattle.rcu_request.specs.Requests.{asleep_index, asleep_word, cpu_index, greatest_index}
 use Rattle.rcu_request.specs.declared.knowledge.Knowledge.{Knowledge}
 
--- the words, and what each end knows
+-- the words, and the knowledge of each end
 abbrev pub Moment : Type 0
 Moment = State (Unit {0}) Knowledge
 
@@ -18,7 +18,7 @@ greatest_at s = slice_index s.words greatest_index
 abbrev pub cpu_at : Moment → ℕ
 cpu_at s = slice_index s.words cpu_index
 
--- what holds of an end, where these are the greatest request, the word by which the driver says
+-- the invariant of an end, if these are the greatest request, the word by which the driver says
 -- whether it sleeps, and the one by which it says for which processor
 pub record Fits (greatest word cpu : ℕ) (v : Knowledge) : Type 0 where
   -- it knows of no greater request
@@ -30,7 +30,7 @@ pub record Fits (greatest word cpu : ℕ) (v : Knowledge) : Type 0 where
   pub names : v.drives ≡ true → cpu ≡ v.sleeps_for
 
 -- a driver that sleeps, and looked since it said so, and a thread that looked at the driver since
--- it raised the greatest request: where that is a request that the driver did not find, the thread
+-- it raised the greatest request: if that is a request that the driver did not find, the thread
 -- found it asleep
 abbrev pub IsTold : Knowledge → Knowledge → Type 0
 IsTold driver thread =
@@ -42,7 +42,7 @@ IsTold driver thread =
     → driver.found < thread.raised
     → thread.asleep ≡ true
 
--- an end that raised the greatest request to what it is
+-- an end that raised the greatest request to its value
 pub record IsRaised (s : Moment) : Type 0 where
   pub by : ℕ
   pub knows : Knowledge
@@ -62,6 +62,6 @@ pub record IsKept (s : Moment) : Type 0 where
   pub told : (i j : ℕ) (v w : Knowledge)
       → get_elem? s.views i ≡ some v → get_elem? s.views j ≡ some w → IsTold v w
   -- the greatest request is at least the cookie that is done at any number, and some end raised it
-  -- to what it is
+  -- to its value
   pub least : 1 ≤ greatest_at s
   pub made : IsRaised s

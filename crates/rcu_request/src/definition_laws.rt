@@ -7,9 +7,9 @@ ghost use Rattle.rcu_request.specs.Rule.{IsKept, Moment, cpu_at, greatest_at};
 ghost use Rattle.rcu_request.specs.Requests.{IsNoLess, Requesting, driver_at_first, first_words};
 ghost use Rattle.rcu_request.specs.declared.knowledge.Knowledge.{Knowledge};
 
-/// The words as they are opened meet the rule. No moment does in which a request was lost, nor one
-/// whose greatest request comes from nowhere, nor one in which the driver sleeps through a request,
-/// nor one in which threads load another processor than the driver stored.
+/// The words as they are opened fulfil the rule. No moment does in which a request was lost, in
+/// which the greatest request was never made, in which the driver sleeps through a request, or in
+/// which threads load a processor other than the one that the driver stored.
 pub fn no_moment_has_lost_a_request()
     ensures opened { IsKept (opening first_words [] driver_at_first) }
     ensures lost { (s : Moment) (id : ℕ) (v : Knowledge) → get_elem? s.views id ≡ some v →
@@ -26,7 +26,7 @@ pub fn no_moment_has_lost_a_request()
         cpu_at s ≢ driver.sleeps_for → IsKept s → ⊥ }
 {}
 
-/// A greatest request that is no less than what an end knows is no less than the greatest one that
+/// A greatest request that is no less than an end's knowledge is no less than the greatest one that
 /// it found, and than its own request.
 pub fn no_less_is_of_what_was_found_and_what_was_requested()
     ensures found { (w : Requesting) (greatest : ℕ) → IsNoLess w greatest →

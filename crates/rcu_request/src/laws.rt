@@ -6,7 +6,7 @@ ghost use Rattle.rcu_request.specs.Rule.{IsKept, Moment, cpu_at, greatest_at};
 ghost use Rattle.rcu_request.specs.declared.knowledge.Knowledge.{Knowledge};
 
 /// No request is lost: the greatest request is at least each one that was made, and is one of them.
-/// A lesser one overwrites none, and none comes from nowhere.
+/// So a lesser request never overwrites a greater one, and the greatest one was really made.
 pub fn the_greatest_request_is_kept()
     ensures least { (s : Moment) (id : ℕ) (v : Knowledge) → IsKept s →
         get_elem? s.views id ≡ some v → v.raised ≤ greatest_at s }

@@ -1,5 +1,5 @@
-//! Requests for grace periods: a thread requests with no lock, and the driver finds the greatest
-//! request, or sleeps until a thread has to wake it. So does the driver while a processor is
+//! Requests for grace periods: a thread requests without a lock, and the driver finds the greatest
+//! request, or sleeps until a thread has to wake it. The driver also sleeps so while a processor is
 //! awaited.
 #![tactic(auto)]
 

@@ -1,4 +1,4 @@
-//! The words of requests, and each kind of step on them in plain words.
+//! The words of requests, and each kind of step on them.
 ghost use Rattle.std.specs.Prelude.{◌≡◌, ◌<◌, IfOk, false, true};
 ghost use Rattle.rcu_request.specs.Requests.{Found, Raised, after_look_at_driver, after_saying};
 ghost use Rattle.rcu_request.specs.Requests.{driver_at_first, first_words, knowing_cpu};
@@ -21,7 +21,7 @@ const ASLEEP: usize = 16;
 /// The place of the word by which the driver says for which processor it sleeps, 128 bytes on.
 const CPU: usize = 32;
 
-/// How many words there are: none of another object shares a cache line with the last one in use.
+/// The number of words: no word of another object shares a cache line with the last one in use.
 const COUNT: usize = 48;
 
 /// The request at first: a cookie that is done at any number.
@@ -79,7 +79,7 @@ impl RequestWords {
         seat
     }
 
-    /// Raises the greatest request to this cookie, if that is greater. Returns what it was.
+    /// Raises the greatest request to this cookie, if that is greater. Returns the previous one.
     pub(crate) fn raise(&self, thread: &mut RequestSeat, cookie: u64) -> u64
         requires table { thread.old.table_id ≡ self.now }
         requires thread { thread.old.me.0.drives ≡ false }
@@ -100,7 +100,7 @@ impl RequestWords {
         self.table.shared.load::<LookAtDriver>(thread, ASLEEP)
     }
 
-    /// The driver says whether it sleeps.
+    /// Stores whether the driver sleeps.
     pub(crate) fn say(&self, driver: &mut RequestSeat, word: u64)
         requires table { driver.old.table_id ≡ self.now }
         requires driver { driver.old.me.0.drives ≡ true }
@@ -119,7 +119,7 @@ impl RequestWords {
         self.table.shared.load::<Find>(driver, GREATEST)
     }
 
-    /// The driver says for which processor it sleeps: this number less 1, or none for 0.
+    /// Stores for which processor the driver sleeps: this number less 1, or none for 0.
     pub(crate) fn name_cpu(&self, driver: &mut RequestSeat, word: u64)
         requires table { driver.old.table_id ≡ self.now }
         requires driver { driver.old.me.0.drives ≡ true }

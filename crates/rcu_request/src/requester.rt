@@ -32,7 +32,7 @@ impl Model for Requester {
 }
 
 impl Requester {
-    /// Returns the end of these.
+    /// Returns a thread's end of these words.
     pub(crate) fn new(words: Arc<RequestWords, Global>, seat: RequestSeat) -> Requester
         requires table { seat.table_id ≡ arc_value words }
         requires thread { seat.me.0 ≡ thread_at_first }

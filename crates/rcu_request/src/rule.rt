@@ -1,4 +1,4 @@
-//! The rule of the words as the table takes it, and what each kind of step on them says.
+//! The rule of the words, for their table, and the meaning of each kind of step on them.
 ghost use Rattle.std.specs.Prelude.{◌≡◌};
 
 use crate::knowledge::Knowledge;
@@ -34,7 +34,7 @@ impl Play<(), Knowledge> for LookAtDriver {
     ghost then = { λ _ me n now. (now.0 ≡ after_look_at_driver me.0 n) × (now.1 ≡ me.1) };
 }
 
-/// The driver says whether it sleeps.
+/// The driver stores whether it sleeps.
 pub struct Say;
 
 impl Play<(), Knowledge> for Say {
@@ -52,7 +52,7 @@ impl Play<(), Knowledge> for Find {
     ghost then = { λ _ me n now. Found me.0 n now.0 × (now.1 ≡ me.1) };
 }
 
-/// The driver says for which processor it sleeps.
+/// The driver stores for which processor it sleeps.
 pub struct NameCpu;
 
 impl Play<(), Knowledge> for NameCpu {

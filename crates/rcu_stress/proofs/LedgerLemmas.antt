@@ -7,7 +7,7 @@ use Rattle.std.proofs.lemmas.List.Concat.{flat_map-append, length-flat_map}
 use Rattle.std.proofs.lemmas.List.Sums.{sum_by-append, sum_by-cons}
 use Rattle.rcu_stress.specs.Ledger.{Account, Counts, ids_in, parts, ran_in}
 
--- a sum over the first shares, where there are no more, and the program's own
+-- a sum over the first shares, if there are no more, and the program's own
 pub sum_in-from_first : (f : Counts → ℕ) (a : Account) (xs : List Counts) (i n m : ℕ)
     → xs ≡ a.shares → length xs ≤ i → n ≡ sum_by f (take i xs) → m ≡ n + f a.own
     → m ≡ sum_by f (parts a)

@@ -1,4 +1,4 @@
--- What a torture run counts, and the numbers of its workers.
+-- The counts of a torture run, and the numbers of its workers.
 use Rattle.std.proofs.Common.{◌≡◌, ℕ, ◌<◌, List, [], ◌∷◌, All, cond, count_by, arith, map, subst}
 use Rattle.std.proofs.Common.{◌∙◌, ◌++◌, ◌-◌, ap, refl, suc, sym, zero}
 use Rattle.std.proofs.lemmas.List.{append_assoc, get_or-map, length-map, map_push}
@@ -12,7 +12,7 @@ use Rattle.rcu_cblist.specs.declared.items.Queued.{Queued}
 use Rattle.rcu_live.specs.Engine.{HasWaited}
 use Rattle.rcu_stress.specs.Ledger.{is_early}
 
--- no callback came early where a full grace period has passed for each
+-- no callback came early if a full grace period has passed for each
 pub none_early : (n : ℕ) (calls : List (Queued ℕ)) → All (λ call. HasWaited n call.at) calls
     → count_by (is_early n) calls ≡ 0
 none_early n [] waited = omega arith
@@ -30,7 +30,7 @@ all_below n = λ k d inside.
     let at = get_or-range_with_len 0 n k d (omega (arith, inside, long)) in
     omega (arith, at, inside, long)
 
--- where so many have the first numbers, each has one of them
+-- if this number of them have the first numbers, each has one of them
 pub each_is_below : {X : Type 0} (f : X → ℕ) (n : ℕ) (xs : List X)
     → map f xs ≡ range_with_len 0 n → All (λ x. f x < n) xs
 each_is_below f n xs are = λ k d inside.
@@ -50,19 +50,19 @@ next_is_dealt worker cpu jobs job {more} {seats} {rest} {seat} pushed taken same
     ∙ append_assoc (map worker jobs) (cpu seat ∷ []) (map cpu rest)
     ∙ ap (λ xs. map worker jobs ++ map cpu xs) (sym taken) ∙ dealt
 
--- what all are, the first one is, and those behind it are
+-- a property of all is one of the first and of those behind it
 pub first_and_rest_are : {X : Type 0} (P : X → Type 0) {x : X} {xs ys : List X}
     → xs ≡ x ∷ ys → All P xs → P x × All P ys
 first_and_rest_are P {x} {xs} {ys} is each =
     let all = subst (All P) is each in (All-head P x ys all, All-tail P x ys all)
 
--- the first of so many, and the others
+-- the first of this number, and the others
 pub range_from_0 : (n : ℕ) → 0 < n → range_with_len 0 n ≡ 0 ∷ range_with_len 1 (n - 1)
 range_from_0 zero some = absurd (omega arith)
 range_from_0 (suc n) some =
     let same : n ≡ suc n - 1 = omega arith in ap (λ k. 0 ∷ range_with_len 1 k) same
 
--- what is made of numbers, one each, has them
+-- values made from numbers, one each, have them
 pub numbers_made : {X : Type 0} (number : X → ℕ) (make : ℕ → X) → ((k : ℕ) → number (make k) ≡ k)
     → (ks : List ℕ) → map number (map make ks) ≡ ks
 numbers_made number make same [] = refl

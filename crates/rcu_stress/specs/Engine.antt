@@ -4,10 +4,10 @@ use Rattle.rcu_cblist.specs.declared.items.Queued.{Queued}
 use Rattle.rcu_state.specs.declared.gp_state.Turned.{Turned}
 use Rattle.rcu_live.specs.declared.grace_periods.Collected.{Collected}
 
--- a call, and the engine's answer: a collection of a processor; a turn; a tending of a processor,
--- with how many of its callbacks are done and how many wait; a queueing at a processor of a value,
--- with how many callbacks are queued then; a run of a processor, of so many callbacks at most, with
--- the number and what was handed out; a departure, with how many callbacks moved
+-- a call, and the engine's answer: a collection of a processor; a turn; a tend of a processor, with
+-- how many of its callbacks are done and how many wait; a queue call at a processor with a value,
+-- with how many callbacks were queued; a run of a processor with a limit, with the number and the
+-- callbacks handed out; a departure, with how many callbacks moved
 pub data LockedAnswer : Type 0 where
   Collecting : (cpu : ℕ) → Collected → LockedAnswer
   Turning : Turned → LockedAnswer

@@ -1,4 +1,4 @@
--- What workers did: the share of each, and the ledger over all of them.
+-- The actions of workers: the share of each, and the ledger over all of them.
 use Rattle.std.specs.Prelude.{ℕ, ◌+◌, ◌-◌, ◌*◌, ◌≤◌, ◌==◌, Bool, List, [], ◌∷◌, ◌++◌, count_by}
 use Rattle.std.specs.Prelude.{if◌then◌else◌, length, map, nat_lt, sum_by}
 use Rattle.std.specs.List.{flat_map}
@@ -13,8 +13,8 @@ most_workers = 64
 abbrev pub most_rounds : ℕ
 most_rounds = 10000
 
--- a share: how many callbacks were queued, how often something came early, the ids of the callbacks
--- that were handed out, in order, and for how many more of them there is room
+-- a share: how many callbacks were queued, how often a cookie or a callback came early, the ids of
+-- the callbacks that were handed out, in order, and for how many more of them it has room
 pub record Counts : Type 0 where
   pub queued : ℕ
   pub early : ℕ
@@ -25,9 +25,9 @@ pub record Counts : Type 0 where
 abbrev pub most_in_round : ℕ
 most_in_round = 8
 
--- what a worker counts in so many rounds, at most: a callback queued and a cookie that came early
--- in each, and so many handed out after each queueing. A callback that is handed out never comes
--- early
+-- the most that a worker counts in this number of rounds: in each round one queued callback, one
+-- cookie that came early, and a fixed number of callbacks handed out after it queued one. A
+-- callback that is handed out never comes early
 pub record IsOfRounds (rounds : ℕ) (s : Counts) : Type 0 where
   pub queued : s.queued ≤ rounds
   pub early : s.early ≤ rounds
@@ -37,11 +37,11 @@ pub record IsOfRounds (rounds : ℕ) (s : Counts) : Type 0 where
 abbrev pub ran_of : Counts → ℕ
 ran_of s = length s.ids
 
--- after a poll of a cookie inside the section in which it was taken, which told whether it was done
+-- after a poll of a cookie inside the section in which it was taken, with this answer
 abbrev pub after_poll : Counts → Bool → Counts
 after_poll s done = record s { early = s.early + (if done then 1 else 0) }
 
--- whether a callback that was handed out at this number came early: the snapshot of its queueing is
+-- a callback that was handed out at this number came early: the snapshot at which it was queued is
 -- above the number
 abbrev pub is_early : Number → Queued ℕ → Bool
 is_early number call = nat_lt number (snapshot call.at.number)
@@ -77,6 +77,7 @@ early_in a = sum_by (λ s. s.early) (parts a)
 abbrev pub ids_in : Account → List ℕ
 ids_in a = flat_map (λ s. s.ids) (parts a)
 
--- how many handings out were of an id that another one had: all of them less the different ids
+-- how many callbacks were handed out with an id that another one had: all of them less the
+-- different ids
 abbrev pub twice_in : Account → ℕ
 twice_in a = length (ids_in a) - distinct_count (λ x y. x == y) (ids_in a)

@@ -1,4 +1,4 @@
--- A worker of a torture run: what its words say, and what it does in a round.
+-- A worker of a torture run: the meaning of its words, and its actions in a round.
 use Rattle.std.specs.Prelude.{◌≡◌, ℕ, ◌+◌, ◌*◌, ◌/◌, ◌%◌, ◌<◌, ◌≤◌, ◌==◌, ◌&&◌, ◌⊎◌, Bool, false}
 use Rattle.std.specs.Prelude.{not, true, if◌then◌else◌, All, IsSomeAnd, List, length, map}
 use Rattle.std.specs.List.{range_with_len}
@@ -26,8 +26,8 @@ pub record Worker : Type 0 where
   pub seat : Seated (Unit {0})
   pub watcher : Watching (Unit {0})
 
--- a seat and a watcher of this engine for each of so many workers; the seats are of the workers'
--- processors, in order
+-- a seat and a watcher of this engine for each of this number of workers; the seats are of the
+-- workers' processors, in order
 pub record AreOfWorkers (engine : Object (Unit {0})) (workers : ℕ)
     (seats : List (Seated (Unit {0})))
     (watchers : List (Watching (Unit {0}))) : Type 0 where
@@ -48,30 +48,30 @@ pub record AreJobs (settings : RunSettings) (jobs : List Worker) : Type 0 where
 abbrev pub word_of : Worker → ℕ
 word_of w = (pcg32 w.draws).0
 
--- the id of the callback that a worker queues in a round of so many
+-- the id of the callback that a worker queues in a round, by the number of rounds
 abbrev pub id_of : ℕ → ℕ → ℕ → ℕ
 id_of worker rounds round = worker * rounds + round
 
--- the processor, of so many, at which a worker looks in a round, by its word
+-- the processor, of this number of them, that a worker collects from in a round, by its word
 abbrev pub other_by : ℕ → ℕ → ℕ
 other_by workers word = word / 8 % workers
 
--- whether a worker goes offline and online again in a round, by its word: processor 0 never does
+-- a worker goes offline and online again in a round, by its word: processor 0 never does
 abbrev pub leaves_by : ℕ → ℕ → Bool
 leaves_by worker word = not (worker == 0) && (word / 4 % 8 == 0)
 
--- whether a worker gets idle and wakes at the end of a round, by its word
+-- a worker becomes idle and wakes at the end of a round, by its word
 abbrev pub sleeps_by : ℕ → Bool
 sleeps_by word = word / 64 % 4 == 0
 
 -- how often a worker's seat stores in a round, by its word: once to pass a quiescent state, twice
--- to go offline and come back, and twice to get idle and wake
+-- to go offline and come back, and twice to become idle and wake
 abbrev pub stores_by : ℕ → ℕ → ℕ
 stores_by worker word =
     1 + (if leaves_by worker word then 2 else 0) + (if sleeps_by word then 2 else 0)
 
--- how often a worker's watcher has looked in a round when it comes to a place of it: not yet where
--- the section is open and no cookie is taken; twice where the cookie was taken and polled
+-- how often a worker's watcher has loaded the number in a round when it comes to a place of it: not
+-- yet if the section is open and no cookie is taken; twice if the cookie was taken and polled
 abbrev pub looks_by : Point → ℕ
 looks_by Entered = 0
 looks_by Polled = 2
@@ -87,7 +87,7 @@ pub record HasStoredNothing (before after : Seated (Unit {0})) : Type 0 where
   pub stored : after.view.stores ≡ before.view.stores
 
 -- a worker read: the gate let it pass at both places of its section, which is closed; its watcher
--- looked twice, and its seat passed a quiescent state
+-- loaded the number twice, and its seat passed a quiescent state
 pub record HasRead (answers : ℕ → Point → Bool → Type 0) (before after : Worker) : Type 0 where
   pub entered : answers before.worker Entered true
   pub polled : answers before.worker Polled true
@@ -95,18 +95,18 @@ pub record HasRead (answers : ℕ → Point → Bool → Type 0) (before after :
   pub closed : after.seat.depth ≡ 0
   pub stored : after.seat.view.stores ≡ before.seat.view.stores + 1
 
--- a run of a processor, of at most so many callbacks, was answered so to a worker whose seat had
--- stored so often, and was taken down
+-- a run of a processor, with a limit, got this answer for a worker whose seat had stored this
+-- often, and was recorded
 pub record HasHandedOut (answers : ℕ → LockedAnswer → Type 0) (stores cpu most : ℕ)
     (before after : Counts) (ran : Ran ℕ) : Type 0 where
   pub answered : answers stores (Running cpu most ran.number ran.calls.items)
   pub few : length ran.calls.items ≤ most
   pub taken : after ≡ record (after_run before ran.number ran.calls.items) { room = after.room }
 
--- a round in which the gate let the worker pass, what it added to the share, and what the engine
--- told. Once its seat had passed a quiescent state, the worker queued the round's callback,
--- collected of the processor at which it looks, turned, and tended and ran its own; then it left,
--- where its word says so
+-- a round in which the gate let the worker pass, its additions to the share, and the engine's
+-- answers. After its seat had passed a quiescent state, the worker queued the round's callback,
+-- collected from the processor of its word, turned, and tended and ran its own callbacks; then it
+-- left, if its word says so
 pub record HasPassed (answers : ℕ → LockedAnswer → Type 0) (before : Worker) (counts : Counts)
     (round : ℕ) (after : Worker) (now : Counts) (told : RoundAnswers) : Type 0 where
   pub counted : now.queued ≡ counts.queued + 1

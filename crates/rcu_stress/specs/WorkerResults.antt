@@ -1,11 +1,11 @@
--- What workers gave back.
+-- The results of workers.
 use Rattle.std.specs.Prelude.{◌≡◌, ◌+◌, ◌++◌, [], ◌∷◌, vec_capacity, vec_len}
 use Rattle.std.specs.Option.{option_or}
 use Rattle.rcu_stress.specs.declared.job.WorkerResult.{WorkerResult}
 use Rattle.rcu_stress.specs.declared.workers.WorkerResults.{WorkerResults}
 
--- what the next worker gave back was taken in, in the room for it: its fault counts where no
--- earlier worker met one
+-- the result of the next worker was added, in the room for it: its fault counts if no earlier
+-- worker has one
 pub record HasAdded (before : WorkerResults) (next : WorkerResult) (after : WorkerResults)
     : Type 0 where
   pub shares : after.shares.items ≡ before.shares.items ++ next.share ∷ []

@@ -23,7 +23,8 @@ impl Model for Draws {
 }
 
 impl Draws {
-    /// The draws of a worker: its generator is seeded by the seed with the worker added, wrapping.
+    /// Returns the draws of a worker: its generator's seed is the sum of the seed and the worker,
+    /// wrapping.
     pub fn new(seed: u64, worker: u32) -> Draws
         ensures { result ≡ generator_of seed worker }
     {

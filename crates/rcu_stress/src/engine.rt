@@ -1,4 +1,4 @@
-//! The engine that workers work, and what its answers show.
+//! The engine of the workers, and its answers.
 ghost use Rattle.std.specs.Prelude.{◌≡◌, ℕ, IfErr, IfOk, OnErr, OnOk, true};
 ghost use Rattle.rcu_live.specs.CpuSeat.{after_depart, after_quiesce};
 ghost use Rattle.rcu_live.specs.EngineLists.{AreDue, is_run_fault};
@@ -16,49 +16,49 @@ pub(crate) type Engine = Live<4, 4, u64>;
 
 /// The calls of an engine that take its lock, as workers make them.
 ///
-/// The definitions say of an answer only its call, and how often the worker's seat had stored by
+/// The definitions fix of an answer only its call, and how often the worker's seat had stored by
 /// then. So a function that has to return the answer has to make that call, at that place of its
 /// round.
 pub(crate) trait LockedCalls: Shared<NoClient> + Drop {
-    // It may answer a worker so whose seat had stored so often.
+    // This answer is possible for a worker whose seat had stored this often.
     ghost answers: { ℕ → LockedAnswer → Type 0 };
 
-    /// As [`Live::collect`].
+    /// Does as [`Live::collect`].
     fn collect<R: Wait>(&self, rt: &R, seat: &CpuSeat, cpu: u32) -> Result<Collected, Fault>
         ensures told { IfOk result (λ found.
             answers seat.now.view.stores (Collecting cpu found)) };
 
-    /// As [`Live::turn`].
+    /// Does as [`Live::turn`].
     fn turn<R: Wait>(&self, rt: &R, seat: &CpuSeat) -> Result<Turned, Fault>
         ensures told { IfOk result (λ turned. answers seat.now.view.stores (Turning turned)) };
 
-    /// As [`Live::tend`].
+    /// Does as [`Live::tend`].
     fn tend<R: Wait>(&self, rt: &R, seat: &CpuSeat, cpu: u32) -> Result<(u64, u64), Fault>
         ensures told { IfOk result (λ counts.
             answers seat.now.view.stores (Tending cpu counts)) };
 
-    /// As [`Live::queue`].
+    /// Does as [`Live::queue`].
     fn queue<R: Wait>(&self, rt: &R, seat: &mut CpuSeat, value: u64) -> Result<u64, Refused<u64>>
         requires { seat.old.table ≡ (Self.object self.now).table }
         ensures seat { seat.new ≡ seat.old }
         ensures told { IfOk result (λ count.
             answers seat.old.view.stores (Queueing seat.old.cpu value count)) };
 
-    /// As [`Live::run`].
+    /// Does as [`Live::run`].
     fn run<R: Wait>(&self, rt: &R, seat: &CpuSeat, cpu: u32, max: u64) -> Result<Ran<u64>, Fault>
         ensures due { IfOk result (λ ran. AreDue ran.number max ran.calls.items) }
         ensures fault { IfErr result (λ fault. is_run_fault fault ≡ true) }
         ensures told { IfOk result (λ ran.
             answers seat.now.view.stores (Running cpu max ran.number ran.calls.items)) };
 
-    /// As [`Live::online`].
+    /// Does as [`Live::online`].
     fn online<R: Wait>(&self, rt: &R, seat: &mut CpuSeat) -> Result<(), Fault>
         requires { seat.old.table ≡ (Self.object self.now).table }
         ensures table { seat.new.table ≡ seat.old.table }
         ensures state { OnOk result (seat.new ≡ after_quiesce seat.old seat.new.view.seen) }
         ensures unchanged { OnErr result (seat.new ≡ seat.old) };
 
-    /// As [`Live::offline`].
+    /// Does as [`Live::offline`].
     fn offline<R: Wait>(&self, rt: &R, seat: &mut CpuSeat) -> Result<u64, Fault>
         requires { seat.old.table ≡ (Self.object self.now).table }
         ensures table { seat.new.table ≡ seat.old.table }

@@ -11,9 +11,9 @@ pub enum Point {
     Polled,
 }
 
-/// Decides whether workers go on, so that a test can hold them up or end them early.
+/// Decides whether workers go on. A test can delay workers with it, or end them early.
 pub trait Gate: Sync {
-    // It may answer a worker so at a place of its round.
+    // This answer is possible for a worker at a place of its round.
     ghost answers: { ℕ → Point → Bool → Type 0 } = { λ _ _ _. Unit {0} };
 
     /// Returns whether the worker goes on at this place of its round. If it does not, it closes its

@@ -54,7 +54,7 @@ fn close<E: LockedCalls>(live: &E, seat: &mut CpuSeat)
 /// Hands out at most `most` callbacks of a processor to this share, and returns them. It makes room
 /// for them first: a refused call hands out none.
 ///
-/// Faults: `BadCpu` (1) if there is no such processor; `NoMemory` (16).
+/// Faults: `BadCpu` (1) if the processor does not exist; `NoMemory` (16).
 fn hand_out<R: Wait, E: LockedCalls>(
     rt: &R,
     live: &E,
@@ -85,7 +85,7 @@ pub(crate) struct RunSettings {
     pub(crate) seed: u64,
 }
 
-/// The result of a worker: its share, and the first fault that it met.
+/// The result of a worker: its share, and its first fault.
 #[derive(Drop)]
 pub(crate) struct WorkerResult {
     pub(crate) share: LedgerShare,
@@ -129,7 +129,7 @@ impl<'a, E: LockedCalls> Model for Job<'a, E> {
 }
 
 impl<'a, E: LockedCalls> Job<'a, E> {
-    /// The job of the worker whose number is this seat's processor, on this watcher.
+    /// Returns the job of the worker whose number is this seat's processor, with this watcher.
     pub(crate) fn new(
         alloc: Global,
         live: &'a E,
@@ -171,7 +171,7 @@ impl<'a, E: LockedCalls> Job<'a, E> {
         self.live.online(rt, &mut self.seat)
     }
 
-    /// Runs the rounds, and takes the processor offline. A fault there counts as met.
+    /// Runs the rounds, and takes the processor offline. A fault there counts too.
     pub(crate) fn run<R: Wait, G: Gate>(mut self, rt: &R, gate: &G) -> WorkerResult
         ensures share { IsOfRounds self.entry.settings.rounds result.share }
         ensures whole { IfNone result.fault ((result.share.queued ≡ self.entry.settings.rounds)
@@ -185,8 +185,8 @@ impl<'a, E: LockedCalls> Job<'a, E> {
         }
     }
 
-    /// Runs the rounds, to the first at which the gate does not let the worker pass or a fault is
-    /// met. No section is open then.
+    /// Runs the rounds, up to the first in which the gate does not let the worker pass or a fault
+    /// occurs. No section is open then.
     pub(crate) fn run_rounds<R: Wait, G: Gate>(&mut self, rt: &R, gate: &G) -> WorkerResult
         ensures share { IsOfRounds self.old.settings.rounds result.share }
         ensures whole { IfNone result.fault ((result.share.queued ≡ self.old.settings.rounds)
@@ -306,8 +306,8 @@ impl<'a, E: LockedCalls> Job<'a, E> {
     }
 
     /// Returns whether the gate lets the worker go on at a place inside its section: after it
-    /// entered, with no load more than before; or after two loads more, by which it took its cookie
-    /// and polled it.
+    /// entered, with no further load; or after two further loads, by which it took its cookie and
+    /// polled it.
     fn pass<G: Gate>(&self, gate: &G, point: Point) -> bool
         ghost looks: { ℕ }
         requires inside { 0 < self.now.seat.depth }
@@ -410,7 +410,7 @@ impl<'a, E: LockedCalls> Job<'a, E> {
         Ok(())
     }
 
-    /// Drives one grace period, which no other processor holds up.
+    /// Drives one grace period, which no other processor blocks.
     fn pass_period<R: Wait>(&mut self, rt: &R) -> Result<(), Fault>
         ensures rest { self.new ≡ record self.old { seat = self.new.seat } }
     {
@@ -431,7 +431,8 @@ impl<'a, E: LockedCalls> Job<'a, E> {
         for _ in 0..2 {
             self.pass_period(rt)?;
         }
-        // Nobody else works the engine any more: no more are done than the tend tells.
+        // No other thread uses the engine any more: no more callbacks are done than the tend
+        // returned.
         let (done, _) = self.live.tend(rt, &self.seat, self.worker)?;
         let mut share = LedgerShare::new(self.alloc);
         hand_out(

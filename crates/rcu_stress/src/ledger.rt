@@ -18,7 +18,7 @@ struct Sums {
 }
 
 impl Sums {
-    /// Those over no share.
+    /// Returns the sums over no share.
     fn new(alloc: Global) -> Sums
         ensures queued { result.queued ≡ 0 }
         ensures early { result.early ≡ 0 }
@@ -62,9 +62,9 @@ fn count_twice(alloc: Global, ids: &[u64]) -> Result<u64, AllocError>
 /// totals.
 #[derive(Drop)]
 pub struct Ledger {
-    /// Those of the workers, in order.
+    /// The shares of the workers, in order.
     shares: Vec<LedgerShare>,
-    /// That of the program.
+    /// The share of the program.
     own: LedgerShare,
     queued: u64,
     ran: u64,
@@ -93,7 +93,7 @@ impl Model for Ledger {
 }
 
 impl Ledger {
-    /// The ledger over these shares of workers, at most 64, and the program's own.
+    /// Returns the ledger over these shares of workers, at most 64, and the program's own.
     pub(crate) fn of(
         alloc: Global,
         shares: Vec<LedgerShare>,

@@ -1,4 +1,4 @@
-//! Threads that work the running engine hard, and the ledger of what they did.
+//! Threads that stress the running engine, and the ledger of their actions.
 #![tactic(auto)]
 
 pub mod definition_laws;

@@ -16,15 +16,15 @@ use std::alloc::Global;
 use std::sync::Wait;
 use std::thread::Threads;
 
-/// The last number of a run's engine, the greatest that there is.
+/// The last number of a run's engine, the greatest possible one.
 const LAST: u64 = 1 << 62;
 
 /// Stresses the running engine with `workers` workers, each on a thread of its own with a processor
-/// of its own, for `rounds` rounds, and then alone until nothing is left. A worker draws its words
-/// by the seed, and passes the gate twice a round.
+/// of its own, for `rounds` rounds, and then alone until no callback is left. The seed determines
+/// the words that a worker draws. A worker passes the gate twice a round.
 ///
-/// Returns the ledger. Faults: the first one that the lowest worker met, else the one that the
-/// program met, of which only 16 is expected.
+/// Returns the ledger. Faults: the first fault of the lowest worker that has one, else that of the
+/// program, of which only 16 is expected.
 pub fn torture<R: Threads + Wait + Sync, G: Gate>(
     alloc: Global,
     rt: &R,
@@ -51,8 +51,8 @@ pub fn torture<R: Threads + Wait + Sync, G: Gate>(
     run_jobs(rt, alloc, gate, first, others, results)
 }
 
-/// Does the jobs, and then works alone, as the first worker, until nothing is left. What the
-/// workers give back is added to these results, which are none and have room for it.
+/// Does the jobs, and then works alone, as the first worker, until no callback is left. Adds the
+/// results of the workers to these results, which are none and have room for them.
 ///
 /// Its faults are those of `torture`.
 fn run_jobs<R: Threads + Wait + Sync, G: Gate>(
@@ -74,7 +74,7 @@ fn run_jobs<R: Threads + Wait + Sync, G: Gate>(
     make_ledger(alloc, results, own)
 }
 
-/// The ledger of the workers' results and of the program's own share.
+/// Returns the ledger of the workers' results and of the program's own share.
 ///
 /// Faults: the workers', else the program's, else 16.
 fn make_ledger(

@@ -1,4 +1,4 @@
-//! What one worker did.
+//! The actions of one worker.
 ghost use Rattle.std.specs.Prelude.{◌≡◌, ◌+◌, ◌<◌, ◌≤◌, ◌^◌, All, OnErr, OnOk, [], length};
 ghost use Rattle.rcu_stress.specs.Ledger.{after_run, most_rounds, ran_of};
 
@@ -8,12 +8,12 @@ use std::alloc::{AllocError, Global};
 use std::marker::Model;
 
 /// The actions of one worker, or of the program at the end: how many callbacks it queued, the ids
-/// of those that were handed out to it, and how often something came early.
+/// of those that were handed out to it, and how often a cookie or a callback came early.
 #[derive(Drop)]
 pub struct LedgerShare {
     queued: u64,
     early: u64,
-    /// In the order of the handing out.
+    /// The ids in the order in which the callbacks were handed out.
     ids: Vec<u64>,
 }
 
@@ -63,8 +63,9 @@ impl LedgerShare {
         self.ids.len() as u64
     }
 
-    /// Returns how often something came early: a cookie that was done inside the section in which
-    /// it was taken, or a callback that was handed out before a full grace period had passed.
+    /// Returns how often a cookie or a callback came early: a cookie that was done inside the
+    /// section in which it was taken, or a callback that was handed out before a full grace period
+    /// had passed.
     pub fn early(&self) -> u64
         ensures early { result ≡ self.now.early }
         ensures bounded { result ≤ most_rounds + length self.now.ids }
@@ -79,7 +80,7 @@ impl LedgerShare {
         self.ids.as_slice()
     }
 
-    /// Counts one queued callback more.
+    /// Counts one more queued callback.
     pub(crate) fn note_queued(&mut self)
         requires { self.old.queued < most_rounds }
         ensures { self.new ≡ record self.old { queued = self.old.queued + 1 } }

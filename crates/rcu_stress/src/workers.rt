@@ -19,9 +19,9 @@ use std::thread::Threads;
 /// The results of workers.
 #[derive(Drop)]
 pub(crate) struct WorkerResults {
-    /// In the order of the workers.
+    /// The shares in the order of the workers.
     pub(crate) shares: Vec<LedgerShare>,
-    /// The first fault of the lowest worker that met one.
+    /// The first fault of the lowest worker that has one.
     pub(crate) fault: Option<Fault>,
 }
 
@@ -48,10 +48,10 @@ impl WorkerResults {
     }
 }
 
-/// The jobs of a run: that of worker 0, and those of the others in order, whose processors are
-/// brought online.
+/// Returns the jobs of a run: that of worker 0, and those of the others in order. It brings the
+/// processors of the others online.
 ///
-/// Faults: `NoMemory` (16). It passes on `AlreadyOnline` (3), which it never meets.
+/// Faults: `NoMemory` (16). It would pass on `AlreadyOnline` (3), but that never occurs.
 pub(crate) fn deal_jobs<'a, R: Wait>(
     rt: &R,
     alloc: Global,
@@ -83,7 +83,7 @@ pub(crate) fn deal_jobs<'a, R: Wait>(
 }
 
 /// Runs the first job here, and each other one on a thread of its own, or here if no thread can be
-/// made. Adds their results, for which there is room: first that of the first job, and then the
+/// made. Adds their results, for which there is room: that of the first job, and then those of the
 /// others in order.
 pub(crate) fn run_all<R: Threads + Wait + Sync, G: Gate>(
     rt: &R,

@@ -1,4 +1,4 @@
--- What an order leaves between a reader and a writer.
+-- The effect of an order between a reader and a writer.
 use Rattle.std.specs.Prelude.{◌≡◌, ℕ, List, Result, Ok, Err, length}
 use Rattle.rcu_seq.specs.declared.fault.Fault.{Fault}
 use Rattle.rcu_core.specs.declared.reply.Reply.TheVariants as reply
@@ -15,7 +15,7 @@ use Rattle.rcu_stress.specs.Ledger.{Account}
 use Rattle.rcu_torture.specs.LedgerText.{ledger_text}
 
 -- the ledger of a run with a share for each worker was printed, or the writer failed in its lines;
--- at a fault nothing was
+-- at a fault nothing was printed
 abbrev pub PrintsRun : Result (Unit {0}) RunFault → ℕ → ℕ → Outgoing → Outgoing → Type 0
 PrintsRun (Ok x) workers rounds old new =
     (ledger : Account)
@@ -28,15 +28,15 @@ PrintsRun (Err Write) workers rounds old new =
     × BreaksOff old new (ledger_text workers rounds ledger)
 PrintsRun (Err (Open fault)) workers rounds old new = new ≡ old
 
--- it was done as the order says: the lines were answered as those of a script, or of a pair; or
--- nothing was read, and the ledger of a torture run was printed
+-- the order was done: the lines were answered as those of a script, or of a pair; or nothing was
+-- read, and the ledger of a torture run was printed
 abbrev pub Answers : Result (Unit {0}) RunFault → Order → Ends → Ends → Type 0
 Answers ran (Script setup) old new = RunsScript ran setup old new
 Answers ran (Pair setup) old new = RunsPair ran setup old new
 Answers ran (Torture workers rounds seed) old new =
     (new.reader ≡ old.reader) × PrintsRun ran workers rounds old.writer new.writer
 
--- the line of a fault, as a reply has it
+-- the line of a fault, in the form of a reply
 abbrev pub fault_line : Fault → List ℕ
 fault_line fault = text_of (reply.Fault fault)
 
@@ -47,8 +47,8 @@ TellsFault fault (Err Read) old new = ⊥
 TellsFault fault (Err Write) old new = BreaksOff old new (fault_line fault)
 TellsFault fault (Err (Open told)) old new = (told ≡ fault) × Takes old new (fault_line fault)
 
--- a run that ended so was told: the fault for which it was refused is printed, and of any other end
--- nothing
+-- the end of a run was reported: the fault for which it was refused is printed, and nothing for any
+-- other end
 abbrev pub Tells : Result (Unit {0}) RunFault → Result (Unit {0}) RunFault → Outgoing → Outgoing
     → Type 0
 Tells (Ok x) result old new = (result ≡ Ok x) × (new ≡ old)
@@ -56,7 +56,7 @@ Tells (Err Read) result old new = (result ≡ Err Read) × (new ≡ old)
 Tells (Err Write) result old new = (result ≡ Err Write) × (new ≡ old)
 Tells (Err (Open fault)) result old new = TellsFault fault result old new
 
--- the order was performed: it was done, which ended so, and then that was told
+-- the order was performed: it was done, with this end, and then the end was reported
 pub record Performs (result : Result (Unit {0}) RunFault) (order : Order)
     (old new : Ends) : Type 0 where
   pub ran : Result (Unit {0}) RunFault

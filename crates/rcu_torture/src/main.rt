@@ -20,7 +20,8 @@ use std::sync::Wait;
 use std::thread::Threads;
 use std::{env, io};
 
-/// The status after a command line that is refused or asks for help, and one that was not read.
+/// The status after a command line that is refused or asks for help, and after one that was not
+/// read.
 const REFUSED: u8 = 2;
 
 fn main(rt: HostRuntime) -> ExitCode {
@@ -38,8 +39,8 @@ fn arguments<R: Env + AllocGlobal>(rt: &R) -> io::Result<Vec<String>> {
     Ok(env::args(rt)?.skip(1).collect(rt.alloc())?)
 }
 
-/// Performs the order of the words, or prints why they are refused. The text is `clap`'s, which
-/// ends its last line.
+/// Performs the order of the words, or prints why they are refused. The text is that of `clap`,
+/// which ends its last line.
 fn run_words<R>(rt: &R, words: &[String]) -> u8
 where
     R: AllocGlobal + Input + Print + Eprint + Threads + Wait + Sync,
@@ -60,8 +61,8 @@ fn read_order(alloc: Global, words: &[String]) -> Result<Order, clap::Error>
     read_command(alloc, &texts)
 }
 
-/// Performs the order between standard input and standard output, and says on standard error why
-/// that stopped.
+/// Performs the order between standard input and standard output, and prints on standard error why
+/// it stopped.
 fn answer<R>(rt: &R, order: &Order) -> u8
 where
     R: AllocGlobal + Input + Print + Eprint + Threads + Wait + Sync,

@@ -1,4 +1,4 @@
-//! What the program prints beside replies.
+//! The texts that the program prints besides replies.
 ghost use Rattle.std.specs.Prelude.{◌≡◌, []};
 ghost use Rattle.rcu_text.specs.Outputs.{Puts};
 ghost use Rattle.rcu_text.specs.Streams.{Writes};
@@ -11,7 +11,7 @@ use rcu_seq::Fault;
 use rcu_stress::Ledger;
 use rcu_text::{BlockWriter, Failed, Output, Sink, put_numbered};
 
-/// Prints a fault as a reply is printed. If the writer fails, it took a prefix of the line.
+/// Prints a fault in the form of a reply. If the writer fails, it took a prefix of the line.
 pub fn print_fault<W: Sink>(writer: &mut W, fault: Fault) -> Result<(), Failed>
     ensures { Writes result (W.outgoing writer.old) (W.outgoing writer.new) (fault_line fault) }
 {
@@ -19,7 +19,7 @@ pub fn print_fault<W: Sink>(writer: &mut W, fault: Fault) -> Result<(), Failed>
     send_fault(&mut out, fault)
 }
 
-/// Writes a fault's line through an output with no bytes waiting.
+/// Writes a fault's line through an output without buffered bytes.
 fn send_fault<O: Output>(out: &mut O, fault: Fault) -> Result<(), Failed>
     requires { (O.out out.old).waiting ≡ [] }
     ensures bytes { Writes result (O.out out.old).writer (O.out out.new).writer
@@ -45,7 +45,7 @@ pub fn print_ledger<W: Sink>(
     send_ledger(&mut out, workers, rounds, ledger)
 }
 
-/// Writes a ledger's lines through an output with no bytes waiting.
+/// Writes a ledger's lines through an output without buffered bytes.
 fn send_ledger<O: Output>(
     out: &mut O,
     workers: u32,
@@ -61,7 +61,7 @@ fn send_ledger<O: Output>(
     out.flush()
 }
 
-/// Puts a ledger's lines after the bytes that wait.
+/// Puts a ledger's lines after the buffered bytes.
 fn put_ledger<O: Output>(
     out: &mut O,
     workers: u32,

@@ -1,9 +1,9 @@
-//! What help says behind the options, and the version.
+//! The help texts behind the options, and the version.
 
 /// The version of the library.
 pub const VERSION: &str = "0.3.0";
 
-/// Of the program.
+/// The help of the program.
 pub const PROGRAM: &str = "\
 Each line on standard input is an event. The reply to it is a line on standard output. Try:
   printf 'begin\\nnote 0\\nquiet 0\\ndeliver 1\\nend\\n' | rcu script --leaf 2 --inner 2 --cpus 1
@@ -13,7 +13,7 @@ Each line on standard input is an event. The reply to it is a line on standard o
 Exit status: 0; 1 if the run was refused ('fault N') or a stream failed; 2 if the command line was
 refused or asked for help.";
 
-/// Of `script`.
+/// The help of `script`.
 pub const SCRIPT: &str = "\
 --leaf and --inner are one of these pairs, with the most processors that it can hold:
   2 2: 16    2 3: 54    4 4: 256    16 64: 4096    64 64: 4096
@@ -44,7 +44,7 @@ Examples:
   printf 'begin\\nnote 0\\nquiet 0\\ndeliver 1\\nend\\n' | rcu script --leaf 2 --inner 2 --cpus 1
   rcu script --leaf 2 --inner 2 --cpus 1 < FILE";
 
-/// Of `pair`.
+/// The help of `pair`.
 pub const PAIR: &str = "\
 --leaf and --inner, and --leaf2 and --inner2, are each one of these pairs, with the most processors
 that it can hold:
@@ -67,7 +67,7 @@ Example:
   printf 'a begin 0 1\\nb begin 0 1\\na report 0 1\\nb merge\\nsame\\n' |
     rcu pair --leaf 2 --inner 2 --leaf2 4 --inner2 4 --cpus 2";
 
-/// Of `torture`.
+/// The help of `torture`.
 pub const TORTURE: &str = "\
 It reads no input, and prints six lines: the workers, the rounds, the callbacks that were queued and
 those that ran, the callbacks and cookies that were done too early, and the callbacks that ran

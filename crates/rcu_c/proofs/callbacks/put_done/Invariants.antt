@@ -6,7 +6,7 @@ use Rattle.rcu_live.specs.Engine.{HasWaited}
 use Rattle.rcu_c.proofs.Popped.{listed, ran}
 use Rattle.rcu_c.proofs.callbacks.put_done.Given as goal
 
--- the values so far lie at the head of the buffer, and the rest of it is as it was
+-- the values so far are at the head of the buffer, and the rest of it is as it was
 abbrev pub invariant-loop-i : goal.invariant-loop-i
 invariant-loop-i l = record {
   engine : l.engine ≡ ran l.fn.engine l.cpu l.i;

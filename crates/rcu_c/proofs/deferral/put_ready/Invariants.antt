@@ -2,7 +2,7 @@ use Rattle.std.proofs.Common.{◌≡◌, ◌≤◌, drop, length, take}
 use Rattle.rcu_defer.specs.DeferList.{list_after_take}
 use Rattle.rcu_c.proofs.deferral.put_ready.Given as goal
 
--- the values so far lie at the head of the buffer, and the rest of it is as it was
+-- the values so far are at the head of the buffer, and the rest of it is as it was
 abbrev pub invariant-loop-i : goal.invariant-loop-i
 invariant-loop-i l = record {
   list : l.list ≡ list_after_take l.fn.list l.i;

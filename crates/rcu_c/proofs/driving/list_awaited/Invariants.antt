@@ -4,7 +4,8 @@ use Rattle.std.specs.List.{range_with_len}
 use Rattle.rcu_node.specs.CpuSet.{is_in}
 use Rattle.rcu_c.proofs.driving.list_awaited.Given as goal
 
--- the awaited of the processors so far, as many as there is room for, lie at the head of the buffer
+-- the awaited ones of the processors so far, as many as there is room for, are at the head of the
+-- buffer
 abbrev pub invariant-loop-cpu : goal.invariant-loop-cpu
 invariant-loop-cpu l = record {
   count : l.count

@@ -18,12 +18,12 @@ word_is : (now : Moment) (i : ℕ) (rcu : Option Contents) → IsEngineAt now i 
     → slice_index now.words 0 ≡ number_of (grace_of rcu).seq
 word_is now i rcu e = sym ((e.kept.fits i (engine_of rcu).view e.here).number e.role) ∙ e.number
 
--- a cookie that is not done lies above the number
+-- a cookie that is not done is above the number
 not_reached : (taken number : ℕ) → is_done_first (cookie_at (of_first_epoch taken)) number ≡ false
     → snapshot taken ≤ number → ⊥
 not_reached taken number undone reached = grind (arith, nat_tests)
 
--- the rule of the engine's own words, whatever map lies behind them
+-- the rule of the engine's own words, whatever map is behind them
 abbrev AnyMap : List ℕ → Views Planned → Type 0
 AnyMap words views = Unit {0}
 

@@ -36,7 +36,7 @@ as_opened w cpu watcher n is_cpu is_watcher =
     ap (λ x. place_of_parts x watcher) is_cpu
     ∙ ap (λ x. place_of_parts (first_seat w n) x) is_watcher
 
--- a seat as it is dealt may be put away
+-- a seat as it is dealt may be stored
 as_dealt : (w : Words) (cpu : Seated Planned) (n : ℕ) → cpu ≡ first_seat w n
     → cpu ≡ at_first cpu.table cpu.view.base cpu.view.client cpu.cpu
 as_dealt w cpu n is =

@@ -5,7 +5,7 @@ use Rattle.rcu_live.specs.Runs.{BarrierBegin, Drive, Queue, Run, Tend, Visit}
 use Rattle.rcu_c.specs.Engines.{opened_at_first}
 use Rattle.rcu_c.proofs.small_runs.a_barrier_covers_the_value_before_it.Goals as goal
 
--- the test after these calls may be made, and says done
+-- the test after these calls is allowed, and answers done
 pub returns : goal.returns
 unfolding listed
 returns c = λ identity table requests plan last value.

@@ -1,5 +1,4 @@
--- `closed` makes a handle of the null pointer and the allocator, and what it owns beside is
--- nothing.
+-- `closed` makes a handle of the null pointer and the allocator, and it owns nothing else.
 use mathlib.Core.Path.{refl, sym, subst}
 use mathlib.Core.List.{List, [], ◌∷◌, ◌++◌}
 use lib.Dec.{lit<}

@@ -1,4 +1,4 @@
--- `held` lends what the box behind an open handle owns, and the handle follows it.
+-- `held` lends the contents of the box behind an open handle, and the handle follows it.
 use mathlib.Core.Path.{◌≡◌, refl}
 use Prim.Native.Nat.{ℕ}
 use mathlib.Core.List.{List, [], ◌∷◌}
@@ -105,7 +105,7 @@ module _ {M : Type 1} {𝓤 : Ura M} (𝓛 : Logic 𝓤) (at_mem : Memory → SP
     v = record { ptr = p; alloc = al; value = x }
 
     module _ (b o : ℕ) (hv : Val) where
-      -- all of the handle but what it holds
+      -- all of the handle but its contents
       abbrev Rest : Fml
       Rest = fsep (fsep (token E.al al (bare (τ E)) (block_ptr b o)) (handle E al hv))
           (cell_at full_share L.mir (word E hv b o ∷ []) rb ro)

@@ -1,5 +1,4 @@
--- `is_open` reads the pointer: it is null where the handle is closed, and a block's where it is
--- open.
+-- `is_open` reads the pointer: it is null if the handle is closed, and a block's if it is open.
 use mathlib.Core.Path.{◌≡◌, refl, sym, subst, ap}
 use Prim.Native.Nat.{ℕ}
 use lib.Dec.{lit<}
@@ -90,7 +89,7 @@ module _ {M : Type 1} {𝓤 : Ura M} (𝓛 : Logic 𝓤) (at_mem : Memory → SP
   abbrev Cell : List Val → Fml
   Cell us = cell_at full_share L.mir us rb ro
 
-  -- the end: the handle is as it was, and the result tells what it holds
+  -- the end: the handle is as it was, and the result shows its contents
   exits : (m : Option (X E)) (y : Bool)
       → y ≡ is_some m
       → ent 𝓤
