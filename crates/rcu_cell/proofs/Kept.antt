@@ -1,4 +1,4 @@
--- What a writer of a cell keeps: at first, and after looks at the number.
+-- A writer of a cell keeps its invariant: at first, and after loads of the number.
 use Rattle.std.proofs.Common.{◌≡◌, ℕ, zero, suc, ◌<◌, ◌≤◌, ⊎_elim, List, length, refl, sym, ap, ◌∙◌}
 use Rattle.std.proofs.Common.{subst, inl, inr, arith}
 use Rattle.std.specs.Prelude.{slice_index}

@@ -15,7 +15,7 @@ use Rattle.rcu_graph.specs.declared.plan.Plan.{Plan}
 use Rattle.rcu_cell.specs.Cell.{IsLoaded, ReadsSlot, latest_to, latest_words, slot_in, slot_of}
 use Rattle.rcu_cell.specs.Cell.{version_in, version_of}
 
--- what a hop found tells the slot
+-- the word that a hop found gives the slot
 pub slot_told : (to : Option ℕ) → unwrap_or to 0 ≡ slot_of (word_to to)
 slot_told None = refl
 slot_told (Some node) = refl

@@ -1,4 +1,4 @@
--- The nodes of a cell after an update: the new version is shown, and the old one is unlinked.
+-- The nodes of a cell after an update: the new version is current, and the old one is unlinked.
 use Rattle.std.proofs.Common.{◌≡◌, ◌≢◌, ℕ, zero, suc, ◌<◌, ◌≤◌, ⊎_elim, List, length, None}
 use Rattle.std.proofs.Common.{refl, sym, ap, ◌∙◌, subst, inl, inr, arith, length-set}
 use Rattle.std.specs.Prelude.{slice_index}
@@ -30,7 +30,7 @@ same_parts : (v w : Node) → v.state ≡ w.state → v.links ≡ w.links → v.
 same_parts v w state links words =
     λ i. record { state = state i; links = links i; words = words i }
 
--- a slot to which the root's link leads is the one that is shown
+-- a slot to which the root's link leads is the current one
 shown_is : (A : List Node) (i : ℕ) → next_of A 0 ≡ suc i → i ≡ shown_in A
 shown_is A i e = sym (ap slot_of e)
 
@@ -156,7 +156,7 @@ module _ (fits : List ℕ → Type 0) (joins : ℕ → List ℕ → List ℕ →
           stays i (λ past is. ne (is ∙ e))
           ∙ sym (other_node S (suc k) i (in_state Unlinked) ne)))
 
-  -- one version is shown still
+  -- one version is still current
   pub one_put : IsOneShown B
   one_put i live = dite (ℕ_discrete i 0) (λ (root : i ≡ 0). inl root)
       (λ (nr : i ≢ 0).
@@ -169,7 +169,7 @@ module _ (fits : List ℕ → Type 0) (joins : ℕ → List ℕ → List ℕ →
       ∙ (ap (λ (v : Node). length v.links) at_root
       ∙ (length-set (node_at A 0).links 0 (suc by) ∙ single))
 
--- what a writer of a cell put in: it keeps that, and showed it
+-- a version that a writer of a cell put in is kept and current
 module _ (holds : List ℕ → Type 0) (width : ℕ) (before now : Watching Planned)
     (k : IsKept width before.view.client.plan (nodes_in before.view.client.known))
     (few : length (nodes_in before.view.client.known) ≡ before.view.client.plan.nodes)

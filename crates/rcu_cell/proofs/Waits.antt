@@ -1,4 +1,4 @@
--- What comes of an update that waits.
+-- The result of an update that waits.
 use Rattle.std.proofs.Common.{◌≡◌, ◌∙◌, ℕ, List, ap}
 use Rattle.std.specs.Prelude.{slice_index}
 use Rattle.rcu_live.specs.CpuSeat.{Seated}
@@ -13,7 +13,7 @@ use Rattle.rcu_cell.specs.Writer.{Updated}
 use Rattle.rcu_cell.specs.Waits.{UpdatedInTime}
 use Rattle.rcu_cell.specs.declared.writer.Retired.{Retired}
 
--- no slot was free, and then one was: the shown slot is the same
+-- no slot was free, and then one was: the current slot is the same
 pub updated_later : {C : Type 0} (seat now : Seated C) (before looked : Watching Planned)
     (words : List ℕ) (retired : Retired) (after : Watching Planned)
     → seat.depth ≡ 0

@@ -1,4 +1,4 @@
--- What a section reads of a cell.
+-- Reads of a cell by a section.
 use Rattle.std.specs.Prelude.{◌≡◌, ◌<◌, ℕ, zero, suc, List, [], ◌∷◌, length}
 use Rattle.rcu_live.specs.Board.{Object}
 use Rattle.rcu_live.specs.CpuSeat.{Seated, after_word_step}
@@ -11,14 +11,13 @@ use Rattle.rcu_graph.specs.declared.known.Known.{Known}
 use Rattle.rcu_graph.specs.declared.known.Planned.{Planned}
 use Rattle.rcu_graph.specs.declared.plan.Plan.{Plan}
 
--- the slot that is shown where the root's link has this word: the node that it leads to, or else
--- the root
+-- the current slot, if the root's link has this word: the node that it leads to, or else the root
 abbrev pub slot_of : ℕ → ℕ
 slot_of zero = 0
 slot_of (suc node) = node
 
--- the version of that slot: the first one where the link leads nowhere, and else the words that
--- were found
+-- the version of that slot: the first one if the link leads nowhere, and else the words that were
+-- found
 abbrev pub version_of : List ℕ → ℕ → List ℕ → List ℕ
 version_of first zero words = first
 version_of first (suc node) words = words
@@ -40,7 +39,8 @@ abbrev pub version_in : List ℕ → Known → List ℕ
 version_in first known =
     version_of first (latest_to (hops_in known)) (latest_words (hops_in known))
 
--- the root's link was loaded, by a hop more, and showed this slot, whose version is whole
+-- the root's link was loaded, by one more hop, and showed this slot, whose version satisfies the
+-- user's fact
 pub record IsLoaded (holds : List ℕ → Type 0) (first : List ℕ) (width : ℕ) (was : Known) (slot : ℕ)
     (now : Known) : Type 0 where
   pub hop : Hop

@@ -1,4 +1,4 @@
--- What a clause sees of a loaded version.
+-- A loaded version, as contracts see it.
 use Rattle.std.specs.Prelude.{◌≡◌, ℕ, List}
 use Rattle.std.specs.Borrow.{GName}
 use Rattle.rcu_live.specs.Board.{Object}
@@ -15,7 +15,7 @@ use Rattle.rcu_cell.specs.declared.shape.Version as version
 use Rattle.rcu_cell.specs.declared.version_guard.VersionGuard.{VersionGuard}
 
 -- the cell, the seat whose section reads the version, the slot that it stays in, and which seat is
--- borrowed: a name that tells one borrowed seat from another
+-- borrowed: a name that distinguishes borrowed seats
 pub record Lent (D : Type 0) : Type 0 where
   pub cell : Object Plan
   pub seat : Seated D
@@ -27,8 +27,8 @@ module _ {D : Type 0} (lens : Lens D Planned) where
   abbrev pub version_lent : List ℕ → Lent D → List ℕ
   version_lent first loaded = version_in first (lens.get loaded.seat.view.client).known
 
-  -- lent is a version of this cell, by the borrowed seat of this name, of which what it knows of
-  -- the cell has changed and nothing else
+  -- a version of this cell is lent, by the borrowed seat of this name, in which only the knowledge
+  -- about the cell has changed
   pub record IsLentBy (cell : Object Plan) (seat : Seated D) (name : GName)
       (loaded : Lent D) : Type 0 where
     pub of_cell : loaded.cell ≡ cell

@@ -7,25 +7,26 @@ use Rattle.rcu_graph.specs.declared.node_state.NodeState.TheVariants.{Live, Unli
 use Rattle.rcu_graph.specs.declared.plan.Plan.{Plan}
 use Rattle.rcu_cell.specs.Cell.{slot_of}
 
--- the plan is that of a cell, whose versions have so many words: it has one root, a node has one
--- link, and there are two slots or more
+-- the plan is that of a cell, whose versions have this number of words: it has one root, a node has
+-- one link, and there are two slots or more
 pub record IsOfCell (width : ℕ) (plan : Plan) : Type 0 where
   pub root : plan.roots ≡ 1
   pub one : plan.links ≡ 1
   pub words : plan.words ≡ width
   pub several : 2 < plan.nodes
 
--- the slot that is shown
+-- the current slot
 abbrev pub shown_in : List Node → ℕ
 shown_in nodes = slot_of (next_of nodes 0)
 
--- a live node is the root, or it is the shown slot, which leads nowhere
+-- a live node is the root, or it is the current slot, which leads nowhere
 abbrev pub IsOneShown : List Node → Type 0
 IsOneShown nodes =
     (i : ℕ) → state_at nodes i ≡ Live
     → (i ≡ 0) ⊎ ((next_of nodes 0 ≡ suc i) × (next_of nodes i ≡ 0))
 
--- beside the root one slot is live at most. It is the shown one, whose version is whole
+-- besides the root at most one slot is live. It is the current one, whose version satisfies the
+-- user's fact
 pub record AreVersions (holds : List ℕ → Type 0) (nodes : List Node) : Type 0 where
   pub live : state_at nodes (shown_in nodes) ≡ Live
   pub one : IsOneShown nodes
@@ -36,7 +37,7 @@ abbrev pub unlinked_in : ℕ → List Node → List Node
 unlinked_in zero nodes = nodes
 unlinked_in (suc i) nodes = renewed nodes (suc i) (in_state Unlinked)
 
--- what a writer of a cell keeps
+-- the invariant of a writer of a cell
 pub record IsKept (width : ℕ) (plan : Plan) (nodes : List Node) : Type 0 where
   pub of_cell : IsOfCell width plan
   pub linked : length (node_at nodes 0).links ≡ 1

@@ -1,4 +1,4 @@
--- What an update that waits for a free slot leaves.
+-- The effect of an update that waits for a free slot.
 use Rattle.std.specs.Prelude.{◌≡◌, ℕ, List}
 use Rattle.rcu_live.specs.CpuSeat.{Seated}
 use Rattle.rcu_live.specs.Watcher.{Watching}
@@ -18,8 +18,8 @@ pub record UpdatedLater {C : Type 0} (seat now : Seated C) (before : Watching Pl
   pub waited : HasMadeRoom seat now before looked
   pub updated : Updated looked words retired after
 
--- an update of a caller with this seat, which is outside of sections, replaced the shown slot: at
--- once where a slot was free, and else as soon as one was
+-- an update of a caller with this seat, which is outside of sections, replaced the current slot: at
+-- once if a slot was free, and otherwise as soon as one was
 pub record UpdatedInTime {C : Type 0} (seat now : Seated C) (before : Watching Planned)
     (words : List ℕ) (retired : Retired) (after : Watching Planned) : Type 0 where
   pub outside : seat.depth ≡ 0

@@ -1,4 +1,4 @@
-//! A cell: what a section reads of it, without a lock, a wait or a store.
+//! A cell, and how a section reads it, without a lock, a wait or a store.
 ghost use Rattle.std.specs.Prelude.{◌≡◌, ◌<◌, slice_index};
 ghost use Rattle.rcu_live.specs.CpuSeat.{after_word_step};
 ghost use Rattle.rcu_live.specs.InPart.{seat_part};
@@ -11,8 +11,8 @@ use rcu_graph::{Graph, Layout, Plan};
 use rcu_live::{Alone, Within};
 use std::marker::Model;
 
-/// A value of `W` words among the shared words of a running engine. Each version that is published
-/// meets `F`, and has a node of a graph, its slot. The root's link leads to the one that is shown.
+/// A value of `W` words among the shared words of a running engine. Each published version
+/// satisfies `F`, and has a node of a graph, its slot. The root's link leads to the current one.
 /// The cell is the client of the engine, or one of several, at the place `P`.
 #[derive(Drop)]
 pub struct Cell<F: Version<W>, const W: usize, P: Within<CellRule<F, W>> = Alone> {
@@ -38,7 +38,7 @@ impl<F: Version<W>, const W: usize, P: Within<CellRule<F, W>>> Model for Cell<F,
 }
 
 impl<F: Version<W>, const W: usize, P: Within<CellRule<F, W>>> Cell<F, W, P> {
-    /// Returns a cell over a graph of one root, and of one link a node.
+    /// Returns a cell over a graph with one root, and one link in each node.
     pub(crate) fn over(graph: Graph<OneLink<F, W>, P>) -> Cell<F, W, P>
         requires root { graph.plan.roots ≡ 1 }
         requires one { graph.plan.links ≡ 1 }
@@ -49,12 +49,12 @@ impl<F: Version<W>, const W: usize, P: Within<CellRule<F, W>>> Cell<F, W, P> {
         Cell { graph }
     }
 
-    /// Returns the layout of the nodes' links and words, by constants: so no multiplication by
-    /// another number waits for a load.
+    /// Returns the layout of the nodes' links and words, by constants: so no multiplication by a
+    /// variable waits for a load.
     fn layout(&self) -> Layout
         ensures { result ≡ layout_of self.now }
     {
-        // A borrow of a field shows the prover what the type keeps: that a node has one link.
+        // A borrow of a field gives the prover the invariant of the type: a node has one link.
         let graph = &self.graph;
         Layout {
             base: graph.base(),
@@ -66,8 +66,8 @@ impl<F: Version<W>, const W: usize, P: Within<CellRule<F, W>>> Cell<F, W, P> {
         }
     }
 
-    /// Loads which slot is shown, and returns it: the open section reads its version from now on,
-    /// as it was published, until it closes or loads again (Linux's `rcu_dereference`).
+    /// Loads the current slot, and returns it. From now on the open section reads its version, as
+    /// it was published, until it closes or loads again (Linux's `rcu_dereference`).
     pub fn load(&self, seat: &mut CellSeat<F, W, P>) -> usize
         requires { IsWalking self.now (seat_part P.lens seat.old) }
         ensures state { seat.new ≡ after_word_step seat.old
@@ -76,13 +76,13 @@ impl<F: Version<W>, const W: usize, P: Within<CellRule<F, W>>> Cell<F, W, P> {
             (P.lens.get seat.new.view.client).known }
         ensures reads { ReadsSlot self.now (seat_part P.lens seat.new) result }
     {
-        // A borrow of a field shows the prover what the type keeps: that there is one root.
+        // A borrow of a field gives the prover the invariant of the type: there is one root.
         let graph = &self.graph;
         graph.plan();
         graph.follow(seat, self.layout(), 0, 0).unwrap_or(0)
     }
 
-    /// Loads a word of the version that the section reads: the one that it had when it was loaded.
+    /// Loads a word of the version that the section reads: the word that it had when it was loaded.
     pub fn read(&self, seat: &mut CellSeat<F, W, P>, slot: usize, word: usize) -> u64
         requires slot { ReadsSlot self.now (seat_part P.lens seat.old) slot }
         requires word { word < W }
@@ -90,7 +90,7 @@ impl<F: Version<W>, const W: usize, P: Within<CellRule<F, W>>> Cell<F, W, P> {
         ensures word { result ≡ slice_index
             (version_in F.first (P.lens.get seat.old.view.client).known) word }
     {
-        // A borrow of a field shows the prover what the type keeps: that there is one root.
+        // A borrow of a field gives the prover the invariant of the type: there is one root.
         let graph = &self.graph;
         graph.plan();
         graph.read(seat, self.layout(), slot, word)

@@ -50,7 +50,7 @@ impl<F: Version<W>, const W: usize, P: Within<CellRule<F, W>>> Cell<F, W, P> {
 impl<F: Version<W>, const W: usize> Cell<F, W> {
     /// Returns the plan of a cell of this many slots, as one of several clients.
     ///
-    /// It is `BadSizes` for fewer than two slots, no word, or more than 2^32 words in all.
+    /// Returns `BadSizes` for fewer than two slots, no word, or more than 2^32 words in all.
     pub fn sized(slots: usize) -> Result<Plan, NotOpened>
         ensures plan { IfOk result (λ plan. plan ≡ plan_of_cell W slots) }
         ensures several { IfOk result (λ plan. 2 < plan.nodes) }

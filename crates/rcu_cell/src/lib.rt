@@ -1,5 +1,5 @@
-//! Data that readers read without a lock, and give up with a proof: a value in the nodes of a graph
-//! of one root.
+//! Data that readers read without a lock, and that is reclaimed with a proof: a value in the nodes
+//! of a graph with one root.
 #![tactic(auto)]
 
 pub mod cell;

@@ -20,7 +20,7 @@ use rcu_live::Live;
 use rcu_seq::Fault;
 use std::alloc::{AllocError, Global};
 
-/// Returns the plan of a cell of this many slots, of two at least. It may be one of no graph.
+/// Returns the plan of a cell of this many slots, at least two. It may be the plan of no graph.
 pub(crate) fn plan_of(width: usize, slots: usize) -> Option<Plan>
     ensures { MatchOption result (¬ HasSizes width slots)
         (λ plan. (1 < slots) × (plan ≡ plan_of_cell width slots)) }
@@ -37,7 +37,7 @@ pub(crate) fn plan_of(width: usize, slots: usize) -> Option<Plan>
     })
 }
 
-/// The writer of a cell whose nodes are as at first, once it shows these words.
+/// Returns the writer of a cell whose nodes are as at first, after it shows these words.
 fn keep<F: Version<W>, const W: usize>(
     alloc: Global,
     cell: &Cell<F, W>,
@@ -51,7 +51,7 @@ fn keep<F: Version<W>, const W: usize>(
     requires whole { F.holds words.now }
     ensures { IfOk result (λ writer. ShowsFirst seat words.now writer) }
 {
-    // A borrow of a field shows the prover what the type keeps: that there is one root.
+    // A borrow of a field gives the prover the invariant of the type: there is one root.
     let _ = &cell.graph;
     let mut writer = Writer::new(alloc, cell, seat)?;
     let Ok(_) = writer.update(words) else {
@@ -67,21 +67,21 @@ pub struct Opened<L: Drop, F: Version<W>, const W: usize> {
     pub live: L,
     /// The cell, which its seats read.
     pub cell: Cell<F, W>,
-    /// A seat a processor, in order.
+    /// A seat for each processor, in order.
     pub seats: Vec<CellSeat<F, W>>,
-    /// A watcher a processor.
+    /// A watcher for each processor.
     pub watchers: Vec<CellWatcher<F, W>>,
     /// The writer, which publishes versions.
     pub writer: Writer<F, W>,
 }
 
 impl<F: Version<W>, const W: usize> Cell<F, W> {
-    /// Opens a cell of this many slots that shows these words, with its engine: of `cpus`
-    /// processors, idle at number 0, processor 0 alone online.
+    /// Opens a cell of this many slots that shows these words. Opens its engine too: of `cpus`
+    /// processors, idle at number 0, with processor 0 alone online.
     ///
     /// Faults: `BadSizes` for fewer than two slots, no word, or more than 2^32 words in all;
     /// `TooManyCpus` (17) for no processor, more than 4,096, or more than four levels hold;
-    /// `BadLast` (19) if `last` is no last number; `NoMemory` (16).
+    /// `BadLast` (19) if `last` is not a legal last number; `NoMemory` (16).
     pub fn open<const LEAF: u32, const FAN: u32, T: Drop>(
         alloc: Global,
         cpus: u32,

@@ -1,4 +1,4 @@
-//! What a section reads of a cell, and whole sections.
+//! Reads of a cell in an open section, and reads with a section of their own.
 ghost use Rattle.std.specs.Prelude.{◌≡◌, IfOk, OnErr, OnOk};
 ghost use Rattle.std.specs.Result.{result_err};
 ghost use Rattle.rcu_live.specs.CpuSeat.{AcceptedAt, enter_refusal};
@@ -16,8 +16,8 @@ use rcu_live::{Shared, Within};
 use rcu_seq::Fault;
 
 impl<F: Version<W>, const W: usize, P: Within<CellRule<F, W>>> Cell<F, W, P> {
-    /// Loads the shown version, as [`load`](Self::load) does, and lends it the seat: the section
-    /// stays open, and reads this version, until it is let go.
+    /// Loads the current version, as [`load`](Self::load) does, and lends it the seat: the section
+    /// stays open, and reads this version, until it is dropped.
     pub fn loaded<'a>(&'a self, seat: &'a mut CellSeat<F, W, P>) -> VersionGuard<'a, F, W, P>
         requires { IsWalking self.now (seat_part P.lens seat.old) }
         ensures lent { IsLentBy P.lens self.now seat.old seat.entry.ghost_name (lent result) }
@@ -32,8 +32,8 @@ impl<F: Version<W>, const W: usize, P: Within<CellRule<F, W>>> Cell<F, W, P> {
         }
     }
 
-    /// Returns all words of the version that is shown: one load, and one a word. They are of one
-    /// version, which the section reads from now on.
+    /// Returns all words of the current version, by one load, and one for each word. They are of
+    /// one version, which the section reads from now on.
     pub fn snapshot(&self, seat: &mut CellSeat<F, W, P>) -> [u64; W]
         requires { IsWalking self.now (seat_part P.lens seat.old) }
         ensures state { ReadsOn P.lens self.now seat.old seat.new }
@@ -45,7 +45,7 @@ impl<F: Version<W>, const W: usize, P: Within<CellRule<F, W>>> Cell<F, W, P> {
 }
 
 impl<F: Value<W> + Version<W>, const W: usize, P: Within<CellRule<F, W>>> Cell<F, W, P> {
-    /// Returns the value that is shown, by one load, and one a word, in an open section.
+    /// Returns the current value, by one load, and one for each word, in an open section.
     pub fn value(&self, seat: &mut CellSeat<F, W, P>) -> F
         requires { IsWalking self.now (seat_part P.lens seat.old) }
         ensures state { ReadsOn P.lens self.now seat.old seat.new }
@@ -58,8 +58,8 @@ impl<F: Value<W> + Version<W>, const W: usize, P: Within<CellRule<F, W>>> Cell<F
 }
 
 impl<F: Version<W>, const W: usize> Cell<F, W> {
-    /// Reads the current version in a section of its own, by three loads and one a word. It takes
-    /// no lock and waits for nobody.
+    /// Reads the current version in a section of its own, by three loads and one for each word. It
+    /// takes no lock and never waits.
     ///
     /// Faults: `Offline` (2) if the processor is offline; `CpuIdle` (23) if it is idle.
     pub fn read_section<L: Shared<CellRule<F, W>>>(

@@ -1,25 +1,24 @@
-//! What the versions of a cell meet, and the seats of its engine.
+//! The facts on the versions of a cell, and the seats of its engine.
 use rcu_graph::rule::GraphRule;
 use rcu_graph::{GraphSeat, GraphWatcher, Invariant, Plan, Shape};
 use rcu_live::Alone;
 use std::marker::PhantomData;
 
-/// A user's fact on the versions of a cell of `W` words, with words that meet it. They are shown
-/// until others are published, which the opening does.
+/// A user's fact on the versions of a cell of `W` words, with words that satisfy it. The cell shows
+/// them until others are published, which the opening does.
 pub trait Version<const W: usize>: Invariant {
     ghost use Rattle.std.specs.Prelude.{◌≡◌, List, ℕ, length, slice_index};
 
     ghost first: { List ℕ };
 
-    /// Returns a word of it, and 0 behind them.
+    /// Returns one of these words, and 0 beyond them.
     fn first_word(word: usize) -> u64
         ensures word { result ≡ slice_index first word }
         ensures sized { length first ≡ W }
         ensures whole { Self.holds first };
 }
 
-/// The facts of a cell: a node in use has a version. The link of the root leads to the one that is
-/// shown.
+/// The facts of a cell: a node in use has a version. The link of the root leads to the current one.
 pub struct OneLink<F, const W: usize> {
     fact: PhantomData<F>,
 }

@@ -1,4 +1,4 @@
-//! What a section reads of the version that it has loaded.
+//! Reads of the version that a section has loaded.
 ghost use Rattle.std.specs.Prelude.{◌≡◌, ◌<◌, slice_index};
 ghost use Rattle.rcu_cell.specs.Lent.{lent, version_lent};
 
@@ -8,7 +8,7 @@ use rcu_graph::Value;
 use rcu_live::Within;
 
 impl<'a, F: Version<W>, const W: usize, P: Within<CellRule<F, W>>> VersionGuard<'a, F, W, P> {
-    /// Returns a word of the version, by one load: the one that it had when it was loaded.
+    /// Returns a word of the version, by one load: the word that it had when it was loaded.
     pub fn read(&mut self, word: usize) -> u64
         requires { word < W }
         ensures unchanged { lent self.new ≡ lent self.old }
@@ -22,7 +22,7 @@ impl<'a, F: Version<W>, const W: usize, P: Within<CellRule<F, W>>> VersionGuard<
         ensures unchanged { lent self.new ≡ lent self.old }
         ensures words { result ≡ version_lent P.lens F.first (lent self.old) }
     {
-        // A borrow of a field shows the prover what the type keeps: that a version has `W` words.
+        // A borrow of a field gives the prover the invariant of the type: a version has `W` words.
         let cell = self.cell;
         let _ = &cell.graph;
         let mut words = [0u64; W];
@@ -39,7 +39,7 @@ impl<'a, F: Value<W> + Version<W>, const W: usize, P: Within<CellRule<F, W>>> Ve
     W,
     P,
 > {
-    /// Returns the version as a value of the user's type, by a load a word.
+    /// Returns the version as a value of the user's type, by one load for each word.
     pub fn value(&mut self) -> F
         requires whole { F.holds (version_lent P.lens F.first (lent self.old)) }
         ensures unchanged { lent self.new ≡ lent self.old }

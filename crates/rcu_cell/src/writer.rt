@@ -1,4 +1,4 @@
-//! The writer of a cell: it publishes versions, and looks which slots are free.
+//! The writer of a cell: it publishes versions, and finds which slots are free.
 ghost use Rattle.std.specs.Prelude.{◌≡◌, ◌<◌, ◌≤◌, ◌^◌, IfOk, OnErr};
 ghost use Rattle.rcu_live.specs.InPart.{watcher_part};
 ghost use Rattle.rcu_graph.specs.Graph.{IsOfSameGraph};
@@ -16,12 +16,12 @@ use rcu_live::{Alone, Within};
 use std::alloc::{AllocError, Global};
 use std::marker::Model;
 
-/// A version was replaced.
+/// The result of an update, which replaced a version.
 #[derive(Clone, Copy, Debug, PartialEq, Eq)]
 pub struct Retired {
-    /// The slot that it stays in.
+    /// The slot of the replaced version.
     pub slot: usize,
-    /// The slot that is shown in its place.
+    /// The slot of the new version.
     pub by: usize,
 }
 
@@ -46,8 +46,8 @@ impl<F: Version<W>, const W: usize, P: Within<CellRule<F, W>>> Model for Writer<
 }
 
 impl<F: Version<W>, const W: usize, P: Within<CellRule<F, W>>> Writer<F, W, P> {
-    /// The writer of a cell whose nodes are as at first. It takes all the memory that it will ever
-    /// have.
+    /// Returns the writer of a cell whose nodes are as at first. Allocates all memory that it will
+    /// ever need.
     pub fn new(
         alloc: Global,
         cell: &Cell<F, W, P>,
@@ -59,7 +59,7 @@ impl<F: Version<W>, const W: usize, P: Within<CellRule<F, W>>> Writer<F, W, P> {
         requires several { 2 < cell.now.plan.nodes }
         ensures { IfOk result (λ writer. writer ≡ watcher_part P.lens seat) }
     {
-        // A borrow of a field shows the prover what the type keeps: that there is one root.
+        // A borrow of a field gives the prover the invariant of the type: there is one root.
         let graph = &cell.graph;
         let nodes = rcu_graph::Writer::new(alloc, graph, seat)?;
         Ok(Writer { nodes })
@@ -72,16 +72,15 @@ impl<F: Version<W>, const W: usize, P: Within<CellRule<F, W>>> Writer<F, W, P> {
         self.nodes.tends();
     }
 
-    /// Returns the slot that is shown.
+    /// Returns the current slot.
     fn shown(&self) -> usize
         ensures { result ≡ shown_in (nodes_in self.now.view.client.known) }
     {
         self.nodes.link_of(0, 0).unwrap_or(0)
     }
 
-    /// Publishes a version: stores its words in a free slot, and shows that in place of the shown
-    /// one, by one store. It waits for nobody. `Full` means that no slot is free, and nothing
-    /// changed.
+    /// Publishes a version: stores its words in a free slot, and makes that slot the current one,
+    /// by one store. It never waits. `Full` means that no slot is free, and nothing changed.
     pub fn update(&mut self, words: &[u64; W]) -> Result<Retired, Full>
         requires whole { F.holds words.now }
         ensures same { IsOfSameGraph self.old self.new }

@@ -14,7 +14,7 @@ use rcu_seq::Fault;
 use std::sync::Wait;
 
 impl<F: Version<W>, const W: usize, P: Within<CellRule<F, W>>> Writer<F, W, P> {
-    /// Looks at the number, and drives the engine, until a slot is free.
+    /// Loads the number, and drives the engine, until a slot is free.
     fn wait_until_free<const LEAF: u32, const FAN: u32, T: Drop>(
         &mut self,
         rt: &impl Wait,
@@ -33,16 +33,16 @@ impl<F: Version<W>, const W: usize, P: Within<CellRule<F, W>>> Writer<F, W, P> {
         self.nodes.wait_until_free(rt, live, seat)
     }
 
-    /// Publishes a version, as [`update`](Self::update). If no slot is free, it looks at the number
-    /// and drives the engine until one is. The caller's processor passes quiescent states
+    /// Publishes a version, as [`update`](Self::update) does. If no slot is free, it loads the
+    /// number and drives the engine until one is. The caller's processor passes quiescent states
     /// meanwhile, unless it is offline or idle.
     ///
     /// No proof says that it returns: a section that stays open blocks it, and so does a processor
     /// that is neither idle nor offline and whose thread passes no quiescent state.
     ///
-    /// Faults: `InSection` (4) if a section is open on the seat, which the caller would wait for,
-    /// and then nothing happened; `Exhausted` (11) if the last number is reached, so that no slot
-    /// becomes free any more.
+    /// Faults: `InSection` (4) if a section is open on the seat, for which the caller would wait;
+    /// then nothing happened; `Exhausted` (11) if the last number is reached, so no further slot
+    /// becomes free.
     pub fn update_or_wait<const LEAF: u32, const FAN: u32, T: Drop>(
         &mut self,
         rt: &impl Wait,

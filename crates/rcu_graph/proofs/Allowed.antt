@@ -1,4 +1,4 @@
--- Why a step on a graph is allowed, whose size the seat knows.
+-- Steps on a graph whose plan the seat knows are allowed.
 use Rattle.std.proofs.Common.{◌≡◌, ℕ, suc, ◌+◌, ◌*◌, ◌<◌, ◌≤◌, List, length, Option, ap, arith}
 use Rattle.std.proofs.Common.{◌∙◌, refl, subst, sym}
 use Rattle.std.specs.Prelude.{IsSome}
@@ -29,7 +29,7 @@ module _ (fits : Plan → List ℕ → Type 0) (joins : Plan → ℕ → List �
       → IsWordOf (IsKeptBy fits joins first plan) place
   is_word place inside words xs h = let long = h.kept.kept.long in omega (arith, inside, long)
 
-  -- a load of a cell is one of the place that a layout of the graph tells
+  -- a load of a cell is one of the place that a layout of the graph gives
   pub cell_allowed : (then : ℕ → Planned → ℕ → Planned → Type 0) (cpu section : Option ℕ)
       (was : Planned) (base : ℕ) (layout : Layout) (i k place : ℕ)
       → layout ≡ record { base = base; plan = plan }
@@ -92,7 +92,7 @@ module _ (fits : Plan → List ℕ → Type 0) (joins : Plan → ℕ → List �
       (reads_at (fits q) (joins q) (first q) q.roots q.links q.words q.nodes cpu section was.known
       i k place is_open reads on low e))
 
-  -- who keeps the nodes may store a word of a free one
+  -- the nodes' writer may store a word of a free one
   pub write_allowed : (i k place x : ℕ)
       → IsKeeping was.known
       → i < length (nodes_in was.known)
@@ -135,7 +135,7 @@ module _ (fits : Plan → List ℕ → Type 0) (joins : Plan → ℕ → List �
       was.known
       i l place x keeps bound free low e))
 
-  -- it may store a link of a live node that leads nowhere or to a live one then, to which it may
+  -- it may store a link of a live node that then leads nowhere or to a live one, to which it may
   -- lead
   pub link_allowed : (i l place x : ℕ)
       → IsKeeping was.known
@@ -190,7 +190,7 @@ module _ (fits : Plan → List ℕ → Type 0) (joins : Plan → ℕ → List �
       was.known
       i l j place x keeps bound bound_j low live ready joined e same))
 
-  -- it may mark a live node unlinked to which no live one leads
+  -- it may mark a live node as unlinked if no live one leads to it
   pub mark_unlinked_allowed : (i place : ℕ)
       → IsKeeping was.known
       → i < length (nodes_in was.known)
@@ -224,7 +224,7 @@ module _ (fits : Plan → List ℕ → Type 0) (joins : Plan → ℕ → List �
       (reclaims_at (fits q) (joins q) (first q) q.roots q.links q.words q.nodes cpu section
       was.known keeps)
 
-  -- who opened the engine may load a word, and keeps the nodes then
+  -- the seat that opened the engine may load a word, and is then the nodes' writer
   pub claim_allowed : was.known ≡ Owner
       → AllowsWord (IsKeptBy fits joins first plan) cpu section was 0 (λ n. n)
       (tells_claim first 0 was)

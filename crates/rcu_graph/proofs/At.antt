@@ -1,4 +1,4 @@
--- The same steps where a section is open, at a view that reads, and at one that keeps the nodes.
+-- The same steps if a section is open, at a reader's view, and at the writer's view.
 use Rattle.std.proofs.Common.{◌≡◌, ℕ, suc, ◌+◌, ◌<◌, ◌≤◌, List, ◌∷◌, length, Some, None, Option}
 use Rattle.std.proofs.Common.{inl, inr, sym, subst}
 use Rattle.std.specs.Prelude.{IsSome}

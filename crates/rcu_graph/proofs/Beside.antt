@@ -30,7 +30,7 @@ use Rattle.rcu_graph.proofs.Chains.{same_reclaimed, same_where, unseen_where_fre
 use Rattle.rcu_graph.proofs.HeldNodes.{chains, held_words, hop_true_then}
 use Rattle.rcu_graph.proofs.Hindsight.{not_absent, was_linked, words_were_linked}
 
--- who keeps the nodes knows a number, the nodes, and its stores
+-- the nodes' writer knows a number, the nodes, and its stores
 is_writer : (known : Known) → IsKeeping known
     → known ≡ Writer (latest_in known) (nodes_in known) (stored_in known)
 is_writer Idle keeps = absurd keeps
@@ -58,7 +58,7 @@ module _ (fits : Plan → List ℕ → Type 0) (joins : Plan → ℕ → List �
   Shown writer m = get_elem? (map unplanned m.seats) writer
       ≡ some (None, None, Writer (latest_in m.writer) (nodes_in m.writer) (stored_in m.writer))
 
-  -- what is shown of the writer
+  -- the shown part of the writer
   writer_shown : (writer : ℕ) (m : Moment) → IsKeptAt fits joins first plan writer m
       → Shown writer m
   writer_shown writer m k =
@@ -218,7 +218,7 @@ module _ (fits : Plan → List ℕ → Type 0) (joins : Plan → ℕ → List �
         (moments 0).section (moments last).section node search
         (search_made root key writer seat opened last moments (Some node) kept walks search)
 
-    -- the words with which the section holds in the end what it found were linked
+    -- the words with which the section finally holds the node that it found were linked
     pub words_over : (node : ℕ) (words : List ℕ)
         → IsSearched root key (moments 0).section (Some node) (moments last).section
         → IsHeld (moments last).section node words

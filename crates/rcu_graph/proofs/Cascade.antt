@@ -1,4 +1,4 @@
--- What a writer knows on the way of a change, step by step.
+-- A writer's knowledge during a change, step by step.
 use Rattle.std.proofs.Common.{◌≡◌, ◌⊎◌, inr, ℕ, zero, suc, ◌+◌, ◌*◌, ◌<◌, ◌≤◌, List, [], ◌∷◌, ◌++◌}
 use Rattle.std.proofs.Common.{Option, length, get_or, set, take, drop, refl, sym, ap, ◌∙◌, arith}
 use Rattle.std.proofs.Common.{subst, length-set}
@@ -30,7 +30,7 @@ use Rattle.rcu_graph.proofs.Releases.{unlinked, unlinked_released}
 use Rattle.rcu_graph.proofs.Tending.{promoted_up, promoted_whole, starts_collecting, still_live}
 use Rattle.rcu_graph.proofs.Tending.{stored_whole, tended}
 
--- nothing is done, one step, and a step after others
+-- no step, one step, and a step after others
 pub no_step : (s : Watching Planned) → IsKeeping s.view.client.known
     → s ≡ after_step s (nodes_in s.view.client.known)
 no_step s keeps = ap (λ (k : Known). after_word_step s (knowing s.view.client k))
@@ -54,7 +54,7 @@ pub collected_on : (a b c : Watching Planned) (stored : List Node)
 collected_on a b c stored e f =
     f ∙ ap (λ (w : Watching Planned). after_step w (nodes_in c.view.client.known)) e
 
--- where none is counted, no live node leads there
+-- if none is counted, no live node leads there
 pub none_lead : (links : ℕ) (nodes : List Node) (i : ℕ) → links_to nodes i ≡ 0
     → IsUnlinked links nodes i
 none_lead links nodes i none = λ j l v is live low leads.
@@ -65,7 +65,7 @@ none_lead links nodes i none = λ j l v is live low leads.
 
 module _ (count roots links : ℕ) (stored nodes : List Node) (counts unlinking : List ℕ)
     (from to : ℕ) where
-  -- there is room for a node more
+  -- there is room for one more node
   pub room_left : (words : List ℕ) (i : ℕ)
       → IsCollecting count roots links stored nodes counts unlinking from to words
       → state_at nodes i ≡ Live
@@ -112,7 +112,7 @@ module _ (count roots links : ℕ) (stored nodes : List Node) (counts unlinking 
         none (suc n) [] e = absurd (omega (arith, e))
         none (suc n) (x ∷ l) e = none n l (omega (arith, e))
 
--- one link more of a row
+-- one more link of a row
 pub times_more : (cells : List ℕ) (l word : ℕ)
     → l < length cells
     → times_in (take (l + 1) cells) word
@@ -167,7 +167,7 @@ module _ (fits : List ℕ → Type 0) (joins : ℕ → List ℕ → List ℕ →
       let on = led_there fits joins count roots links 0 nodes l words x j target is in
       let low = live_inside nodes j on.0 in omega (arith, low, few)
 
-  -- what leads to a node that is live and no root is counted
+  -- a link to a node that is live and no root is counted
   pub counted_live : (nodes : List Node) (counts unlinking : List ℕ) → length nodes ≡ count
       → IsCounted fits joins count roots links nodes counts unlinking
       → (k : ℕ) → state_at nodes k ≡ Live → roots ≤ k → 0 < slice_index counts k
@@ -220,7 +220,7 @@ module _ (fits : List ℕ → Type 0) (joins : ℕ → List ℕ → List ℕ →
           few sizes c.many c.room (are_whole fits joins count roots links width nodes c.tended)
           c.counted rising live low there
 
-    -- one link more is counted
+    -- one more link is counted
     pub count_fits : (k : ℕ) → k < count → slice_index counts k ≤ links * count
     count_fits k low =
         let a = links_to-le links width count nodes k few sizes in

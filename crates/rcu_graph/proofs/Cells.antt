@@ -13,7 +13,7 @@ module _ (roots links width : ℕ) where
   abbrev at : ℕ → ℕ → ℕ
   at = place_of roots links width
 
-  -- the place by what the tests tell of the node and of the cell
+  -- the place by the tests of the node and of the cell
   abbrev cell : Bool → Bool → ℕ → ℕ → ℕ
   cell is_root is_link i k =
       if is_root
@@ -83,7 +83,7 @@ module _ (roots links width : ℕ) where
           mul-le (links + width) roots (links + width) count (omega arith) many in
           omega (arith, inside, more)
 
-  -- the place tells the node and which of its cells it is
+  -- the place determines the node and its cell
   pub told : (i j k l : ℕ) → k < links + width → l < links + width → at i k ≡ at j l
       → (i ≡ j) × (k ≡ l)
   told i j k l small little same = by (dec_le roots i) (dec_le roots j)
@@ -124,7 +124,7 @@ module _ (roots links width : ℕ) where
       by (no a) (no b) =
           in_roots (omega (arith, a)) (omega (arith, b)) (dec_le links k) (dec_le links l)
 
-  -- the words of a node stand side by side
+  -- the words of a node are side by side
   pub side_by_side : (i k : ℕ) → at i links + k ≡ at i (links + k)
   side_by_side i k = by (dec_le roots i)
     where
@@ -137,7 +137,7 @@ module _ (roots links width : ℕ) where
           let first = word_of_root i links low (omega arith) in
           let this = word_of_root i (links + k) low (omega arith) in omega (arith, first, this)
 
-  -- nothing stands before the first place
+  -- nothing is before the first place
   pub behind_first : (i k : ℕ) → first_place ≤ at i k
   behind_first i k = by (dec_le roots i) (dec_le links k)
     where
@@ -148,7 +148,7 @@ module _ (roots links width : ℕ) where
       by (no high) (no link) =
           let is = link_of_root i k (omega (arith, high)) (omega (arith, link)) in omega (arith, is)
 
-  -- the links of a root stand behind those of the one before
+  -- the links of a root are behind those of the one before
   pub next_root : (i k : ℕ) → suc i < roots → k < links → at (suc i) k ≡ at i k + links
   next_root i k low small =
       let this = link_of_root i k (omega (arith, low)) small in

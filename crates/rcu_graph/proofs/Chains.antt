@@ -1,4 +1,4 @@
--- Chains at one moment, and what a step of the writer leaves of them.
+-- Chains at one moment, and after a step of the writer.
 use Rattle.std.proofs.Common.{◌≡◌, ◌≢◌, ◌⊎◌, ℕ, suc, ◌<◌, ◌≤◌, List, Bool, length, refl, sym, ap}
 use Rattle.std.proofs.Common.{◌∙◌, subst, true, inl, inr, arith}
 use Rattle.std.specs.Prelude.{IsTrue, slice_index}
@@ -98,7 +98,7 @@ module _ (nodes : List Node) where
       leads_on ours root c j x n (c.live from n live is) r (subst (Reaches nodes x) one q) less in
       (rest.0, rest.1, onwards from n is rest.2, rest.3)
 
-  -- a chain to a node stays, where no other live node changes its link
+  -- a chain to a node stays, if no other live node changes its link
   pub still_reached : (ours : List ℕ → Bool) (root : ℕ)
       → IsChained ours root nodes
       → (after : List Node) (i from : ℕ)
@@ -117,7 +117,7 @@ module _ (nodes : List Node) where
       onwards from n (same from live apart ∙ is) (still_reached ours root c after i n same on r)
 
 module _ (opened : ℕ) where
-  -- what a section may be on stays so where a node changes, with its words
+  -- a node that a section may be on stays one when a node changes, with its words
   stays_where : (nodes : List Node) (i : ℕ) (f : Node → Node) (j : ℕ)
       → MayRead opened (state_at nodes j)
       → (MayRead opened (state_at nodes i) → MayRead opened (f (node_at nodes i)).state
@@ -145,7 +145,7 @@ module _ (opened : ℕ) where
   StaysSo before j nodes =
       MayRead opened (state_at nodes j) × ((node_at nodes j).words ≡ (node_at before j).words)
 
-  -- a step leaves what the section may be on as it is
+  -- a step leaves the nodes that the section may be on as they are
   pub stays_readable : (ours : List ℕ → Bool) (root : ℕ) (before after : List Node) (j : ℕ)
       → IsWriterStep ours opened root before after → MayRead opened (state_at before j)
       → MayRead opened (state_at after j) × ((node_at after j).words ≡ (node_at before j).words)
@@ -160,7 +160,7 @@ module _ (opened : ℕ) where
       let second = stays_where mid i (linked_to l (suc k)) j first.0 (λ m. (m, refl)) in
       subst (StaysSo before j) (sym is) (second.0, second.1 ∙ first.1)
 
-  -- a node that the section may be on is the same where one node changes for none that may be on it
+  -- a node that the section may be on is the same if one node changes on which no section may be
   pub same_where : (nodes : List Node) (i : ℕ) (f : Node → Node)
       → IsSameFor opened (node_at nodes i) (f (node_at nodes i))
       → AreSameFor opened nodes (renewed nodes i f)
@@ -173,13 +173,13 @@ module _ (opened : ℕ) where
       (λ (ne : j ≢ i). subst (λ (v : Node). IsSameFor opened (node_at nodes j) v)
       (sym (other_node nodes i j f ne)) (λ may. (may, refl, refl)))
 
-  -- as where a free one changes
+  -- as if a free one changes
   pub unseen_where_free : (nodes : List Node) (i : ℕ) (f : Node → Node) → state_at nodes i ≡ Free
       → AreSameFor opened nodes (renewed nodes i f)
   unseen_where_free nodes i f free = same_where nodes i f
       (λ may. absurd (free_unread opened (state_at nodes i) free may))
 
-  -- and where nodes are reclaimed by a number at which it may be open
+  -- and if nodes are reclaimed by a number at which it may be open
   pub same_reclaimed : (n m : ℕ) (nodes : List Node) → n ≤ m → is_open_at n opened ≡ true
       → AreSameFor opened nodes (reclaimed n m nodes)
   same_reclaimed n m nodes up opens j may =
@@ -202,7 +202,7 @@ module _ (opened : ℕ) (ours : List ℕ → Bool) (root : ℕ) (before : List N
   not_free i free e =
       free_unread opened (state_at before j) (ap (λ (n : ℕ). state_at before n) e ∙ free) may
 
-  -- where it is the node whose link is stored
+  -- if it is the node whose link is stored
   on_after : (after : List Node) (i : ℕ)
       → j ≡ i
       → IsOnIfOurs ours root before i
@@ -214,7 +214,7 @@ module _ (opened : ℕ) (ours : List ℕ → Bool) (root : ℕ) (before : List N
       inr (subst (λ (n : ℕ). Reaches after n root) (sym e)
       (still_reached before ours root c after i root same c.rooted (still mine)))
 
-  -- a node of the chain, which the section may be on, leads where it led, or it is on the chain
+  -- a node of the chain, which the section may be on, leads to the same node, or it is on the chain
   -- after the step
   pub stays_or_on : (after : List Node) → IsWriterStep ours opened root before after
       → (next_of after j ≡ next_of before j) ⊎ Reaches after j root

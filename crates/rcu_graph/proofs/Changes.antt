@@ -1,4 +1,4 @@
--- What each change of a node, and each look at the number, leaves of what holds of the nodes.
+-- Each change of a node, and each load of the number, keeps the invariant of the nodes.
 use Rattle.std.proofs.Common.{◌≡◌, ◌≢◌, ◌⊎◌, ℕ, suc, ◌+◌, ◌-◌, ◌*◌, ◌<◌, ◌≤◌, List, ◌++◌, length}
 use Rattle.std.proofs.Common.{get_or, set, refl, sym, ap, ◌∙◌, subst, inl, inr, arith, length-set}
 use Rattle.std.proofs.lemmas.List.{length-append}
@@ -57,7 +57,7 @@ stored_row roots links width count i q x ws cells many low small size long same 
 
 module _ (fits : List ℕ → Type 0) (joins : ℕ → List ℕ → List ℕ → Type 0) (first : ℕ → List ℕ)
     (roots links width count : ℕ) where
-  -- a link still leads where it led, where the node i is in the same state and has the same words
+  -- a link still leads to the same node, if the node i is in the same state and has the same words
   still_leads : (s : List Node) (i : ℕ) (v w u : Node) (l j : ℕ)
       → get_elem? s i ≡ some v → w.state ≡ v.state → w.words ≡ v.words → Leads joins s u l j
       → Leads joins (set s i w) u l j
@@ -187,7 +187,7 @@ module _ (fits : List ℕ → Type 0) (joins : ℕ → List ℕ → List ℕ →
           → length (xs ++ ys) ≡ a + b
       length_both xs ys a b e f = let n = length-append xs ys in omega (arith, n, e, f)
 
-  -- a link of a free node is stored, or one of a live node that leads to a live one then
+  -- a link of a free node is stored, or one of a live node that then leads to a live one
   pub link_stored : (ws : List ℕ) (s : List Node) (t i l x : ℕ) (v : Node)
       → AreKept fits joins first roots links width count ws s t
       → get_elem? s i ≡ some v
@@ -305,7 +305,7 @@ module _ (fits : List ℕ → Type 0) (joins : ℕ → List ℕ → List ℕ →
       (λ j l u e used lasts joined small link.
       absurd (none_outlives u.state used (subst (Outlives u.state) free lasts)))
 
-  -- a live node to which no live one leads is marked unlinked
+  -- a live node without a link from a live one is marked as unlinked
   pub node_unlinked : (ws : List ℕ) (s : List Node) (t i : ℕ) (v : Node)
       → AreKept fits joins first roots links width count ws s t
       → get_elem? s i ≡ some v

@@ -78,7 +78,7 @@ leads_counts nodes j l i live leads =
     get_or-le-sum_by (λ (v : Node). links_from v i) nodes j no_node (live_inside nodes j live) in
     omega (arith, one, some, from, all)
 
--- where some are counted there is one
+-- if some are counted, there is one
 found_link : (cells : List ℕ) (word : ℕ) → 0 < times_in cells word
     → (l : ℕ) × (l < length cells) × (get_or cells l 0 ≡ word)
 found_link [] word some = absurd (omega (arith, some))
@@ -148,7 +148,7 @@ pub same_state : (nodes : List Node) (i : ℕ) (s : NodeState) → i < length no
 same_state nodes i s low =
     ap (λ (v : Node). v.state) (get_or-set_same nodes i (in_state s (node_at nodes i)) no_node low)
 
--- one node changes: another is as it was, and that one is what was made of it
+-- one node changes: another is as it was, and that one is changed
 pub other_node : (nodes : List Node) (i j : ℕ) (f : Node → Node) → j ≢ i
     → node_at (renewed nodes i f) j ≡ node_at nodes j
 other_node nodes i j f ne = get_or-set_other nodes i j (f (node_at nodes i)) no_node ne
@@ -157,7 +157,7 @@ pub same_node : (nodes : List Node) (i : ℕ) (f : Node → Node) → i < length
     → node_at (renewed nodes i f) i ≡ f (node_at nodes i)
 same_node nodes i f low = get_or-set_same nodes i (f (node_at nodes i)) no_node low
 
--- of a node that is renewed stays what the change keeps
+-- a part of a node that the change keeps stays
 pub kept_at : {A : Type 0} (part : Node → A) (nodes : List Node) (i j : ℕ) (f : Node → Node)
     → i < length nodes → part (f (node_at nodes i)) ≡ part (node_at nodes i)
     → part (node_at (renewed nodes i f) j) ≡ part (node_at nodes j)
@@ -166,7 +166,7 @@ kept_at part nodes i j f low e = dite (ℕ_discrete j i)
     ∙ (ap part (same_node nodes i f low) ∙ (e ∙ ap (λ (k : ℕ). part (node_at nodes k)) (sym is))))
     (λ (ne : j ≢ i). ap part (other_node nodes i j f ne))
 
--- so where its state alone changes
+-- so if only its state changes
 pub state_keeps_links : (nodes : List Node) (i j : ℕ) (s : NodeState) → i < length nodes
     → (node_at (renewed nodes i (in_state s)) j).links ≡ (node_at nodes j).links
 state_keeps_links nodes i j s low = kept_at (λ (v : Node). v.links) nodes i j (in_state s) low refl

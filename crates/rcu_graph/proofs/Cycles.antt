@@ -1,4 +1,4 @@
--- Each node that is not live stands in the stack or waits in the queue, after each step of one.
+-- Each node that is not live is in the stack or in the queue, after each step of one.
 use Rattle.std.proofs.Common.{◌≡◌, ◌≢◌, ℕ, ◌+◌, ◌-◌, ◌<◌, ◌≤◌, Bool, true, false, List, [], ◌∷◌}
 use Rattle.std.proofs.Common.{◌++◌, length, get_or, set, refl, sym, ◌∙◌, arith, subst, replicate}
 use Rattle.std.proofs.lemmas.List.{get_or-replicate, length-append, length-replicate, length-set}
@@ -24,7 +24,7 @@ light Live = omega arith
 light Unlinked = omega arith
 light (Retired a) = omega arith
 
--- no more are so than there are
+-- no more states pass the test than there are
 all_idle : (states : List NodeState) → how_many is_idle states ≤ length states
 all_idle [] = omega arith
 all_idle (s ∷ states) =
@@ -49,7 +49,7 @@ module _ (states : List NodeState) (free heights waiting : List ℕ) (retired : 
         how_many is_idle (after s) + weight u ≡ how_many is_idle states + weight s) e
         (sum_by-set weight states node s Free low)
 
-    -- a free node is live, and the one on top stands at its height
+    -- a free node becomes live, and the one on top takes its height
     module _ (is_free : state_in states node ≡ Free) (rest : List ℕ)
         (fewer : length rest + 1 ≡ length free)
         (moved : get_or heights node 0 + 1 < length free
@@ -86,7 +86,7 @@ module _ (states : List NodeState) (free heights waiting : List ℕ) (retired : 
         live_or_free : Live ≡ Free → ⊥
         live_or_free e = cc
 
-    -- there is room for one more where a node is live
+    -- there is room for one more if a node is live
     pub room_left : state_in states node ≡ Live → length waiting < length states
     room_left is_live =
         let a = (cycle_unlinked is_live).many in
@@ -190,7 +190,7 @@ module _ (count : ℕ) (free heights : List ℕ) (many : length free ≡ count)
     many = let a = sum_by-replicate weight count Free in omega (arith, a, many);
   }
 
--- what was retired first is free where a look frees it
+-- the node that was retired first is free if a load frees it
 pub is_retired : (number retired : ℕ) (s : NodeState) → StandsAt retired s 0 → 0 < retired
     → is_free (reclaimed_state number number s) ≡ true
     → (at : Number) × (s ≡ Retired at) × (is_over number s ≡ true)
@@ -204,7 +204,7 @@ is_retired number retired (Retired at) h some so = (at, refl, go (is_past at num
     go true e = refl
     go false e = absurd (cc)
 
--- what was unlinked first is unlinked
+-- the node that was unlinked first is unlinked
 pub is_unlinked_at : (retired : ℕ) (s : NodeState) → StandsAt retired s retired → s ≡ Unlinked
 is_unlinked_at retired Free h = absurd h
 is_unlinked_at retired Live h = absurd h

@@ -59,12 +59,12 @@ known_is Owner keeps = absurd keeps
 known_is (Reader held) keeps = absurd keeps
 known_is (Writer latest nodes stored) keeps = refl
 
--- what leads to one of so many nodes leads below each bound of their number
+-- a link to one of this number of nodes leads below each bound of their number
 pub below_more : (o : Option ℕ) (n m : ℕ) → n ≤ m → IfSome o (λ j. j < n) → IfSome o (λ j. j < m)
 below_more None n m few low = low
 below_more (Some j) n m few low = omega (arith, few, low)
 
--- what is below one of two numbers that are the same is below the other
+-- a number below one of two equal numbers is below the other
 pub low_in : (i n m : ℕ) → m ≡ n → i < n → i < m
 low_in i n m e low = omega (arith, e, low)
 
@@ -148,7 +148,7 @@ module _ (s : Watching Planned) (i : ℕ) where
       e ∙ (ap (λ (m : ℕ). after_step s (renewed nodes i (with_links_to m links))) end
       ∙ ap (λ (l : List Node). after_step s l) (links_all nodes i n links many size))
 
-  -- what a part of the filling leaves may be stored to and filled on
+  -- after a part of the filling, the node may be stored to and filled further
   pub can_store : (row k : ℕ) (graph : Object Plan) (x : Watching Planned) (f : Node → Node)
       → CanFill graph s i
       → (f (node_at nodes i)).state ≡ (node_at nodes i).state

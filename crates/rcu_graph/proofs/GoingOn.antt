@@ -30,7 +30,7 @@ use Rattle.rcu_graph.proofs.Planned.{number_at, word_at}
 pub some_is_some : (n : ℕ) → Some n ≡ None → ⊥
 some_is_some n e = cc
 
--- whose seat it is tells one seat from another
+-- the owner of a seat distinguishes it from others
 apart : (xs : Views Planned) (i j cpu : ℕ) (section own : Option ℕ) (was known : Planned)
     → get_elem? xs i ≡ some (Some cpu, section, was) → get_elem? xs j ≡ some (None, own, known)
     → j ≢ i
@@ -150,7 +150,7 @@ module _ (fits : Plan → List ℕ → Type 0) (joins : Plan → ℕ → List �
       sections = stayed refl;
     }
 
-  -- it goes on by what a step of the writer tells
+  -- it goes on by a step of the writer
   abbrev GoesTo : Known → Type 0
   GoesTo known = (after : Moment) × Goes after × (after.writer ≡ known)
 

@@ -1,4 +1,4 @@
--- What the rule says of nodes that open sections hold.
+-- The rule for nodes that open sections hold.
 use Rattle.std.proofs.Common.{◌≡◌, ◌≢◌, ℕ, suc, ◌+◌, ◌<◌, List, ◌∷◌, Bool, Option, length, refl}
 use Rattle.std.proofs.Common.{set, sym, ap, ◌∙◌, subst, inl, inr, arith}
 use Rattle.std.specs.Prelude.{IsTrue, slice_index}
@@ -270,7 +270,7 @@ module _ (fits : List ℕ → Type 0) (joins : ℕ → List ℕ → List ℕ →
       (set_else xs id writer (cpu, section, now) apart ∙ kept) at
       (set_here xs id (cpu, section, now) (inside xs id (cpu, section, was) at)) reads on low told
 
-  -- at each moment the nodes are chained, where the keys go up and a link stays in its chain
+  -- at each moment the nodes are chained, if the keys go up and a link stays in its chain
   pub chains : (ours : List ℕ → Bool) (root : ℕ) (table : List ℕ)
       (xs : Views Known) (writer latest : ℕ) (who own : Option ℕ) (nodes : List Node)
       (stored : List (List Node))

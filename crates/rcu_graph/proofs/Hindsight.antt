@@ -101,7 +101,7 @@ module _ (ours : List ℕ → Bool) (opened root last : ℕ) (nodes : ℕ → Li
     reached = further (nodes t) j to n leads r;
   }
 
-  -- to where a node leads that was on the chain, the chain led
+  -- the chain led to each node to which a node of the chain leads
   led_behind : (j s d t to : ℕ)
       → t ≡ s + d → t ≤ last → Reaches (nodes s) j root → next_of (nodes t) j ≡ suc to
       → WasBehind t to
@@ -298,7 +298,7 @@ module _ (ours : List ℕ → Bool) (opened root key last : ℕ) (nodes : ℕ �
         low = omega (arith, up, rest, h);
       }
 
-  -- what a hop from a passed node found
+  -- the result of a hop from a passed node
   record IsFoundBy (t : ℕ) (hop : Hop) : Type 0 where
     pub to : ℕ
     pub is : hop.to ≡ suc to

@@ -1,4 +1,5 @@
--- A graph that joins an engine: who has what the engine's own watcher knew of it keeps its nodes.
+-- A graph that joins an engine: the seat with the knowledge of the engine's own watcher about it is
+-- its nodes' writer.
 use Rattle.std.proofs.Common.{◌≡◌, ◌∙◌, ℕ, List, [], ap, refl, sym}
 use Rattle.rcu_live.specs.Board.{Object}
 use Rattle.rcu_live.specs.InPart.{engine_part, watcher_part}
@@ -18,7 +19,7 @@ use Rattle.rcu_graph.proofs.Keeping.{keeps_first}
 module _ {D Q : Type 0} (lens : Lens D Planned) (idle closed : Planned → Planned)
     (idle_whole closed_whole : D → D) (is : IsLens lens idle closed idle_whole closed_whole)
     (own_plan : Q → Plan) (begins : ℕ → Q → ℕ) where
-  -- so is the seat that has what was handed over, and claims the nodes
+  -- so is the seat that got the knowledge, and claims the nodes
   pub joins : (engine : Object Q) (own new seat : Watching D) (first : ℕ → List ℕ)
       → IsWatcherOf (engine_part own_plan begins engine) (watcher_part lens own)
       → lens.get own.view.client ≡ of_plan (own_plan engine.plan) Owner
@@ -55,7 +56,7 @@ module _ {D Q : Type 0} (lens : Lens D Planned) (idle closed : Planned → Plann
       keeps_first plan graph.base first graph (watcher_part lens new) (watcher_part lens seat) refl
       refl is_new is_seat
 
-  -- of all else it knows what a seat knows that is dealt
+  -- for the rest it has the knowledge of a dealt seat
   pub joined_as : (own new seat : Watching D) (first : ℕ → List ℕ) (plan : Plan)
       → lens.get own.view.client ≡ of_plan plan Owner
       → new ≡ watcher_at_first own.table own.view.base

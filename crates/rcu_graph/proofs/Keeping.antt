@@ -1,4 +1,4 @@
--- Who keeps the nodes keeps them after each of its steps.
+-- The nodes' writer is still their writer after each of its steps.
 use Rattle.std.proofs.Common.{◌≡◌, ◌<◌, ℕ, suc, List, [], length, refl, sym, ap, ◌∙◌, subst}
 use Rattle.std.proofs.lemmas.List.FromFn.{length-map-range_with_len}
 use Rattle.rcu_live.specs.Board.{Object}
@@ -17,7 +17,7 @@ use Rattle.rcu_graph.specs.declared.node_state.NodeState.TheVariants.{Live}
 use Rattle.rcu_graph.specs.declared.plan.Plan.{Plan}
 use Rattle.rcu_graph.proofs.Planned.{told_at}
 
--- a watcher of the graph is one still where its nodes change
+-- a watcher of the graph still is one if its nodes change
 pub watches_on : (graph : Object Plan) (s : Watching Planned) (known : Known)
     → IsWatcherOf graph s → IsWatcherOf graph (after_word_step s (knowing s.view.client known))
 watches_on graph s known w = record { engine = w.engine; planned = w.planned }
@@ -44,7 +44,7 @@ keeps_on graph old new latest nodes stored same stays is few k =
       few = few;
     })
 
--- where a link was stored that leads to a node which is live then, it was led to that one
+-- if a link was stored that leads to a node which is then live, it was led to that one
 pub led_to : (old new : Watching Planned) (plan : Plan) (place from link to x : ℕ)
     → new ≡ after_word_step old new.view.client
     → old.view.client.plan ≡ plan

@@ -1,5 +1,5 @@
--- The nodes stay tended and counted where a free node is written and where nodes are reclaimed, and
--- are so at first.
+-- The nodes stay tended and counted if a free node is written and if nodes are reclaimed, and are
+-- so at first.
 use Rattle.std.proofs.Common.{◌≡◌, ◌≢◌, ℕ, zero, suc, ◌+◌, ◌<◌, ◌≤◌, Bool, true, false, List, []}
 use Rattle.std.proofs.Common.{◌∷◌, length, get_or, replicate, refl, sym, ap, ◌∙◌, arith, subst}
 use Rattle.std.specs.Prelude.{if◌then◌else◌, nat_lt, slice_index}

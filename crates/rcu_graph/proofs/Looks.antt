@@ -1,4 +1,4 @@
--- Looks at the number while no node is free, one after another.
+-- Loads of the number while no node is free, one after another.
 use Rattle.std.proofs.Common.{◌≡◌, ℕ, zero, suc, ◌<◌, ◌≤◌, true, false, List, length, refl}
 use Rattle.std.proofs.Common.{sym, ap, ◌∙◌, arith, Err, IfOk, Ok, OnErr, OnOk, Result}
 use Rattle.std.proofs.Common.{subst}
@@ -20,7 +20,7 @@ use Rattle.rcu_graph.specs.declared.node_state.NodeState.TheVariants.{Free, Live
 use Rattle.rcu_graph.proofs.Counting.{live_test, test_live}
 use Rattle.rcu_graph.proofs.Keeps.{is_live_reclaimed}
 
--- a look, a first one, and one more
+-- a load, a first one, and one more
 look : (k m : Watching Planned) (n : Number)
     → AreAllUsed (nodes_in k.view.client.known) → k.view.seen ≤ n → m ≡ after_look k n → IsLook k m
 look k m n full later new =
@@ -74,7 +74,7 @@ pub still_live : (A B : List Node) → AreAsLive A B → (i : ℕ) → state_at 
     → state_at B i ≡ Live
 still_live A B s i live = test_live (state_at B i) (s.live i ∙ live_test (state_at A i) live)
 
--- so they are after a look, and after looks
+-- so they are after a load, and after several
 pub reclaimed_as_live : (A : List Node) (n latest : ℕ) → AreAsLive A (reclaimed n latest A)
 reclaimed_as_live A n latest = record {
   many = length-map A (reclaimed_node n latest);
@@ -131,7 +131,7 @@ same_after_look k m n new = record {
   plan = ap (λ (w : Watching Planned). w.view.client.plan) new;
 }
 
--- what asks for a free node found none; it found one, and so not all are used
+-- a call that needs a free node found none; it found one, and so not all are used
 pub refused : {T F P : Type 0} (r : Result T F) → is_ok r ≡ false → OnErr r P → P
 refused (Ok _) e told = absurd (cc)
 refused (Err _) e told = told

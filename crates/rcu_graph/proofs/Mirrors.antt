@@ -1,4 +1,4 @@
--- Nodes made of rows: where one cell changes, one node does.
+-- Nodes made of rows: if one cell changes, one node does.
 use Rattle.std.proofs.Common.{◌≡◌, ℕ, zero, suc, ◌+◌, ◌*◌, ◌<◌, ◌≤◌, List, [], ◌∷◌, ◌++◌, length}
 use Rattle.std.proofs.Common.{get_or, map, set, take, drop, replicate, refl, sym, ap, ◌∙◌, arith}
 use Rattle.std.specs.Prelude.{slice_index}
@@ -164,7 +164,7 @@ drop_zeros (suc n) m =
 more : (row n : ℕ) → row * suc n ≡ row + row * n
 more row n = grind arith
 
--- so many free nodes, whose links and words are 0
+-- this number of free nodes, whose links and words are 0
 pub nodes_of_zeros : (links width count : ℕ)
     → nodes_of links width (replicate count Free) (replicate (links * count) 0)
     (replicate (width * count) 0)
@@ -227,7 +227,7 @@ long_drop zero m l low = omega (arith, low)
 long_drop (suc n) m [] low = absurd (omega (arith, low))
 long_drop (suc n) m (x ∷ l) low = long_drop n m l (omega (arith, low))
 
--- each node has so many links and words
+-- each node has this number of links and words
 pub sizes_of : (links width : ℕ) (states : List NodeState) (cells words : List ℕ)
     → length cells ≡ links * length states
     → length words ≡ width * length states
@@ -245,7 +245,7 @@ sizes_of links width (s ∷ states) cells words a b (suc i) low =
     (long_drop width (width * length states) words (b ∙ more width (length states))) i
     (omega (arith, low))
 
--- what two changes of one node make of it, one does
+-- two changes of one node are one change
 pub renewed_twice : (nodes : List Node) (i : ℕ) (f g : Node → Node) → i < length nodes
     → renewed (renewed nodes i f) i g ≡ renewed nodes i (λ v. g (f v))
 renewed_twice [] i f g low = absurd (omega (arith, low))
@@ -279,7 +279,7 @@ words_all nodes i n words many size =
     ap (λ (ws : List ℕ). set nodes i (made (node_at nodes i).state (node_at nodes i).links ws))
     (mixed_all n words (node_at nodes i).words many size)
 
--- nodes whose states are those after a look
+-- nodes whose states are those after a load of the number
 pub reclaimed_of : (links width n : ℕ) (states : List NodeState) (cells words : List ℕ)
     → nodes_of links width (map (reclaimed_state n n) states) cells words
     ≡ reclaimed n n (nodes_of links width states cells words)

@@ -1,4 +1,4 @@
--- Each step on the nodes keeps the rule, and tells what it is to tell.
+-- Each step on the nodes keeps the rule, and has its relation.
 use Rattle.std.proofs.Common.{◌≡◌, ◌≢◌, ◌⊎◌, ℕ, zero, suc, ◌+◌, ◌<◌, ◌≤◌, List, [], ◌∷◌, length}
 use Rattle.std.proofs.Common.{set, Some, Option, refl, sym, ap, ◌∙◌, subst, inl, inr, arith}
 use Rattle.std.proofs.Common.{length-set}
@@ -36,7 +36,7 @@ number_of_some a b e = cc
 
 module _ (fits : List ℕ → Type 0) (joins : ℕ → List ℕ → List ℕ → Type 0) (first : ℕ → List ℕ)
     (roots links width count : ℕ) where
-  -- what a reader knows of each node that it holds
+  -- a reader's knowledge about each node that it holds
   pub knows_held : (nodes : List Node) (latest writer id : ℕ) (section : Option ℕ) (known : Known)
       → IsReader known
       → Knows first roots links width count nodes latest writer id section known
@@ -49,7 +49,7 @@ module _ (fits : List ℕ → Type 0) (joins : ℕ → List ℕ → List ℕ →
   knows_held nodes latest writer id section (Reader hops) reads k i words h = k i words h
   knows_held nodes latest writer id section (Writer l s b) reads k i words h = absurd reads
 
-  -- and after one hop more
+  -- and after one more hop
   one_more : (nodes : List Node) (section : Option ℕ) (hop : Hop) (hops : List Hop)
       → ((j : ℕ) → hop.to ≡ suc j → Reading nodes section j hop.words)
       → ((i : ℕ) (words : List ℕ) → IsHeld (Reader hops) i words → Reading nodes section i words)
@@ -85,7 +85,7 @@ module _ (fits : List ℕ → Type 0) (joins : ℕ → List ℕ → List ℕ →
         subst (λ (n : ℕ). MayRead n r.on.state) (sym (number_of_some at r.opened r.is_open)) r.may,
       )
 
-  -- nothing is known anew
+  -- no new knowledge
   stays : (ws : List ℕ) (xs : Views Known)
       (h : IsKept fits joins first roots links width count ws xs) (id : ℕ)
       (cpu section : Option ℕ) (known : Known)
@@ -242,7 +242,7 @@ module _ (fits : List ℕ → Type 0) (joins : ℕ → List ℕ → List ℕ →
         ),
       )
 
-  -- the writer's step: the nodes become these, and who is on one goes on
+  -- the writer's step: the nodes become these, and a section on one of them stays on it
   rekeep : (ws new : List ℕ) (xs : Views Known)
       (h : IsKept fits joins first roots links width count ws xs) (id : ℕ)
       (cpu section : Option ℕ) (known : Known)
@@ -285,7 +285,7 @@ module _ (fits : List ℕ → Type 0) (joins : ℕ → List ℕ → List ℕ →
           }
       other j who o (Writer c l b) apart e k = absurd (apart (sym k.2 ∙ is_writer))
 
-  -- the same where one node changes
+  -- the same if one node changes
   renews : (ws new : List ℕ) (xs : Views Known)
       (h : IsKept fits joins first roots links width count ws xs) (id : ℕ)
       (cpu section : Option ℕ) (t : ℕ) (s : List Node) (b stored : List (List Node)) (i : ℕ)
@@ -350,8 +350,8 @@ module _ (fits : List ℕ → Type 0) (joins : ℕ → List ℕ → List ℕ →
             ap (λ (y : ℕ × ℕ). Writer t (renewed s y.0 (worded y.1 x)) b) (λ z. (one z, two z)),
       )
 
-  -- a link is stored: of a free node, or of a live one, which leads nowhere or to a live one then.
-  -- What the writer knows of such stores is this then
+  -- a link is stored: of a free node, or of a live one, which then leads nowhere or to a live one.
+  -- The writer then has this knowledge about such stores
   pub links_to : (cpu section : Option ℕ) (t i l x : ℕ) (s : List Node) (b : List (List Node))
       (stored : List Node → List (List Node))
       → i < length s
@@ -381,7 +381,7 @@ module _ (fits : List ℕ → Type 0) (joins : ℕ → List ℕ → List ℕ →
             (stored (renewed s y.0 (linked_to y.1 x)))) (λ z. (one z, two z)),
       )
 
-  -- a live node is linked to a free one, which is live then
+  -- a live node is linked to a free one, which is then live
   pub publishes : (cpu section : Option ℕ) (t i l j : ℕ) (s : List Node) (b : List (List Node))
       → i < length s
       → j < length s
@@ -449,7 +449,7 @@ module _ (fits : List ℕ → Type 0) (joins : ℕ → List ℕ → List ℕ →
             (λ z. (one z, two z, three z)),
       )
 
-  -- a live node to which no live one leads is marked unlinked
+  -- a live node without a link from a live one is marked as unlinked
   pub marks_unlinked : (cpu section : Option ℕ) (t i k : ℕ) (s : List Node) (b : List (List Node))
       → i < length s
       → k < links + width
@@ -476,7 +476,7 @@ module _ (fits : List ℕ → Type 0) (joins : ℕ → List ℕ → List ℕ →
             (told roots links width i i' k k' low low' e).0,
       )
 
-  -- the writer's look: what no section may be on any more is free
+  -- the writer's load of the number: a node that no section may be on is free
   pub reclaims : (cpu section : Option ℕ) (t : ℕ) (s : List Node) (b : List (List Node))
       → AllowsNumber (IsKept fits joins first roots links width count) cpu section (Writer t s b)
       (IsReclaimed (Writer t s b))
@@ -500,7 +500,7 @@ module _ (fits : List ℕ → Type 0) (joins : ℕ → List ℕ → List ℕ →
         refl,
       )
 
-  -- the load by which the nodes are kept from now on
+  -- the load that makes the seat the nodes' writer
   pub claims : (cpu section : Option ℕ) (p : ℕ)
       → AllowsWord (IsKept fits joins first roots links width count) cpu section Owner p (λ n. n)
       (λ _ now. IsClaimed first roots links width count now)

@@ -1,4 +1,4 @@
--- A writer has its graph, whose plan its seat knows: what is said of the one is so of the other.
+-- A writer has its graph, whose plan its seat knows: a property of one plan is one of the other.
 use Rattle.std.proofs.Common.{◌≡◌, subst, sym}
 use Rattle.rcu_live.specs.Board.{Object}
 use Rattle.rcu_live.specs.Watcher.{Watching}
@@ -8,7 +8,7 @@ use Rattle.rcu_graph.specs.declared.plan.Plan.{Plan}
 
 module _ (graph : Object Plan) (seat writer : Watching Planned) (is : seat ≡ writer)
     (watches : IsWatcherOf graph seat) where
-  -- from what the writer's seat knows to its graph
+  -- from the knowledge of the writer's seat to its graph
   pub of_graph : (said : Plan → Watching Planned → Type 0) → said writer.view.client.plan writer
       → said graph.plan seat
   of_graph said so =

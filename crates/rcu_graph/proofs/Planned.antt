@@ -1,4 +1,4 @@
--- What a rule allows that does not speak of the plan, the one that does allows too.
+-- A step that a rule without the plan allows is also allowed by the rule with it.
 use Rattle.std.proofs.Common.{◌≡◌, ◌<◌, ℕ, zero, suc, List, [], ◌∷◌, Option, Some, refl}
 use Rattle.std.proofs.Common.{sym, ap, ◌∙◌, subst, map}
 use Rattle.std.proofs.lemmas.List.{map-set}
@@ -85,12 +85,12 @@ module _ (holds : List ℕ → Views Known → Type 0) (plan : Plan)
       (still_lone xs lone) (at_map unplanned xs id (cpu, section, was) at) in
       (knowing was r.0, knows_else words words xs id r.0 h at r.1, (refl, r.2))
 
--- a graph is as large as its engine was told
+-- a graph has the size of its engine's plan
 pub same_plan : (graph live : Object Plan) (plan : Plan)
     → live ≡ graph → live.plan ≡ plan → graph.plan ≡ plan
 same_plan graph live plan view is = ap (λ (o : Object Plan). o.plan) (sym view) ∙ is
 
--- what a step told by the plan, where that is known
+-- the relation of a step by the plan, if that is known
 pub told_at : (tells : Plan → ℕ → Known → ℕ → Known → Type 0) (place : ℕ) (was : Planned) (x : ℕ)
     (now : Planned) (plan : Plan)
     → was.plan ≡ plan → tells_word tells place was x now → tells plan place was.known x now.known
@@ -124,7 +124,7 @@ module _ (fits : Plan → List ℕ → Type 0) (joins : Plan → ℕ → List �
       (λ n now. (now.plan ≡ was.plan) × tells n now.known))
       is (allows_number kept was.plan cpu section was tells allowed)
 
--- what a load of a link told, in a graph of this plan
+-- the relation of a load of a link, in a graph of this plan
 pub followed_of : (fits : Plan → List ℕ → Type 0) (joins : Plan → ℕ → List ℕ → List ℕ → Type 0)
     (first : Plan → ℕ → List ℕ) (plan : Plan) (was now : Planned) (i l place x : ℕ)
     (words : List ℕ)

@@ -1,4 +1,4 @@
--- What a writer's steps on chains ask for.
+-- The conditions of a writer's steps on chains.
 use Rattle.std.proofs.Common.{◌≡◌, ◌≢◌, ℕ, zero, suc, ◌<◌, List, [], ◌∷◌, Option, Some, None}
 use Rattle.std.proofs.Common.{length, map, refl, sym, ap, ◌∙◌, subst, arith}
 use Rattle.std.specs.Prelude.{All, IfSome, slice_index, slice_index_or}
@@ -25,7 +25,7 @@ pub not_free : (A : List Node) (node i : ℕ) → state_at A node ≡ Free → s
 not_free A node i free live is =
     free_or_live (state_at A node) free (ap (λ (n : ℕ). state_at A n) (sym is) ∙ live)
 
--- a link that leads to one of so many nodes, or nowhere, stands alone in a list
+-- a list of one link that leads to one of this number of nodes, or nowhere
 pub one_inside : (count : ℕ) (next : Option ℕ) → ((j : ℕ) → word_to next ≡ suc j → j < count)
     → All (λ to. IfSome to (λ other. other < count)) (next ∷ [])
 one_inside count next low k d inside = go next low k inside
@@ -54,7 +54,7 @@ target_of joins words nodes x there j e =
     let r = there j e in
     (node_at nodes j, here_at nodes j (live_inside nodes j r.0), r.0, r.1)
 
--- nodes are kept still, where a writer of the same plan tends as many
+-- nodes are still kept, if a writer of the same plan tends as many
 pub are_kept : (fits : Plan → List ℕ → Type 0) (joins : Plan → ℕ → List ℕ → List ℕ → Type 0)
     (before now : Watching Planned)
     → now.view.client.plan ≡ before.view.client.plan

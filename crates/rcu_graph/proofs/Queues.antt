@@ -17,7 +17,7 @@ is_gone retired k Live h = h
 is_gone retired k Unlinked h = tt
 is_gone retired k (Retired a) h = tt
 
--- one stands a place nearer to the front, or one more is retired
+-- one moves a place nearer to the front, or one more is retired
 nearer : (retired k : ℕ) (s : NodeState) → 0 < retired → StandsAt retired s (1 + k)
     → StandsAt (retired - 1) s k
 nearer retired k Free some h = h

@@ -1,4 +1,4 @@
--- A writer that releases links: what it unlinks, it unlinks because no live node leads there.
+-- A writer that releases links: it unlinks a node only because no live node leads to it.
 use Rattle.std.proofs.Common.{◌≡◌, ◌≢◌, ◌⊎◌, inr, ⊎_elim, ℕ, suc, ◌+◌, ◌<◌, ◌≤◌, Bool, true, List}
 use Rattle.std.proofs.Common.{[], ◌∷◌, ◌++◌, length, set, take, drop, refl, sym, ap, ◌∙◌, arith}
 use Rattle.std.proofs.Common.{subst, append_assoc, length-set}

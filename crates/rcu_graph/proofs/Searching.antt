@@ -7,7 +7,7 @@ use Rattle.rcu_graph.specs.Steps.{Followed}
 use Rattle.rcu_graph.specs.declared.known.Hop.{Hop}
 use Rattle.rcu_graph.specs.declared.known.Known.{Known}
 
--- a search on its way: its hops so far are a path from the root over lesser keys to this node
+-- a search in progress: its hops so far are a path from the root over lesser keys to this node
 pub record IsOnPath (root key : ℕ) (was now : Known) (node : ℕ) : Type 0 where
   pub path : List Hop
   pub are : hops_in now ≡ path ++ hops_in was

@@ -31,7 +31,7 @@ use Rattle.rcu_graph.proofs.GoingOn.{some_is_some}
 use Rattle.rcu_graph.proofs.States.{not_both}
 use Rattle.rcu_graph.proofs.Stores.{move_grows}
 
--- what is so of each of three nodes
+-- a property of each of three nodes
 each : (a b c : Node) (P : ℕ → Node → Type 0) → P 0 a → P 1 b → P 2 c → (i : ℕ) (v : Node)
     → get_elem? (a ∷ b ∷ c ∷ []) i ≡ some v → P i v
 each a b c P p q r zero v e = subst (P 0) (some-injective _ _ e) p
@@ -118,7 +118,7 @@ kept_at : (t : ℕ) → Kept t
 kept_at zero = kept_first
 kept_at (suc t) = kept_then t
 
--- a section knows what is so of these nodes, where it is so of each hop
+-- a section's knowledge is true of these nodes, if each hop is
 abbrev Holds : ℕ → List Hop → Type 0
 Holds t hops = (i : ℕ) (words : List ℕ) → IsHeld (Reader hops) i words
     → Reading (small_nodes t) (Some 0) i words
@@ -150,7 +150,7 @@ reads_at t j v i to there live =
       may = subst (MayRead 0) (sym live) tt;
     })
 
--- what is so of each of two seats
+-- a property of each of two seats
 seated : {C : Type 0} (x y : ClientView C) (P : ℕ → ClientView C → Type 0) → P 0 x → P 1 y
     → (id : ℕ) (z : ClientView C) → get_elem? (x ∷ y ∷ []) id ≡ some z → P id z
 seated x y P p q zero z e = subst (P 0) (some-injective _ _ e) p
@@ -224,7 +224,7 @@ told_published i l j low at to =
     (linked_to n.1 3)))
     (λ x. (e x, f x, g x)) refl
 
--- what a section holds that made one hop
+-- the node that a section holds after one hop
 held_first : (i : ℕ) (words : List ℕ) → IsHeld (Reader (first_hop ∷ [])) i words
     → words ≡ 5 ∷ []
 held_first i words (zero, h, there, to, is) =
@@ -372,7 +372,7 @@ small_not_on (looked number opens told) on =
 not_one : (n : ℕ) → Some n ≡ Some (suc n) → ⊥
 not_one n e = let same : n ≡ suc n = cc in absurd (omega (arith, same))
 
--- the second seat keeps nothing, and its section began at no other number
+-- the second seat is no writer, and its section began at no other number
 pub small_not_writer : IsKeptAt small_fits small_joins small_first small_plan 1 (small_moment 0 [])
     → ⊥
 small_not_writer kept =

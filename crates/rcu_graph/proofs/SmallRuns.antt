@@ -10,7 +10,7 @@ use Rattle.rcu_graph.specs.SmallRun.{first_hop, second_hop, small_nodes}
 use Rattle.rcu_graph.specs.declared.known.Known.TheVariants.{Reader}
 use Rattle.rcu_graph.specs.declared.node_state.NodeState.TheVariants.{Live}
 
--- where the nodes lead: the root alone leads to one, and then the node 1 too
+-- the targets of the nodes: only the root leads to one, and then the node 1 too
 led_at_first : (i j : ℕ) → next_of (small_nodes 0) i ≡ suc j → (i ≡ 0) × (j ≡ 1)
 led_at_first zero j leads = (refl, omega (arith, leads))
 led_at_first (suc zero) j leads = absurd (omega (arith, leads))

@@ -1,4 +1,4 @@
--- Each free node stands in the stack at its height after a step of one node.
+-- Each free node is in the stack at its height after a step of one node.
 use Rattle.std.proofs.Common.{◌≡◌, ◌≢◌, ℕ, ◌+◌, ◌-◌, ◌<◌, List, [], ◌∷◌, ◌++◌, length, get_or}
 use Rattle.std.proofs.Common.{set, refl, sym, ap, ◌∙◌, arith, subst}
 use Rattle.std.proofs.lemmas.List.{get_or-set_other, get_or-set_same, get_or_append_left}
@@ -20,7 +20,7 @@ module _ (states : List NodeState) (node : ℕ) (s : NodeState) (low : node < le
   pub at_other : (i : ℕ) → i ≢ node → state_in now i ≡ state_in states i
   at_other i ne = get_or-set_other states node i s Free ne
 
-  -- in what state the node was not, those are as before that were in it, and the other way round
+  -- for a state in which the node was not, the nodes in it are as before, and conversely
   pub stays : (i : ℕ) (t : NodeState) → state_in states node ≢ t → state_in states i ≡ t
       → (i ≢ node) × (state_in now i ≡ t)
   stays i t ne is =
@@ -113,7 +113,7 @@ module _ (states : List NodeState) (node : ℕ) (s : NodeState) (low : node < le
         home = home;
       }
 
-    -- a free node is taken out, and the one on top stands at its height
+    -- a free node is taken out, and the one on top takes its height
     module _ (is_free : state_in states node ≡ Free) (sf : s ≢ Free) (left : List ℕ)
         (fewer : length left + 1 ≡ length free) where
       abbrev p : ℕ

@@ -1,4 +1,4 @@
--- What is said of the states of nodes is said of the nodes.
+-- Properties of the states of nodes are properties of the nodes.
 use Rattle.std.proofs.Common.{◌≡◌, ◌<◌, ◌≤◌, ℕ, zero, suc, Bool, true, false, List, [], ◌∷◌, length}
 use Rattle.std.proofs.Common.{subst, sym, ap, ◌∙◌, arith}
 use Rattle.std.specs.Prelude.{if◌then◌else◌, nat_lt, IfNone, IfSome, None, Option, Some}

@@ -47,7 +47,7 @@ in_range n i low =
 not_below : (i n : ℕ) → nat_lt i n ≡ false → n ≤ i
 not_below i n e = grind (arith, nat_tests)
 
--- a row of zeros and of words, where they stand so
+-- a row of zeros and of words, if they are like this
 row_is : (roots links width i : ℕ) (behind words : List ℕ)
     → length words ≡ width
     → ((l : ℕ) → l < links → slice_index behind (place_of roots links width i l) ≡ 0)
@@ -77,7 +77,7 @@ row_is roots links width i behind words size zeros same k low = by (dec_le links
 
 module _ (fits : List ℕ → Type 0) (joins : ℕ → List ℕ → List ℕ → Type 0) (first : ℕ → List ℕ)
     (roots links width count : ℕ) where
-  -- what holds of each root and of each free node, holds of each node at first
+  -- a property of each root and of each free node holds for each node at first
   each : (P : ℕ → Node → Type 0)
       → ((i : ℕ) → i < count → i < roots → P i (root links (first i)))
       → ((i : ℕ) → i < count → roots ≤ i → P i (free_node links width))

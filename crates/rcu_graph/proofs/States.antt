@@ -1,5 +1,5 @@
--- States of nodes: who may be on a node in one may go on to one in another, and after a look at the
--- number too.
+-- States of nodes: a section that may be on a node in one state may go on to a node in another,
+-- also after a load of the number.
 use Rattle.std.proofs.Common.{◌≡◌, ◌≤◌, Bool, true, false, refl, sym, ◌∙◌, arith}
 use Rattle.std.specs.Prelude.{if◌then◌else◌}
 use Rattle.std.proofs.lemmas.Bool.Decides.{nat_tests}
@@ -55,7 +55,7 @@ live_outlived (Retired b) o = absurd o
 true_false : true ≡ false → ⊥
 true_false e = cc
 
--- what ended after the second number ended after the first
+-- a grace period that ended after the second number ended after the first
 past_before : (a b n : Number) → a ≤ b → is_past b n ≡ true → is_past a n ≡ true
 past_before a b n up past = grind (arith, nat_tests)
 
@@ -121,7 +121,7 @@ outlives_reclaimed n m latest (Retired a) (Retired b) up by o used =
     past false true e f used = absurd (true_false (sym (past_before a b n o f) ∙ e))
     past false false e f used = o
 
--- who has an open section may be on a node after a look at the number, if it might before
+-- an open section may be on a node after a load of the number, if it might before
 pub may_reclaimed : (at n m : Number) (st : NodeState) → n ≤ m → is_open_at n at ≡ true
     → MayRead at st
     → MayRead at (reclaimed_state n m st)

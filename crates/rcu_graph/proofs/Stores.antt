@@ -22,7 +22,7 @@ use Rattle.rcu_graph.proofs.Chains.{reclaimed_at}
 use Rattle.rcu_graph.proofs.Counting.{kept_at, live_inside, other_node, same_state}
 use Rattle.rcu_graph.proofs.States.{live_reclaimed, not_both, not_unlinked}
 
--- what is linked by live nodes is so in all nodes that have the same links and words
+-- keys linked by live nodes are so in all nodes that have the same links and words
 module _ (ours : List ℕ → Bool) (root : ℕ) (A B : List Node) (c : IsChained ours root A)
     (same : (y : ℕ) → state_at A y ≡ Live
     → (next_of B y ≡ next_of A y) × (key_at B y ≡ key_at A y)) where
@@ -45,7 +45,7 @@ module _ (ours : List ℕ → Bool) (root : ℕ) (A B : List Node) (c : IsChaine
         has = (same k.holder (live_at_end k.holder k.begin first k.reached)).1 ∙ k.has;
       }
 
-  -- and so are words, where each live node has its own
+  -- and so are words, if each live node has its own
   pub words_on : (words : List ℕ)
       → ((y : ℕ) → state_at A y ≡ Live → (node_at B y).words ≡ (node_at A y).words)
       → AreLinkedWords root words A → AreLinkedWords root words B
@@ -190,7 +190,7 @@ module _ (plan : Plan) (before after : Moment) where
       subst (λ (k : Known). AreQuiet (nodes_in before.writer) (nodes_in k)) (sym told.1)
       (reclaimed_quiet (nodes_in before.writer) _ _)
 
--- what a quiet move leaves of the chain
+-- the chain after a quiet move
 module _ (ours : List ℕ → Bool) (root : ℕ) (A B : List Node) (a : IsChained ours root A)
     (b : IsChained ours root B) (q : AreQuiet A B) where
   ahead : (y : ℕ) → state_at A y ≡ Live
@@ -242,7 +242,7 @@ module _ (fits : Plan → List ℕ → Type 0) (joins : Plan → ℕ → List �
       let same : stores_at (suc u) ≡ stores_at t = ap stores_at (sym next) in
       omega (arith, was, move, same)
 
-  -- what each quiet move keeps is so until the next store
+  -- a property that each quiet move keeps holds until the next store
   carried : (P : ℕ → Type 0)
       → ((t : ℕ) → t < last → stores_at (suc t) ≤ stores_at t → P t → P (suc t))
       → (s d t : ℕ) → t ≡ s + d → t ≤ last → stores_at t ≤ stores_at s → P s → P t
@@ -317,7 +317,7 @@ module _ (fits : Plan → List ℕ → Type 0) (joins : Plan → ℕ → List �
       (quiet n under none))
       s (t - s) t (omega (arith, up)) low few
 
-  -- between two moments the writer made one store at most
+  -- between two moments the writer made at most one store
   module _ (s u : ℕ) (end : u ≤ last) (one : stores_at u ≤ suc (stores_at s)) where
     -- a key that is linked at both is linked between
     pub linked_between : (key t : ℕ) → s ≤ t → t ≤ u
@@ -354,7 +354,7 @@ module _ (fits : Plan → List ℕ → Type 0) (joins : Plan → ℕ → List �
         inl (words_back_to words s t from (omega (arith, to, end)) not_yet is))
         (cases_lt (stores_at s) (stores_at t))
 
-    -- where each live node was on its chain, the one that it led elsewhere was
+    -- if each live node was on its chain, the one that was led elsewhere was
     pub on_chain_between : AreAllOn ours root (nodes_at moments s)
         → (t : ℕ) (low : t < last) → s ≤ t → t < u
         → IsOnChain plan (moments t) (moments (suc t)) ours root (kept.moves t low)

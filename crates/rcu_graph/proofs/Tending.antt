@@ -1,5 +1,5 @@
--- A writer's nodes before a link is stored, after it, and after what no live node leads to was
--- unlinked.
+-- A writer's nodes before a link is stored, after it, and after all nodes without a link from a
+-- live one were unlinked.
 use Rattle.std.proofs.Common.{◌≡◌, ◌≢◌, ◌⊎◌, inl, inr, ⊎_elim, ℕ, zero, suc, ◌+◌, ◌*◌, ◌<◌, ◌≤◌}
 use Rattle.std.proofs.Common.{Bool, true, false, List, [], ◌∷◌, ◌++◌, length, get_or, set, take}
 use Rattle.std.proofs.Common.{drop, refl, sym, ap, ◌∙◌, arith, subst, length-set}
@@ -83,7 +83,7 @@ links_to-le links width count nodes i few sized =
     turn : (a b c : ℕ) → a ≡ c → a * b ≡ b * c
     turn a b c e = ap (λ (n : ℕ). n * b) e ∙ grind arith
 
--- the counts after one link more: they are as many
+-- the counts after one more link: they are as many
 pub as_many_up : (counts : List ℕ) (word : ℕ) → length (counted_up counts word) ≡ length counts
 as_many_up counts zero = refl
 as_many_up counts (suc i) = length-set counts i (slice_index counts i + 1)
@@ -141,7 +141,7 @@ module _ (fits : List ℕ → Type 0) (joins : ℕ → List ℕ → List ℕ →
         (slice_index (node_at nodes i).links l) j (t.led i l live low) leads;
   }
 
-  -- after what no live node leads to was unlinked
+  -- after all nodes without a link from a live one were unlinked
   module _ (stored nodes : List Node) (counts unlinking : List ℕ) (to : ℕ) (whole : AreWhole stored)
       (t : IsCollecting count roots links stored nodes counts unlinking to to []) where
     nothing_owed : (i : ℕ) → times_in (owed stored unlinking to to []) i ≡ 0
@@ -208,7 +208,7 @@ module _ (fits : List ℕ → Type 0) (joins : ℕ → List ℕ → List ℕ →
       reached = reached;
     }
 
-  -- a link of the live node i is stored: of what it led to one link less is counted
+  -- a link of the live node i is stored: its old target has one link less
   module _ (nodes : List Node) (counts unlinking : List ℕ) (i l x : ℕ) (few : length nodes ≡ count)
       (sizes : AreSized count links width nodes) (counts_many : length counts ≡ count)
       (room : length unlinking ≡ count) (whole : AreWhole nodes)

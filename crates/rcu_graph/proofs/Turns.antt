@@ -1,4 +1,4 @@
--- Where one state after the other is turned, all are in the end.
+-- If one state after the other is turned, all are in the end.
 use Rattle.std.proofs.Common.{◌≡◌, ◌≢◌, ℕ, suc, ◌<◌, Bool, true, false, List, [], ◌∷◌, length, map}
 use Rattle.std.proofs.Common.{set, refl, sym, ap, ◌∙◌, arith, subst}
 use Rattle.std.specs.Prelude.{if◌then◌else◌}
@@ -110,7 +110,8 @@ one_reclaims number (Retired at) = go (is_past at number)
     go true = refl
     go false = refl
 
--- what was retired long ago is free first, and then what was unlinked is retired: that is a look
+-- first the nodes that were retired long ago become free, and then the unlinked ones are retired:
+-- that is a load of the number
 pub all_reclaim : (number : Number) (l : List NodeState)
     → map (turned is_unlinked (Retired number)) (map (turned (is_over number) Free) l)
     ≡ map (reclaimed_state number number) l

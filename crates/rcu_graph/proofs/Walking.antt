@@ -43,7 +43,7 @@ module _ (fits joins : List ℕ → Type 0) (width count : ℕ) (was : Known) (i
       let c = came_to j now f in
       record { words = f.words; held = came_holds j now f; whole = c.whole; is = sym told ∙ is }
 
--- a seat whose section knows something else of the graph
+-- a seat whose section's knowledge about the graph changed
 pub walks_on : (graph : Object Plan) (old new : Seated Planned)
     → new ≡ after_word_step old new.view.client
     → new.view.client.plan ≡ old.view.client.plan
@@ -89,7 +89,7 @@ module _ (fits joins : List ℕ → Type 0) (width count : ℕ) (graph : Object 
         inside = let low = c.inside in omega (arith, low, few);
       }
 
--- where the section is on a node still
+-- if the section is still on a node
 pub walks_at : (first : ℕ → List ℕ) (graph : Object Plan) (old new : Seated Planned) (i : ℕ)
     (words : List ℕ)
     → new ≡ after_word_step old new.view.client

@@ -53,7 +53,7 @@ abbrev pub IsOnIfOurs : (List ℕ → Bool) → ℕ → List Node → ℕ → Ty
 IsOnIfOurs ours root nodes i = IsTrue (ours (node_at nodes i).words) → Reaches nodes i root
 
 -- for a section that began at this number a node stays as it is: if the section may be on it, it
--- still may, and the node has its links and words. And so do all nodes
+-- still may, and the node has its links and words. The same for all nodes
 abbrev pub IsSameFor : Number → Node → Node → Type 0
 IsSameFor opened before after =
     MayRead opened before.state
@@ -65,9 +65,9 @@ abbrev pub AreSameFor : Number → List Node → List Node → Type 0
 AreSameFor opened before after = (i : ℕ) → IsSameFor opened (node_at before i) (node_at after i)
 
 -- a step of the writer beside a section that began at this number. For the section each node stays
--- as it is; or a link was stored of one that is on its chain; or such a node was linked to a free
--- one, which is live then. So a node that was taken off the chain leads where it led while the
--- section is open
+-- as it is; or a link was stored in a node that is on its chain; or such a node was linked to a
+-- free one, which is then live. So a node that was taken off the chain leads to the same node while
+-- the section is open
 pub data IsWriterStep (ours : List ℕ → Bool) (opened : Number) (root : ℕ)
     (before after : List Node) : Type 0 where
   aside : AreSameFor opened before after → IsWriterStep ours opened root before after
@@ -87,7 +87,7 @@ pub record IsHistory (ours : List ℕ → Bool) (opened : Number) (root last : �
   pub chained : (t : ℕ) → t ≤ last → IsChained ours root (nodes t)
   pub steps : (t : ℕ) → t < last → IsWriterStep ours opened root (nodes t) (nodes (suc t))
 
--- a hop was true of these nodes: it found where the link led then, and that node's words
+-- a hop was true of these nodes: it found the target of the link then, and that node's words
 pub record IsTrueOf (nodes : List Node) (hop : Hop) : Type 0 where
   pub to : hop.to ≡ slice_index (node_at nodes hop.from).links hop.link
   pub words : (j : ℕ) → hop.to ≡ suc j → hop.words ≡ (node_at nodes j).words

@@ -1,5 +1,5 @@
 -- A run of a graph's shared words beside an open section, by atomic steps: at each moment the rule
--- holds, and from one to the next the writer takes a step, the section does, or somebody else.
+-- holds, and from one to the next the writer takes a step, the section does, or another seat.
 use Rattle.std.specs.Prelude.{◌≡◌, ℕ, suc, ◌+◌, ◌<◌, ◌≤◌, Bool, IsTrue, List, None, Some}
 use Rattle.std.specs.Prelude.{slice_index}
 use mathlib.Core.Option.{some}
@@ -18,8 +18,8 @@ use Rattle.rcu_graph.specs.declared.known.Planned.{Planned}
 use Rattle.rcu_graph.specs.declared.node_state.NodeState.TheVariants.{Free, Live}
 use Rattle.rcu_graph.specs.declared.plan.Plan.{Plan}
 
--- what the rule speaks of at a moment: the words, and what is shown of the seats. And what two of
--- these know: the writer, and the section
+-- the objects of the rule at a moment: the words, and the shown parts of the seats. And the
+-- knowledge of two of these: the writer, and the section
 pub record Moment : Type 0 where
   pub words : List ℕ
   pub seats : Views Planned
@@ -30,8 +30,8 @@ pub record Moment : Type 0 where
 abbrev pub nodes_at : (ℕ → Moment) → ℕ → List Node
 nodes_at moments t = nodes_in (moments t).writer
 
--- what the user's facts say of the chain of a root: some words are those of its nodes. The root has
--- such words, a link 0 leads from such a node to such a one, and along it the keys go up
+-- the user's facts on the chain of a root: some words are those of its nodes. The root has such
+-- words, a link 0 leads from such a node to another one, and along it the keys go up
 pub record IsChainOf (joins : Plan → ℕ → List ℕ → List ℕ → Type 0) (first : Plan → ℕ → List ℕ)
     (plan : Plan) (ours : List ℕ → Bool) (root : ℕ) : Type 0 where
   pub inside : root < plan.roots
@@ -45,16 +45,15 @@ abbrev pub cell_of : Plan → ℕ → ℕ → ℕ
 cell_of plan = place_of plan.roots plan.links plan.words
 
 module _ (plan : Plan) (before after : Moment) where
-  -- the writer made a step at a place, where it stored this value or found it: it knows then what
-  -- such a step tells
+  -- the writer made a step at a place, at which it stored this value or found it, with the relation
+  -- of such a step
   abbrev pub HasStored : (ℕ → Planned → ℕ → Planned → Type 0) → ℕ → ℕ → Type 0
   HasStored tells place value =
       tells place (of_plan plan before.writer) value (of_plan plan after.writer)
 
-  -- what the writer did between two moments: nothing, as where another seat made a step; or one
+  -- the move of the writer between two moments: none, as when another seat made a step; or one
   -- step. It stored a word or a link of a free node; it led a live one elsewhere, or to one that
-  -- was free; it marked one unlinked; or it looked at a number, at which each open section may be
-  -- open
+  -- was free; it marked one unlinked; or it loaded a number, at which each open section may be open
   pub data IsWriterMove : Type 0 where
     rested : after.writer ≡ before.writer → IsWriterMove
     wrote : (node word value : ℕ)
@@ -101,14 +100,14 @@ module _ (plan : Plan) (before after : Moment) where
 
 module _ (fits : Plan → List ℕ → Type 0) (joins : Plan → ℕ → List ℕ → List ℕ → Type 0)
     (first : Plan → ℕ → List ℕ) (plan : Plan) where
-  -- at a moment the rule holds, and this seat keeps the nodes
+  -- at a moment the rule holds, and this seat is the nodes' writer
   pub record IsKeptAt (writer : ℕ) (moment : Moment) : Type 0 where
     pub rule : IsKeptBy fits joins first plan moment.words moment.seats
     pub shown : get_elem? moment.seats writer ≡ some (None, None, of_plan plan moment.writer)
     pub keeps : IsKeeping moment.writer
 
-  -- so it is at each moment from 0 to the last, and between two of them the writer makes one step
-  -- at most
+  -- this holds at each moment from 0 to the last, and between two of them the writer makes at most
+  -- one step
   pub record IsKeptOver (writer last : ℕ) (moments : ℕ → Moment) : Type 0 where
     pub at : (t : ℕ) → t ≤ last → IsKeptAt writer (moments t)
     pub moves : (t : ℕ) → t < last → IsWriterMove plan (moments t) (moments (suc t))
@@ -120,8 +119,8 @@ module _ (fits : Plan → List ℕ → Type 0) (joins : Plan → ℕ → List �
         ≡ some (Some cpu, Some opened, of_plan plan moment.section)
     pub reads : IsReader moment.section
 
-  -- what the section did between two moments: no hop; or one, by one load of a link of a node that
-  -- it is on
+  -- the move of the section between two moments: no hop; or one, by one load of a link of a node
+  -- that it is on
   pub data IsSectionMove (before after : Moment) : Type 0 where
     stayed : after.section ≡ before.section → IsSectionMove before after
     followed : (node link : ℕ) (words : List ℕ)
@@ -132,7 +131,7 @@ module _ (fits : Plan → List ℕ → Type 0) (joins : Plan → ℕ → List �
         → after.writer ≡ before.writer
         → IsSectionMove before after
 
-  -- it is open at each moment from 0 to the last, and between two of them it makes one hop at most
+  -- it is open at each moment from 0 to the last, and between two of them it makes at most one hop
   pub record IsOpenOver (seat : ℕ) (opened : Number) (last : ℕ) (moments : ℕ → Moment) : Type 0
     where
       pub at : (t : ℕ) → t ≤ last → IsOpenAt seat opened (moments t)

@@ -1,4 +1,4 @@
--- A writer on the way of unlinking what no live node leads to any more.
+-- A writer while it unlinks the nodes to which no live node leads.
 use Rattle.std.specs.Prelude.{◌≡◌, ◌⊎◌, ◌+◌, ◌<◌, ◌≤◌, ℕ, suc, Bool, true, List, ◌++◌, length, drop}
 use Rattle.std.specs.Prelude.{take, slice_index, sum_by, flat_map, All}
 use Rattle.rcu_graph.specs.Counts.{links_to, one_if, times_in}
@@ -11,18 +11,18 @@ use Rattle.rcu_graph.specs.declared.node_state.NodeState.TheVariants.{Live, Unli
 abbrev pub live_in : List Node → ℕ
 live_in nodes = sum_by (λ v. one_if (is_live v.state)) nodes
 
--- links of nodes that were unlinked and are counted still: these words, and those of the nodes in
--- this order from a place on
+-- links of unlinked nodes that are still counted: these words, and those of the nodes in this order
+-- from a place on
 abbrev pub owed : List Node → List ℕ → ℕ → ℕ → List ℕ → List ℕ
 owed stored unlinking from to words =
     words ++ flat_map (λ i. (node_at stored i).links) (drop from (take to unlinking))
 
--- a word of a link leads nowhere, or to one of so many nodes
+-- a word of a link leads nowhere, or to one of this number of nodes
 abbrev pub IsInside : ℕ → ℕ → Type 0
 IsInside count word = (i : ℕ) → word ≡ suc i → i < count
 
--- of the nodes as they were stored some are unlinked, in this order; each is counted by the links
--- of live nodes that lead to it, and by those that are owed
+-- some of the stored nodes are unlinked, in this order; the count of each is that of the links of
+-- live nodes that lead to it, and of the links still owed
 pub record IsCollecting (count roots links : ℕ) (stored nodes : List Node)
     (counts unlinking : List ℕ)
     (from to : ℕ) (words : List ℕ) : Type 0 where
@@ -50,7 +50,8 @@ pub record IsCollecting (count roots links : ℕ) (stored nodes : List Node)
   pub going : from ≤ to
   pub enough : to + live_in nodes ≤ count
 
--- the live nodes are tended, and each node is counted by the links of live nodes that lead to it
+-- the live nodes are tended, and the count of each node is that of the links of live nodes that
+-- lead to it
 pub record IsCounted (fits : List ℕ → Type 0) (joins : ℕ → List ℕ → List ℕ → Type 0)
     (count roots links : ℕ) (nodes : List Node) (counts unlinking : List ℕ) : Type 0 where
   pub tended : AreTended fits joins roots links nodes

@@ -12,7 +12,7 @@ one_if false = 0
 abbrev pub times_in : List ℕ → ℕ → ℕ
 times_in cells word = sum_by (λ x. one_if (nat_eq x word)) cells
 
--- how many links of the node lead to the node i, where it is live
+-- how many links of the node lead to the node i, if it is live
 abbrev pub links_from : Node → ℕ → ℕ
 links_from v i = if is_live v.state then times_in v.links (suc i) else 0
 
@@ -20,7 +20,7 @@ links_from v i = if is_live v.state then times_in v.links (suc i) else 0
 abbrev pub links_to : List Node → ℕ → ℕ
 links_to nodes i = sum_by (λ v. links_from v i) nodes
 
--- the counts after a link more with this word
+-- the counts after one more link with this word
 abbrev pub counted_up : List ℕ → ℕ → List ℕ
 counted_up counts zero = counts
 counted_up counts (suc i) = slice_set counts i (slice_index counts i + 1)

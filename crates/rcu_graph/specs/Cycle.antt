@@ -1,5 +1,5 @@
--- The nodes in the order of their lives: a stack of those that are free, and a queue of those that
--- were retired, what was retired first in front, and behind them of those that were unlinked.
+-- The nodes in the order of their lives: a stack of the free ones, and a queue of the retired ones,
+-- the first retired in front, and the unlinked ones behind them.
 use Rattle.std.specs.Prelude.{◌≡◌, ◌+◌, ◌<◌, ◌≤◌, if◌then◌else◌, ℕ, Bool, true, false, List, length}
 use Rattle.std.specs.Prelude.{slice_index, slice_index_or, slice_set, sum_by}
 use Rattle.rcu_seq.specs.Numbers.{Number}
@@ -12,7 +12,7 @@ use Rattle.rcu_graph.specs.declared.node_state.NodeState.TheVariants.{Free, Live
 abbrev pub state_in : List NodeState → ℕ → NodeState
 state_in states i = slice_index_or states i Free
 
--- how many are so
+-- how many states pass the test
 abbrev pub how_many : (NodeState → Bool) → List NodeState → ℕ
 how_many is states = sum_by (λ s. one_if (is s)) states
 
@@ -29,7 +29,7 @@ is_idle Live = false
 is_idle Unlinked = true
 is_idle (Retired number) = true
 
--- the node i is free and knows its height k, and the other way round
+-- the node i is free and has the height k, and conversely
 abbrev pub IsFreeAt : List NodeState → List ℕ → ℕ → ℕ → Type 0
 IsFreeAt states heights k i =
     (i < length states) × (state_in states i ≡ Free) × (slice_index heights i ≡ k)
@@ -37,22 +37,22 @@ IsFreeAt states heights k i =
 abbrev pub StandsIn : List ℕ → ℕ → ℕ → Type 0
 StandsIn list k i = (k < length list) × (slice_index list k ≡ i)
 
--- each free node stands in a stack at its height, and nothing else does
+-- the stack has each free node at its height, and nothing else
 pub record IsStack (states : List NodeState) (free heights : List ℕ) : Type 0 where
   pub many : length heights ≡ length states
   pub holds : (k : ℕ) → k < length free → IsFreeAt states heights k (slice_index free k)
   pub home : (i : ℕ) → i < length states → state_in states i ≡ Free
       → StandsIn free (slice_index heights i) i
 
--- where the first ones of a queue are retired, a node in this state may stand there at the index k
+-- if the first ones of a queue are retired, a node in this state may be in it at the index k
 abbrev pub StandsAt : ℕ → NodeState → ℕ → Type 0
 StandsAt retired Free k = ⊥
 StandsAt retired Live k = ⊥
 StandsAt retired Unlinked k = retired ≤ k
 StandsAt retired (Retired number) k = k < retired
 
--- each node that is gone waits in a queue, once: no node that was retired later waits in front of
--- one that was retired before
+-- each node that is gone waits in a queue, once: no node that was retired later is in front of one
+-- that was retired before
 pub record IsQueue (states : List NodeState) (waiting : List ℕ) (retired : ℕ) : Type 0 where
   pub fit : retired ≤ length waiting
   pub inside : (k : ℕ) → k < length waiting → slice_index waiting k < length states
@@ -70,7 +70,7 @@ pub record IsQueue (states : List NodeState) (waiting : List ℕ) (retired : ℕ
       → state_in states (slice_index waiting k) ≡ Retired b
       → a ≤ b
 
--- each node that is not live stands in the stack or in the queue
+-- each node that is not live is in the stack or in the queue
 pub record IsCycle (states : List NodeState) (free heights waiting : List ℕ) (retired : ℕ)
     : Type 0 where
   pub stack : IsStack states free heights
@@ -90,11 +90,11 @@ is_unlinked Live = false
 is_unlinked Unlinked = true
 is_unlinked (Retired number) = false
 
--- what is so is turned into another state
+-- each state that passes a test is turned into another one
 abbrev pub turned : (NodeState → Bool) → NodeState → NodeState → NodeState
 turned is to state = if is state then to else state
 
--- one of those that are so was turned, and nothing else changed; or, where none was, none is so
+-- one state that passes the test was turned, and nothing else changed; or none was, and none passes
 abbrev pub IsTurn : (NodeState → Bool) → NodeState → List NodeState → List NodeState → Bool → Type 0
 IsTurn is to old new true =
     (i : ℕ) × (i < length old) × (is (state_in old i) ≡ true) × (new ≡ slice_set old i to)

@@ -1,4 +1,4 @@
--- What is left where a free node's words are written, and where its links are.
+-- The writer after a free node's words are written, and after its links are.
 use Rattle.std.specs.Prelude.{◌≡◌, ◌<◌, ℕ, List, length}
 use Rattle.rcu_live.specs.Board.{Object}
 use Rattle.rcu_live.specs.Watcher.{Watching}
@@ -24,7 +24,8 @@ abbrev pub after_links : Watching Planned → ℕ → List ℕ → Watching Plan
 after_links writer i links =
     after_step writer (renewed (nodes_in writer.view.client.known) i (with_links links))
 
--- a watcher of the graph may store the k-th of so many words, or links, of the node i: that is free
+-- a watcher of the graph may store the k-th of this number of words, or links, of the node i: that
+-- node is free
 pub record CanStore (row : ℕ) (graph : Object Plan) (writer : Watching Planned)
     (i k : ℕ) : Type 0 where
   pub watches : IsWatcherOf graph writer
@@ -32,8 +33,7 @@ pub record CanStore (row : ℕ) (graph : Object Plan) (writer : Watching Planned
   pub free : state_at (nodes_in writer.view.client.known) i ≡ Free
   pub cell : k < row
 
--- a watcher of the graph may fill the node i of those that it keeps: the node is free, and has all
--- its links and words
+-- a watcher of the graph may fill the node i: the node is free, and has all its links and words
 pub record CanFill (graph : Object Plan) (writer : Watching Planned) (i : ℕ) : Type 0 where
   pub watches : IsWatcherOf graph writer
   pub keeps : IsKeeping writer.view.client.known

@@ -16,7 +16,7 @@ abbrev pub word_to : Option ℕ → ℕ
 word_to None = 0
 word_to (Some node) = suc node
 
--- a processor's seat of the graph, which knows how large that is
+-- a processor's seat of the graph, which knows its plan
 pub record IsSeatOf (graph : Object Plan) (seat : Seated Planned) : Type 0 where
   pub engine : cpu_seat.IsSeatOf graph seat
   pub planned : seat.view.client.plan ≡ graph.plan
@@ -41,13 +41,13 @@ pub record IsAt (first : ℕ → List ℕ) (graph : Object Plan) (seat : Seated 
   pub on : IsOn first graph.plan.roots seat.view.client.known node words
   pub inside : node < graph.plan.nodes
 
--- after it was one seat, a watcher's seat is one of the same graph
+-- after a step, a watcher's seat is one of the same graph
 pub record IsOfSameGraph (before after : Watching Planned) : Type 0 where
   pub table : after.table ≡ before.table
   pub base : after.view.base ≡ before.view.base
   pub plan : after.view.client.plan ≡ before.view.client.plan
 
--- a watcher's seat of the graph, which knows how large that is
+-- a watcher's seat of the graph, which knows its plan
 pub record IsWatcherOf (graph : Object Plan) (seat : Watching Planned) : Type 0 where
   pub engine : watcher.IsWatcherOf graph seat
   pub planned : seat.view.client.plan ≡ graph.plan

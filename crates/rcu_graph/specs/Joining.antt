@@ -1,4 +1,4 @@
--- What a graph asks that joins an engine.
+-- The conditions for a graph to join an engine.
 use Rattle.std.specs.Prelude.{◌≡◌, ℕ, ◌+◌}
 use Rattle.rcu_live.specs.Board.{Object}
 use Rattle.rcu_live.specs.InPart.{engine_part, watcher_part}
@@ -10,8 +10,8 @@ use Rattle.rcu_graph.specs.declared.known.Planned.{Planned}
 use Rattle.rcu_graph.specs.declared.plan.Plan.{Plan}
 
 -- a graph may join at this place of an engine: the engine was opened by this plan of its client,
--- which suits, and has the words of that; and its own watcher knows of the graph what the first
--- seat knows
+-- which suits, and has the words for it; and its own watcher has the first seat's knowledge about
+-- the graph
 pub record CanJoin {W D : Type 0} (lens : Lens D Planned) (own_plan : W → Plan)
     (begins : ℕ → W → ℕ) (suits : W → Type 0) (size : W → ℕ) (plan : W) (engine : Object W)
     (own : Watching D) : Type 0 where

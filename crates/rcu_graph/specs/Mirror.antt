@@ -1,4 +1,4 @@
--- The nodes as a writer has them at run time.
+-- A writer's copy of the nodes at run time.
 use Rattle.std.specs.Prelude.{◌≡◌, ◌<◌, ℕ, List, [], ◌∷◌, ◌++◌, length, take, drop}
 use Rattle.rcu_seq.specs.Numbers.{Number}
 use Rattle.rcu_graph.specs.Nodes.{IsBy, node_at, state_at}
@@ -11,7 +11,7 @@ pub record Mirrored : Type 0 where
   pub plan : Plan
   pub nodes : List Node
 
--- nodes in these states, whose links and words stand in rows one after another
+-- nodes in these states, whose links and words are in rows one after another
 abbrev pub nodes_of : ℕ → ℕ → List NodeState → List ℕ → List ℕ → List Node
 nodes_of links width [] cells words = []
 nodes_of links width (state ∷ states) cells words =
@@ -22,7 +22,7 @@ nodes_of links width (state ∷ states) cells words =
 abbrev pub with_words : List ℕ → Node → Node
 with_words words v = record { state = v.state; links = v.links; words = words }
 
--- each of so many nodes has so many links and words
+-- each of this number of nodes has this number of links and words
 abbrev pub AreSized : ℕ → ℕ → ℕ → List Node → Type 0
 AreSized count links width nodes =
     (i : ℕ) → i < count

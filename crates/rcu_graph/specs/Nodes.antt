@@ -1,4 +1,4 @@
--- Nodes that lead to one another: what state each is in, and what a look at the number makes of it.
+-- Nodes that lead to one another: the state of each, and its change by a load of the number.
 use Rattle.std.specs.Prelude.{◌≡◌, ◌≢◌, ℕ, suc, ◌+◌, ◌-◌, ◌*◌, ◌⊎◌, ◌<◌, ◌≤◌, if◌then◌else◌, Bool}
 use Rattle.std.specs.Prelude.{true, false, List, [], ◌++◌, ◌∷◌, map, replicate, slice_index}
 use Rattle.std.specs.Prelude.{slice_index_or, slice_set, nat_lt}
@@ -15,13 +15,13 @@ use Rattle.rcu_graph.specs.declared.known.Node.{Node}
 use Rattle.rcu_graph.specs.declared.node_state.NodeState.{NodeState}
 use Rattle.rcu_graph.specs.declared.node_state.NodeState.TheVariants.{Free, Live, Retired, Unlinked}
 
--- where the rows of the nodes begin
+-- the first place of the rows of the nodes
 abbrev pub first_place : ℕ
 first_place = 16
 
--- the place of the k-th of a node's links and words. The links of the roots stand side by side, so
--- that a line of a cache has those of many, and behind them the words of the roots. Each other node
--- has a row of both, which stands where it would if the roots had such rows
+-- the place of the k-th of a node's links and words. The links of the roots are side by side, so
+-- that one cache line has those of many, and behind them are the words of the roots. Each other
+-- node has a row of both, at the place that it would have if the roots had such rows
 abbrev pub place_of : ℕ → ℕ → ℕ → ℕ → ℕ → ℕ
 place_of roots links width i k =
     if nat_lt i roots
@@ -54,8 +54,8 @@ is_live Live = true
 is_live Unlinked = false
 is_live (Retired number) = false
 
--- whoever may be on a node in the first state may go on to one in the second, now and after each
--- look at the number
+-- a section that may be on a node in the first state may go on to one in the second, now and after
+-- each load of the number
 abbrev pub Outlives : NodeState → NodeState → Type 0
 Outlives Free to = Unit {0}
 Outlives Live Free = ⊥
@@ -78,7 +78,7 @@ IsBy latest Live = Unit {0}
 IsBy latest Unlinked = Unit {0}
 IsBy latest (Retired number) = number ≤ latest
 
--- the links and the words of a node, as they stand side by side
+-- the links and the words of a node, side by side
 abbrev pub row_of : Node → List ℕ
 row_of v = v.links ++ v.words
 
@@ -102,12 +102,12 @@ linked_to l x v = record { state = v.state; links = slice_set v.links l x; words
 abbrev pub worded : ℕ → ℕ → Node → Node
 worded k x v = record { state = v.state; links = v.links; words = slice_set v.words k x }
 
--- one node becomes what this makes of it
+-- one node is changed like this
 abbrev pub renewed : List Node → ℕ → (Node → Node) → List Node
 renewed nodes i change = slice_set nodes i (change (node_at nodes i))
 
--- at the number n, of which m is no less: what was unlinked is so no later than m, and what was
--- unlinked a full grace period ago is free
+-- at the number n, which is at most m: an unlinked node was unlinked no later than m, and a node
+-- that was unlinked a full grace period ago is free
 abbrev pub reclaimed_state : Number → Number → NodeState → NodeState
 reclaimed_state n m Free = Free
 reclaimed_state n m Live = Live
@@ -158,20 +158,20 @@ hops_in Owner = []
 hops_in (Reader hops) = hops
 hops_in (Writer latest nodes stored) = []
 
--- a section made one hop more: from the node i along the link l it found the word x, and came to
+-- a section made one more hop: from the node i along the link l it found the word x, and came to
 -- these words
 abbrev pub after_hop : Known → ℕ → ℕ → ℕ → List ℕ → Known
 after_hop was i l x words =
     Reader (record { from = i; link = l; to = x; words = words } ∷ hops_in was)
 
--- it reads, it keeps the nodes
+-- it is a reader, it is the nodes' writer
 abbrev pub IsReader : Known → Type 0
 IsReader Idle = Unit {0}
 IsReader Owner = ⊥
 IsReader (Reader hops) = Unit {0}
 IsReader (Writer latest nodes stored) = ⊥
 
--- (of which there is one proof at most, as of each fact that a struct keeps)
+-- (a fact with at most one proof, as each fact that a struct keeps)
 pub reader_once : (known : Known) → IsProp (IsReader known)
 reader_once Idle = Unit-prop
 reader_once Owner = λ a b. absurd a
@@ -216,7 +216,7 @@ IsHeld known i words =
 abbrev pub IsOn : (ℕ → List ℕ) → ℕ → Known → ℕ → List ℕ → Type 0
 IsOn first roots known i words = ((i < roots) × (first i ≡ words)) ⊎ IsHeld known i words
 
--- what is left of it when a section closes
+-- the knowledge that is left when a section closes
 abbrev pub closed : Known → Known
 closed Idle = Idle
 closed Owner = Owner

@@ -17,32 +17,32 @@ use Rattle.rcu_graph.specs.declared.not_opened.NotOpened.TheVariants as not_open
 use Rattle.rcu_graph.specs.declared.plan.Layout.{Layout}
 use Rattle.rcu_graph.specs.declared.plan.Plan.{Plan}
 
--- a graph may be as large as that: the roots are nodes, each node has a word, and all links and
--- words fit in memory
+-- a graph may have this size: the roots are nodes, each node has a word, and all links and words
+-- fit in memory
 pub record IsSized (plan : Plan) : Type 0 where
   pub words : 0 < plan.words
   pub inside : plan.roots ≤ plan.nodes
   pub row : plan.links + plan.words ≤ 2 ^ 32
   pub small : (plan.links + plan.words) * plan.nodes ≤ 2 ^ 32
 
--- where the links and the words of the nodes stand
+-- the layout of the links and the words of the nodes
 abbrev pub layout_of : Object Plan → Layout
 layout_of graph = record { base = graph.base; plan = graph.plan }
 
--- the fault that the tests of an opening found that has good sizes: none where it is accepted, or
--- where memory is refused
+-- the fault that the tests of an opening with legal sizes found: none if it is accepted, or if
+-- memory is refused
 abbrev pub tested_opening : {A : Type 0} → Result A NotOpened → Option Fault
 tested_opening (Ok value) = None
 tested_opening (Err BadSizes) = None
 tested_opening (Err (not_opened.Fault fault)) = tested_fault {A = Unit {0}} (Err fault)
 
--- the first words of the roots are so many each, and whole
+-- the first words of each root are this many, and satisfy the user's fact
 pub record AreWhole (fits : List ℕ → Type 0) (first : ℕ → List ℕ) (plan : Plan) : Type 0 where
   pub sized : (i : ℕ) → i < plan.roots → length (first i) ≡ plan.words
   pub fit : (i : ℕ) → i < plan.roots → fits (first i)
 
--- so many first nodes have their first words, of so many roots, and each link and each other word
--- is 0
+-- this number of first nodes have their first words, out of this number of roots, and each link and
+-- each other word is 0
 pub record AreFirst (first : ℕ → List ℕ) (many roots links width : ℕ)
     (words : List ℕ) : Type 0 where
   pub no_links : (i l : ℕ) → l < links → slice_index words (place_of roots links width i l) ≡ 0
@@ -54,12 +54,12 @@ pub record AreFirst (first : ℕ → List ℕ) (many roots links width : ℕ)
   pub rest : (i k : ℕ) → many ≤ i → k < width
       → slice_index words (place_of roots links width i (links + k)) ≡ 0
 
--- what it knows who keeps the nodes of a graph of this plan, as they are at first
+-- the knowledge of the writer of a graph of this plan, with the nodes as they are at first
 abbrev pub claimed_first : (ℕ → List ℕ) → Plan → Planned
 claimed_first first plan =
     of_plan plan (Writer 0 (first_nodes plan.links plan.words first plan.roots plan.nodes) [])
 
--- who keeps them in an engine of so many processors
+-- that writer in an engine of this number of processors
 abbrev pub writer_at_first : (ℕ → List ℕ) → TableId → ℕ → Plan → Watching Planned
 writer_at_first first table cpus plan =
     after_word_step (watcher_at_first table (base_of cpus) (of_plan plan Owner))

@@ -1,5 +1,5 @@
--- The plan of a graph, which each seat knows beside what it knows of the nodes. A rule of what the
--- seats know of the nodes is made one of both.
+-- The plan of a graph, which each seat knows besides the nodes. A rule of the seats' knowledge
+-- about the nodes becomes one of both.
 use Rattle.std.specs.Prelude.{◌≡◌, ℕ, List, [], ◌∷◌, ◌++◌, None, Some, length, map, slice_set}
 use Rattle.std.proofs.Common.{sym, ap, ◌∙◌, subst, ⊎_elim}
 use Rattle.std.proofs.lemmas.List.{map-append, map-set}
@@ -16,7 +16,7 @@ use Rattle.rcu_graph.specs.declared.known.Known.{Known}
 use Rattle.rcu_graph.specs.declared.known.Planned.{Planned}
 use Rattle.rcu_graph.specs.declared.plan.Plan.{Plan}
 
--- so many roots, links, words and nodes, and this seed
+-- this number of roots, links, words and nodes, and this seed
 abbrev pub plan_of : ℕ → ℕ → ℕ → ℕ → ℕ → Plan
 plan_of roots links width count seed = record {
   roots = roots;
@@ -26,19 +26,19 @@ plan_of roots links width count seed = record {
   seed = seed;
 }
 
--- of a graph of this plan it knows this
+-- it has this knowledge about a graph of this plan
 abbrev pub of_plan : Plan → Known → Planned
 of_plan plan known = record { plan = plan; known = known }
 
--- it knows this now, of the same graph
+-- it has this knowledge now, about the same graph
 abbrev pub knowing : Planned → Known → Planned
 knowing was known = of_plan was.plan known
 
--- what is shown of a seat, less the plan
+-- the shown part of a seat, without the plan
 abbrev pub unplanned : ClientView Planned → ClientView Known
 unplanned x = (x.0, x.1, x.2.known)
 
--- each seat knows this plan, and the rule holds of what they know beside it
+-- each seat knows this plan, and the rule holds for the rest of their knowledge
 pub record IsPlanned (holds : List ℕ → Views Known → Type 0) (plan : Plan)
     (words : List ℕ) (xs : Views Planned) : Type 0 where
   pub told : (id : ℕ) (x : ClientView Planned) → get_elem? xs id ≡ some x → x.2.plan ≡ plan
@@ -51,16 +51,16 @@ abbrev pub IsKeptBy : (Plan → List ℕ → Type 0)
 IsKeptBy fits joins first plan = IsPlanned
     (IsKept (fits plan) (joins plan) (first plan) plan.roots plan.links plan.words plan.nodes) plan
 
--- a step on a word tells this by the plan, which stays
+-- a step on a word has this relation by the plan, which stays
 abbrev pub tells_word : (Plan → ℕ → Known → ℕ → Known → Type 0) → ℕ → Planned → ℕ → Planned → Type 0
 tells_word tells place was x now =
     (now.plan ≡ was.plan) × tells was.plan place was.known x now.known
 
--- and a look at the number this
+-- and a load of the number has this one
 abbrev pub tells_number : (Known → ℕ → Known → Type 0) → Planned → ℕ → Planned → Type 0
 tells_number tells was n now = (now.plan ≡ was.plan) × tells was.known n now.known
 
--- what each step tells by the plan
+-- the relation of each step by the plan
 abbrev pub tells_follow : (Plan → List ℕ → Type 0)
     → (Plan → ℕ → List ℕ → List ℕ → Type 0) → (Plan → ℕ → List ℕ) → ℕ → Planned → ℕ → Planned
     → Type 0
@@ -93,7 +93,7 @@ abbrev pub tells_reclaim : Planned → ℕ → Planned → Type 0
 tells_reclaim = tells_number IsReclaimed
 
 module _ (holds : List ℕ → Views Known → Type 0) (plan : Plan) where
-  -- one seat changes, by which the plan stays
+  -- one seat changes, and the plan stays
   pub told_after : (xs : Views Planned) (id : ℕ) (x : ClientView Planned)
       → ((j : ℕ) (y : ClientView Planned) → get_elem? xs j ≡ some y → y.2.plan ≡ plan)
       → x.2.plan ≡ plan
@@ -114,7 +114,7 @@ module _ (holds : List ℕ → Views Known → Type 0) (plan : Plan) where
       subst (λ (z : ClientView Planned). z.2.plan ≡ plan) last.1 same)
       (at_end xs x y j e)
 
-  -- the law of a client goes on to the rule that speaks of the plan
+  -- the law of a client carries over to the rule with the plan
   pub planned_is_stable : (idle closed : Known → Known) → IsStable holds idle closed
       → IsStable (IsPlanned holds plan) (λ c. knowing c (idle c.known))
       (λ c. knowing c (closed c.known))

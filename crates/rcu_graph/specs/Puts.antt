@@ -1,4 +1,4 @@
--- What it takes to put a node into a chain, and what that leaves: of nodes with one link each.
+-- The conditions for putting a node into a chain, and the effect: for nodes with one link each.
 use Rattle.std.specs.Prelude.{◌≡◌, ◌<◌, ℕ, List, [], ◌∷◌, Option, length, map}
 use Rattle.rcu_live.specs.Watcher.{Watching}
 use Rattle.rcu_graph.specs.Graph.{word_to}
@@ -10,12 +10,12 @@ use Rattle.rcu_graph.specs.declared.known.Planned.{Planned}
 use Rattle.rcu_graph.specs.declared.known.Node.{Node}
 use Rattle.rcu_graph.specs.declared.node_state.NodeState.TheVariants.{Free, Live}
 
--- this node is there, and free
+-- this node exists, and is free
 pub record IsFreeNode (nodes : List Node) (node : ℕ) : Type 0 where
   pub inside : node < length nodes
   pub free : state_at nodes node ≡ Free
 
--- so many nodes are tended, along the one link that each has
+-- this number of nodes are tended, along the one link that each has
 pub record AreKept (fits : List ℕ → Type 0) (joins : ℕ → List ℕ → List ℕ → Type 0) (roots count : ℕ)
     (nodes : List Node) : Type 0 where
   pub few : length nodes ≡ count
@@ -40,8 +40,8 @@ abbrev pub put : List Node → ℕ → ℕ → List ℕ → Option ℕ → List 
 put nodes previous node words next =
     published (renewed nodes node (filled_with (map word_to (next ∷ [])) words)) previous 0 node
 
--- a node that was free was put behind the previous one by one store, and what no live node leads to
--- any more was unlinked
+-- a free node was put behind the previous one by one store, and every node to which no live node
+-- leads was unlinked
 pub record HasPut (fits : List ℕ → Type 0) (joins : ℕ → List ℕ → List ℕ → Type 0)
     (before now : Watching Planned) (previous node : ℕ) (words : List ℕ)
     (next : Option ℕ) : Type 0 where

@@ -1,5 +1,5 @@
--- The rule of the nodes: what holds of their words and of what the seats know of them, between any
--- two steps of any threads.
+-- The rule of the nodes: an invariant of their words and of the seats' knowledge about them,
+-- between any two steps of any threads.
 use Rattle.std.specs.Prelude.{◌≡◌, ℕ, suc, ◌+◌, ◌*◌, ◌<◌, List, length, Option, Some, slice_index}
 use mathlib.Core.Option.{some}
 use lib.ListN.{get_elem?}
@@ -12,7 +12,7 @@ use Rattle.rcu_graph.specs.declared.known.Known.TheVariants.{Idle, Owner, Reader
 use Rattle.rcu_graph.specs.declared.known.Node.{Node}
 use Rattle.rcu_graph.specs.declared.node_state.NodeState.TheVariants.{Live}
 
--- what a seat whose section is this knows of the node i, to which it came: the node has these
+-- the knowledge of a seat with this section about the node i, to which it came: the node has these
 -- words, in a state in which the section may be on it
 pub record Reading (nodes : List Node) (section : Option Number) (i : ℕ)
     (words : List ℕ) : Type 0 where
@@ -23,7 +23,7 @@ pub record Reading (nodes : List Node) (section : Option Number) (i : ℕ)
   pub same : on.words ≡ words
   pub may : MayRead opened on.state
 
--- what a seat knows is so: of these nodes, which one seat keeps
+-- the knowledge of a seat is true of these nodes, which have one writer
 abbrev pub Knows : (ℕ → List ℕ) → ℕ → ℕ → ℕ → ℕ → List Node → Number → ℕ → ℕ → Option Number → Known
     → Type 0
 Knows first roots links width count nodes latest writer id section Idle = Unit {0}
@@ -34,7 +34,8 @@ Knows first roots links width count nodes latest writer id section (Reader hops)
 Knows first roots links width count nodes latest writer id section (Writer l known stored) =
     (l ≡ latest) × (known ≡ nodes) × (writer ≡ id)
 
--- a link leads to a node on which whoever may be on the first one may be, and joins the two
+-- a link leads to a node on which each section that may be on the first one may be, and joins the
+-- two
 pub record Leads (joins : ℕ → List ℕ → List ℕ → Type 0) (nodes : List Node) (from : Node)
     (l j : ℕ) : Type 0 where
   pub to : Node
@@ -46,7 +47,7 @@ abbrev pub IsLed : (ℕ → List ℕ → List ℕ → Type 0) → ℕ → List N
 IsLed joins links nodes from =
     (l j : ℕ) → l < links → slice_index from.links l ≡ suc j → Leads joins nodes from l j
 
--- what holds of the nodes and of their words: none was retired after this number
+-- the invariant of the nodes and of their words: none was retired after this number
 pub record AreKept (fits : List ℕ → Type 0) (joins : ℕ → List ℕ → List ℕ → Type 0)
     (first : ℕ → List ℕ) (roots links width count : ℕ) (words : List ℕ) (nodes : List Node)
     (latest : Number) : Type 0 where

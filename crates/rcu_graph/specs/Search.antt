@@ -1,4 +1,4 @@
--- What a search in a chain finds, and what it has looked at when it ends.
+-- The result of a search in a chain, and its hops when it ends.
 use Rattle.std.specs.Prelude.{◌≡◌, ◌⊎◌, ℕ, suc, ◌<◌, List, [], ◌∷◌, ◌++◌, Option, Some, None}
 use Rattle.std.specs.Prelude.{slice_index}
 use Rattle.rcu_graph.specs.Nodes.{IsHeld, hops_in}
@@ -27,8 +27,8 @@ IsPath root key [] node = node ≡ root
 IsPath root key (hop ∷ before) node =
     (hop.to ≡ suc node) × (hop.link ≡ 0) × (key_after hop < key) × IsPath root key before hop.from
 
--- by this hop a search for the key is decided: it led to the node with the key, or else nowhere or
--- to a greater key
+-- this hop decides a search for the key: it led to the node with the key, or else nowhere or to a
+-- greater key
 abbrev pub Decides : ℕ → Option ℕ → Hop → Type 0
 Decides key (Some node) hop = (hop.to ≡ suc node) × (key_after hop ≡ key)
 Decides key None hop = (hop.to ≡ 0) ⊎ (key < key_after hop)

@@ -45,7 +45,7 @@ abbrev pub small_words : ℕ → List ℕ
 small_words zero = replicate 16 0 ++ (2 ∷ 0 ∷ 0 ∷ 5 ∷ 0 ∷ 7 ∷ [])
 small_words (suc t) = replicate 16 0 ++ (2 ∷ 0 ∷ 3 ∷ 5 ∷ 0 ∷ 7 ∷ [])
 
--- what the writer knows then
+-- the writer's knowledge then
 abbrev pub small_writer : ℕ → Known
 small_writer zero = Writer 0 (small_nodes 0) []
 small_writer (suc t) = Writer 0 (small_nodes 1) (small_nodes 1 ∷ [])

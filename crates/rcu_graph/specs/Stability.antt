@@ -1,5 +1,5 @@
--- The rule of the nodes is kept where sections open and close, where a seat is dealt, and where
--- what a seat knows is handed over.
+-- The rule of the nodes is kept when sections open and close, when a seat is dealt, and when a
+-- seat's knowledge is handed over.
 use Rattle.std.specs.Prelude.{◌≡◌, ◌≢◌, ℕ, List, [], ◌∷◌, ◌++◌, length, Option, Some, None}
 use Rattle.std.specs.Prelude.{slice_set}
 use Rattle.std.proofs.Common.{refl, sym, ◌∙◌, subst, ⊎_elim}
@@ -23,7 +23,7 @@ no_section : (number : Number) → None ≡ Some number → ⊥
 no_section number e = subst IsNone e tt
 
 module _ (first : ℕ → List ℕ) (roots links width count : ℕ) (nodes : List Node) (latest : ℕ) where
-  -- what a seat of the picture knows
+  -- the knowledge of a seat among those shown
   abbrev pub SeatKnows : ℕ → ℕ → ClientView Known → Type 0
   SeatKnows writer id x = Knows first roots links width count nodes latest writer id x.1 x.2
 
@@ -44,7 +44,7 @@ module _ (first : ℕ → List ℕ) (roots links width count : ℕ) (nodes : Lis
   knows_closed writer id section (Reader hops) k = tt
   knows_closed writer id section (Writer s known stored) k = k
 
-  -- who keeps the nodes after they are handed over
+  -- the nodes' writer after they are handed over
   abbrev pub writer_after : ℕ → ℕ → Known → ℕ
   writer_after writer new Idle = writer
   writer_after writer new Owner = new
@@ -61,7 +61,7 @@ module _ (first : ℕ → List ℕ) (roots links width count : ℕ) (nodes : Lis
   knows_handed writer id new (Reader hops) k = k
   knows_handed writer id new (Writer s known stored) k = (k.0, k.1, refl)
 
-  -- another seat has kept them only where it is not that one which hands them over
+  -- another seat has been their writer only if it is not the one that hands them over
   still_keeps : (writer id new j : ℕ) (known : Known)
       → Knows first roots links width count nodes latest writer id None known → j ≢ id → writer ≡ j
       → writer_after writer new known ≡ j
@@ -85,7 +85,7 @@ module _ (first : ℕ → List ℕ) (roots links width count : ℕ) (nodes : Lis
 
 module _ (fits : List ℕ → Type 0) (joins : ℕ → List ℕ → List ℕ → Type 0) (first : ℕ → List ℕ)
     (roots links width count : ℕ) where
-  -- the rule is kept where the seats know what is so
+  -- the rule is kept if the seats' knowledge is true
   pub reseated : (words : List ℕ) (xs ys : Views Known)
       (h : IsKept fits joins first roots links width count words xs) (writer : ℕ)
       → ((j : ℕ) (y : ClientView Known) → get_elem? ys j ≡ some y → SeatKnows first roots links

@@ -1,4 +1,4 @@
--- What each step on the nodes tells.
+-- The relation of each step on the nodes.
 use Rattle.std.specs.Prelude.{◌≡◌, ◌⊎◌, ℕ, suc, ◌+◌, ◌<◌, List, [], ◌∷◌, length, max, slice_index}
 use Rattle.rcu_seq.specs.Numbers.{Number}
 use Rattle.rcu_graph.specs.Nodes.{IsOn, after_hop, first_nodes, in_state, latest_in, linked_to}
@@ -16,7 +16,7 @@ pub record Came (fits joins : List ℕ → Type 0) (width count j : ℕ) (words 
   pub whole : fits words
   pub joined : joins words
 
--- where this word of a link leads: nowhere, where there are no words, or to a node which has these
+-- the target of this word of a link: nowhere, if there are no words, or a node which has these
 -- words
 abbrev pub IsLedTo : (List ℕ → Type 0) → (List ℕ → Type 0) → ℕ → ℕ → ℕ → List ℕ → Type 0
 IsLedTo fits joins width count x words =
@@ -45,16 +45,16 @@ IsRead first roots links width place was x now =
     → k < width → place ≡ place_of roots links width i (links + k) → IsOn first roots was i words
     → x ≡ slice_index words k)
 
--- the nodes are kept from now on, as they were at first
+-- the seat is the nodes' writer from now on, with the nodes as at first
 abbrev pub IsClaimed : (ℕ → List ℕ) → ℕ → ℕ → ℕ → ℕ → Known → Type 0
 IsClaimed first roots links width count now =
     now ≡ Writer 0 (first_nodes links width first roots count) []
 
--- the writer knows these nodes then, and of no other store
+-- the writer then knows these nodes, and no further store
 abbrev pub keeping : Known → List Node → Known
 keeping was nodes = Writer (latest_in was) nodes (stored_in was)
 
--- they are so by a store that led a live one elsewhere
+-- the nodes after a store that led a live one elsewhere
 abbrev pub storing : Known → List Node → Known
 storing was nodes = Writer (latest_in was) nodes (nodes ∷ stored_in was)
 
@@ -75,7 +75,7 @@ IsLinked roots links width place was x now =
     (i l : ℕ) → l < links → place ≡ place_of roots links width i l
     → now ≡ storing was (renewed (nodes_in was) i (linked_to l x))
 
--- one was stored that leads to a node which is live from now on
+-- a link was stored that leads to a node which is live from now on
 abbrev pub IsPublished : ℕ → ℕ → ℕ → ℕ → Known → ℕ → Known → Type 0
 IsPublished roots links width place was x now =
     (i l j : ℕ)
@@ -90,7 +90,7 @@ IsMarkedUnlinked roots links width place was x now =
     (i k : ℕ) → k < links + width → place ≡ place_of roots links width i k
     → now ≡ keeping was (renewed (nodes_in was) i (in_state Unlinked))
 
--- the nodes are a look at the number older
+-- the nodes after a load of the number
 abbrev pub IsReclaimed : Known → Number → Known → Type 0
 IsReclaimed was number now =
     now

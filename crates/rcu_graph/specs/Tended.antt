@@ -1,4 +1,4 @@
--- What a writer keeps of the live nodes, and what it unlinks by itself.
+-- A writer's invariant of the live nodes, and the nodes that it unlinks automatically.
 use Rattle.std.specs.Prelude.{◌≡◌, ◌⊎◌, ◌<◌, ◌≤◌, ℕ, suc, Bool, true, List, Option, length, map}
 use Rattle.std.specs.Prelude.{slice_index}
 use Rattle.rcu_live.specs.Watcher.{Watching}
@@ -41,13 +41,13 @@ pub record IsReachedFrom (links : ℕ) (nodes : List Node) (these : ℕ → Bool
   pub inside : link < links
   pub leads : slice_index (node_at nodes from).links link ≡ suc j
 
--- each of these nodes is live, and is a root or one of them leads to it
+-- each of these nodes is live, and is a root or has a link from one of them
 pub record AreHeldUp (roots links : ℕ) (nodes : List Node) (these : ℕ → Bool) : Type 0 where
   pub live : (i : ℕ) → these i ≡ true → state_at nodes i ≡ Live
   pub held : (i : ℕ) → these i ≡ true → (i < roots) ⊎ IsReachedFrom links nodes these i
 
--- of the nodes as they were stored those are unlinked that are no roots and to which no live node
--- leads any more, and nothing else changes: nodes that hold one another up stay live
+-- of the stored nodes those are unlinked that are no roots and to which no live node leads, and
+-- nothing else changes: nodes in a cycle stay live
 pub record AreCollected (roots links : ℕ) (stored nodes : List Node) : Type 0 where
   pub few : length nodes ≡ length stored
   pub links_stay : (i : ℕ) → (node_at nodes i).links ≡ (node_at stored i).links
@@ -58,7 +58,7 @@ pub record AreCollected (roots links : ℕ) (stored nodes : List Node) : Type 0 
   pub stay : (these : ℕ → Bool) → AreHeldUp roots links stored these → (i : ℕ) → these i ≡ true
       → state_at nodes i ≡ Live
 
--- the nodes after a link of the node i was led to the free node j, which is live then
+-- the nodes after a link of the node i was led to the free node j, which is then live
 abbrev pub published : List Node → ℕ → ℕ → ℕ → List Node
 published nodes i l j = renewed (renewed nodes j (in_state Live)) i (linked_to l (suc j))
 

@@ -1,4 +1,4 @@
--- What a writer's updates of a link ask for, and what they leave.
+-- The conditions of a writer's updates of a link, and their effect.
 use Rattle.std.specs.Prelude.{◌≡◌, ◌<◌, ℕ, List}
 use Rattle.rcu_live.specs.Board.{Object}
 use Rattle.rcu_live.specs.Watcher.{Watching}
@@ -12,8 +12,8 @@ use Rattle.rcu_graph.specs.declared.known.Node.{Node}
 use Rattle.rcu_graph.specs.declared.node_state.NodeState.TheVariants.{Live}
 use Rattle.rcu_graph.specs.declared.plan.Plan.{Plan}
 
--- the writer may lead this link of a live node to what the word says: nowhere, or to a live node to
--- which it may lead
+-- the writer may lead this link of a live node to the target of this word: nowhere, or a live node
+-- to which it may lead
 pub record MayRelink (fits : List ℕ → Type 0) (joins : ℕ → List ℕ → List ℕ → Type 0)
     (graph : Object Plan) (writer : Watching Planned) (counts unlinking : List ℕ)
     (from link word : ℕ) : Type 0 where
@@ -39,7 +39,7 @@ pub record CanPublish (fits : List ℕ → Type 0) (joins : ℕ → List ℕ →
   pub joined : joins link (node_at (nodes_in writer.view.client.known) from).words
       (node_at (nodes_in writer.view.client.known) to).words
 
--- the same of a writer that counts its nodes
+-- the same for a writer that counts its nodes
 pub record MayPublish (fits : List ℕ → Type 0) (joins : ℕ → List ℕ → List ℕ → Type 0)
     (graph : Object Plan) (writer : Watching Planned) (counts unlinking : List ℕ)
     (from link to : ℕ) : Type 0 where
@@ -54,8 +54,8 @@ pub record MayPublish (fits : List ℕ → Type 0) (joins : ℕ → List ℕ →
   pub joined : joins link (node_at (nodes_in writer.view.client.known) from).words
       (node_at (nodes_in writer.view.client.known) to).words
 
--- the writer has the nodes as one store made them, less those that were unlinked; it counts them
--- still
+-- the writer has the nodes after one store, without those that were unlinked; it still counts the
+-- links
 pub record HasCollected (fits : List ℕ → Type 0) (joins : ℕ → List ℕ → List ℕ → Type 0)
     (graph : Object Plan) (before now : Watching Planned) (counts unlinking : List ℕ)
     (stored : List Node) : Type 0 where

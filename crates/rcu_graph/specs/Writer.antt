@@ -1,4 +1,4 @@
--- What a writer's steps ask for, and what they leave.
+-- The conditions of a writer's steps, and their effect.
 use Rattle.std.specs.Prelude.{◌≡◌, ◌<◌, ℕ, suc, List, length, max, slice_index}
 use Rattle.rcu_seq.specs.Numbers.{Number}
 use Rattle.rcu_live.specs.Board.{Object}
@@ -15,7 +15,7 @@ use Rattle.rcu_graph.specs.declared.known.Node.{Node}
 use Rattle.rcu_graph.specs.declared.node_state.NodeState.TheVariants.{Free, Live, Unlinked}
 use Rattle.rcu_graph.specs.declared.plan.Plan.{Plan}
 
--- a watcher of the graph that keeps its nodes
+-- a watcher of the graph that is its nodes' writer
 pub record IsWriterOf (graph : Object Plan) (watcher : Watching Planned) : Type 0 where
   pub watches : IsWatcherOf graph watcher
   pub role : IsOfWatcher watcher.view
@@ -31,13 +31,13 @@ pub record IsReady (fits : List ℕ → Type 0) (joins : ℕ → List ℕ → Li
   pub led : (l : ℕ) → l < links
       → IsTarget (joins l) (node_at nodes i).words nodes (slice_index (node_at nodes i).links l)
 
--- the nodes are these then, and no live one was led elsewhere
+-- the nodes are then these, and no live one was led elsewhere
 abbrev pub after_step : Watching Planned → List Node → Watching Planned
 after_step writer nodes = after_word_step writer
     (knowing writer.view.client (keeping writer.view.client.known nodes))
 
--- the nodes became the first ones by one store that led a live one elsewhere, and are the others
--- then
+-- the nodes became the first ones by one store that led a live one elsewhere, and are then the
+-- others
 abbrev pub after_store : Watching Planned → List Node → List Node → Watching Planned
 after_store writer stored nodes = after_word_step writer
     (knowing writer.view.client (keeping (storing writer.view.client.known stored) nodes))
@@ -51,7 +51,7 @@ abbrev pub after_write_link : Watching Planned → ℕ → ℕ → ℕ → Watch
 after_write_link writer i l x =
     after_step writer (renewed (nodes_in writer.view.client.known) i (linked_to l x))
 
--- the nodes are these then, by one store
+-- the nodes are then these, by one store
 abbrev pub stored_to : Watching Planned → List Node → Watching Planned
 stored_to writer nodes = after_store writer nodes nodes
 
@@ -60,7 +60,7 @@ abbrev pub after_link : Watching Planned → ℕ → ℕ → ℕ → Watching Pl
 after_link writer i l x =
     stored_to writer (renewed (nodes_in writer.view.client.known) i (linked_to l x))
 
--- after it was led to the node j, which is live then
+-- after it was led to the node j, which is then live
 abbrev pub after_publish : Watching Planned → ℕ → ℕ → ℕ → Watching Planned
 after_publish writer i l j =
     stored_to writer
@@ -72,7 +72,7 @@ abbrev pub after_mark_unlinked : Watching Planned → ℕ → Watching Planned
 after_mark_unlinked writer i = after_step writer (renewed (nodes_in writer.view.client.known) i
     (in_state Unlinked))
 
--- after a look, which saw the number
+-- after a load of the number
 abbrev pub after_look : Watching Planned → Number → Watching Planned
 after_look writer number =
     after_number_step writer number

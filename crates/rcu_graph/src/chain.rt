@@ -8,8 +8,8 @@ use rcu_live::Within;
 
 impl<F: Shape, P: Within<GraphRule<F>>> Writer<F, P> {
     /// Writes these words to a free node, which leads to the next one, leads the previous one to it
-    /// by one store, and returns it. A node to which no live node leads any more is unlinked.
-    /// `Full` means that no node is free. It is for nodes with one link each.
+    /// by one store, and returns it. A node to which no live node leads then is unlinked. `Full`
+    /// means that no node is free. It is for nodes with one link each.
     pub fn put(
         &mut self,
         previous: usize,

@@ -1,5 +1,5 @@
-//! The nodes that a writer knows, each with a count of the links that lead to it: what a change
-//! unlinks, without a walk of the graph.
+//! The nodes that a writer knows, each with a count of the links that lead to it. So a change can
+//! unlink nodes without a walk of the graph.
 ghost use Rattle.std.specs.Prelude.{◌≡◌, ◌≤◌, ◌<◌, ◌+◌, ◌∷◌, ◌^◌, ℕ, [], All, List, length};
 ghost use Rattle.std.specs.Prelude.{slice_index, suc};
 ghost use Rattle.rcu_graph.specs.Counts.{counted_up, times_in};
@@ -21,7 +21,7 @@ use rcu_live::Within;
 pub(crate) struct CountedNodes<F: Shape, P: Within<GraphRule<F>>> {
     pub(crate) nodes: KnownNodes<F, P>,
     pub(crate) counts: Vec<usize>,
-    /// The nodes that a change unlinks, in order: room for all.
+    /// The nodes that a change unlinks, in order, with room for all.
     pub(crate) unlinking: Vec<usize>,
 }
 
@@ -40,7 +40,7 @@ impl<F: Shape, P: Within<GraphRule<F>>> CountedNodes<F, P> {
         }
     }
 
-    /// Releases a link that led there: if no live node leads to a node any more, it is unlinked.
+    /// Releases a link that led there: if no live node leads to a node then, it is unlinked.
     /// Returns how many are unlinked.
     fn release_link(&mut self, graph: &Graph<F, P>, word: u64, unlinked: usize) -> usize
         requires graph { IsWatcherOf graph.now self.old.nodes }
@@ -109,7 +109,8 @@ impl<F: Shape, P: Within<GraphRule<F>>> CountedNodes<F, P> {
         gone
     }
 
-    /// Releases a link that led there, and marks what no live node leads to as unlinked any more.
+    /// Releases a link that led there, and marks as unlinked every node to which no live node leads
+    /// then.
     fn collect_unreachable(&mut self, graph: &Graph<F, P>, word: u64)
         requires graph { IsWatcherOf graph.now self.old.nodes }
         requires collecting { IsCollecting graph.now.plan.nodes graph.now.plan.roots

@@ -1,5 +1,5 @@
-//! The states of the nodes, which go round: from free to live, unlinked, retired, and to free
-//! again. A step of one costs the same, however many nodes there are.
+//! The states of the nodes, in a cycle: from free to live, unlinked, retired, and to free again. A
+//! step of one costs the same, however many nodes there are.
 ghost use Rattle.std.specs.Prelude.{◌≡◌, ◌-◌, ◌<◌, ◌≤◌, ◌^◌, ℕ, IfNone, IfOk, IfSome, length, map};
 ghost use Rattle.std.specs.Prelude.{replicate, slice_index, slice_set};
 ghost use Rattle.rcu_graph.specs.Cycle.{IsTurn, is_over, is_unlinked, state_in, turned};
@@ -18,12 +18,12 @@ pub(crate) struct Cycle {
     states: Vec<NodeState>,
     /// The free nodes, the one that was freed last on top.
     free: Vec<usize>,
-    /// How high each free node is among them.
+    /// The height of each free node in that stack.
     heights: Vec<usize>,
-    /// The retired nodes in the order of their retiring, and behind them the unlinked ones in the
-    /// order of their unlinking.
+    /// The retired nodes in the order in which they were retired, and behind them the unlinked ones
+    /// in the order in which they were unlinked.
     waiting: VecDeque<usize>,
-    /// How many of those that wait are retired.
+    /// How many of the waiting nodes are retired.
     retired: usize,
 }
 
@@ -45,7 +45,7 @@ impl Model for Cycle {
     } };
 }
 
-/// This many numbers, the last one first.
+/// Returns this many numbers, the last one first.
 fn falling(alloc: Global, count: usize) -> Result<Vec<usize>, AllocError>
     ensures many { IfOk result (λ numbers. length numbers.items ≡ count) }
     ensures each { IfOk result (λ numbers. (i : ℕ) → i < count →
@@ -59,7 +59,7 @@ fn falling(alloc: Global, count: usize) -> Result<Vec<usize>, AllocError>
 }
 
 impl Cycle {
-    /// All nodes are free. Takes all the memory that there will ever be.
+    /// Returns the states with all nodes free. Allocates all memory that they will ever need.
     pub(crate) fn new(alloc: Global, count: usize) -> Result<Self, AllocError>
         ensures { IfOk result (λ cycle. cycle ≡ replicate count Free) }
     {
@@ -124,7 +124,8 @@ impl Cycle {
         self.states[node] = NodeState::Unlinked;
     }
 
-    /// The states after a look that saw this number. It costs what becomes free or retired by it.
+    /// Updates the states after a load of this number. Costs a step for each node that becomes free
+    /// or retired.
     pub(crate) fn reclaim(&mut self, number: u64)
         requires small { number ≤ 2 ^ 62 }
         requires late { (i : ℕ) → i < length self.old → IsBy number (state_in self.old i) }
@@ -134,7 +135,7 @@ impl Cycle {
         self.retire_all(number);
     }
 
-    /// Frees what was retired a full grace period ago.
+    /// Frees the nodes that were retired a full grace period ago.
     fn free_all(&mut self, number: u64)
         requires { number ≤ 2 ^ 62 }
         ensures { self.new ≡ map (turned (is_over number) Free) self.old }
@@ -142,7 +143,7 @@ impl Cycle {
         while self.free_next(number) {}
     }
 
-    /// Retires what was unlinked.
+    /// Retires the unlinked nodes.
     fn retire_all(&mut self, number: u64)
         requires { (i : ℕ) → i < length self.old → IsBy number (state_in self.old i) }
         ensures { self.new ≡ map (turned is_unlinked (Retired number)) self.old }

@@ -38,7 +38,7 @@ pub fn a_search_may_go_on_beside_its_writer()
 {}
 
 /// A section makes a hop, the writer publishes a node, and the section goes on to it, each by one
-/// move. No move takes it to that node before, and none takes the store back. The node that leads
+/// move. No earlier move takes it to that node, and none takes the store back. The node that leads
 /// to the new one is on the chain of the root, and on none behind the new one.
 pub fn a_section_goes_on_over_a_run()
     ensures kept { (kept : IsKeptOver small_fits small_joins small_first small_plan 0 3
@@ -59,8 +59,8 @@ pub fn a_section_goes_on_over_a_run()
     ensures not_chain { IsChainOf small_joins small_first small_plan (λ _. true) 1 → ⊥ }
 {}
 
-/// A run goes on by each step that a section or the writer may make: it leads from such a moment to
-/// such a one, by a move.
+/// A run goes on by each step that a section or the writer may make: the step is a move from one
+/// such moment to another.
 pub fn runs_go_on_by_steps<F: Shape>()
     ensures followed { (plan : Plan) (writer seat opened number node link : ℕ) (words : List ℕ)
         (before : Moment) →

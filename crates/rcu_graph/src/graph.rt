@@ -1,4 +1,4 @@
-//! A graph of nodes: what a section reads of it, without a lock, a wait or a store.
+//! A graph of nodes, and how a section reads it, without a lock, a wait or a store.
 ghost use Rattle.std.specs.Prelude.{◌≡◌, ◌≤◌, ◌+◌, ◌*◌, ◌^◌, ◌<◌, ℕ, IfOk, IfSome, List};
 ghost use Rattle.std.specs.Prelude.{slice_index, suc};
 ghost use Rattle.std.specs.Arc.{arc_value};
@@ -17,7 +17,7 @@ use std::alloc::{AllocError, Global};
 use std::marker::Model;
 use std::sync::Arc;
 
-/// Nodes among the shared words of a running engine, as many as its plan says. Those in use meet
+/// Nodes among the shared words of a running engine, as many as its plan says. Those in use satisfy
 /// `F`. The graph is the client of the engine, or one of several, at the place `P`.
 #[derive(Drop)]
 pub struct Graph<F: Shape, P: Within<GraphRule<F>> = Alone> {
@@ -80,7 +80,7 @@ impl<F: Shape, P: Within<GraphRule<F>>> Graph<F, P> {
         ensures cells { first_place + (self.now.plan.links + self.now.plan.words)
             * self.now.plan.nodes < 2 ^ 64 }
     {
-        // A borrow of a field shows the prover what the type keeps.
+        // A borrow of a field gives the prover the invariant of the type.
         let _ = &self.board;
         self.plan
     }
@@ -113,13 +113,13 @@ impl<F: Shape, P: Within<GraphRule<F>>> Graph<F, P> {
         ensures inside { result < first_place + (self.now.plan.links + self.now.plan.words)
             * self.now.plan.nodes }
     {
-        // A borrow of a field shows the prover what the type keeps: that the words fit in memory.
+        // A borrow of a field gives the prover the invariant of the type: the words fit in memory.
         let _ = &self.board;
         place_of(layout.plan, node, k)
     }
 
-    /// As [`follow`](Self::follow), by the link's word: 0 leads nowhere, and else it is one more
-    /// than the node.
+    /// Does as [`follow`](Self::follow), but returns the link's word: 0 leads nowhere, any other is
+    /// one more than the node.
     pub(crate) fn follow_word(
         &self,
         seat: &mut GraphSeat<F, P>,
@@ -145,11 +145,12 @@ impl<F: Shape, P: Within<GraphRule<F>>> Graph<F, P> {
     }
 
     /// Loads a link of the node that the section is on, and returns the node that it led to at that
-    /// load: the section holds that one too until it closes, whole and with its words as they are
-    /// (Linux's `rcu_dereference` of a `next`). The seat's view has the load as one hop more.
+    /// load. The section also holds that node until it closes, complete and with its words
+    /// unchanged (Linux's `rcu_dereference` of a `next`). The seat's view has the load as one more
+    /// hop.
     ///
-    /// The layout is as [`layout`](Self::layout) has it. A loop over many nodes keeps it, with the
-    /// numbers of links and words as constants: that saves loads and a multiplication.
+    /// The layout is that of [`layout`](Self::layout). A loop over many nodes should keep it, with
+    /// the numbers of links and words as constants: that saves loads and a multiplication.
     pub fn follow(
         &self,
         seat: &mut GraphSeat<F, P>,
@@ -178,8 +179,8 @@ impl<F: Shape, P: Within<GraphRule<F>>> Graph<F, P> {
         Some((word - 1) as usize)
     }
 
-    /// Loads a word of the node that the section is on: the one that it had when the section came
-    /// to it. The layout is as of [`follow`](Self::follow).
+    /// Loads a word of the node that the section is on: the word that it had when the section came
+    /// to it. The layout is as for [`follow`](Self::follow).
     pub fn read(&self, seat: &mut GraphSeat<F, P>, layout: Layout, node: usize, word: usize) -> u64
         requires layout { layout ≡ layout_of self.now }
         requires at { IsAt (F.first self.now.plan) self.now (seat_part P.lens seat.old) node }
@@ -188,7 +189,7 @@ impl<F: Shape, P: Within<GraphRule<F>>> Graph<F, P> {
         ensures told { (words : List ℕ) → IsOn (F.first self.now.plan) self.now.plan.roots
             (P.lens.get seat.old.view.client).known node words → result ≡ slice_index words word }
     {
-        // A borrow of a field shows the prover what the type keeps: that the words fit in memory.
+        // A borrow of a field gives the prover the invariant of the type: the words fit in memory.
         let _ = &self.board;
         self.load_cell::<Read<F>>(seat, layout, node, layout.plan.links + word)
     }

@@ -16,9 +16,9 @@ use std::alloc::{AllocError, Global};
 use std::sync::Arc;
 
 impl<F: Shape, P: Within<GraphRule<F>>> Graph<F, P> {
-    /// Returns the graph at this place of an engine that was opened by this plan, and the watcher
-    /// that keeps its nodes. It has what the engine's own watcher knew of the graph; of all else
-    /// that one knows what it knew.
+    /// Returns the graph at this place of an engine that was opened by this plan, and the writer's
+    /// watcher of its nodes. That watcher gets the knowledge of the engine's own watcher about the
+    /// graph; the engine's own watcher keeps the rest.
     pub fn join(
         board: &Arc<Board<P::Whole>, Global>,
         own: &mut GraphWatcher<F, P>,

@@ -1,4 +1,4 @@
-//! The seat that keeps the nodes, and beside it what it knows of them at run time.
+//! The seat of the nodes' writer, and its copy of the nodes at run time.
 ghost use Rattle.std.specs.Prelude.{◌≡◌, ◌≤◌, ◌<◌, ◌+◌, ◌-◌, ◌*◌, ◌^◌, All, IfOk, IfSome};
 ghost use Rattle.std.specs.Prelude.{length, map};
 ghost use Rattle.rcu_live.specs.InPart.{watcher_part};
@@ -23,7 +23,7 @@ use rcu_live::Within;
 use std::alloc::{AllocError, Global};
 use std::marker::Model;
 
-/// The seat that keeps the nodes, with their states, links and words.
+/// The seat of the nodes' writer, with their states, links and words.
 #[derive(Drop)]
 pub(crate) struct KnownNodes<F: Shape, P: Within<GraphRule<F>>> {
     seat: GraphWatcher<F, P>,
@@ -73,16 +73,16 @@ impl<F: Shape, P: Within<GraphRule<F>>> KnownNodes<F, P> {
         Ok(KnownNodes { seat, mirror })
     }
 
-    /// What the type keeps: nothing is done.
+    /// Gives a proof the invariant of the type. Does nothing.
     pub(crate) fn keeps(&self, graph: &Graph<F, P>)
         requires { IsWatcherOf graph.now self.now }
         ensures { IsWriterOf graph.now self.now }
     {
-        // A borrow of a field shows the prover what the type keeps.
+        // A borrow of a field gives the prover the invariant of the type.
         let _ = &self.mirror;
     }
 
-    /// Returns how large the graph is.
+    /// Returns the plan of the graph.
     pub(crate) fn plan(&self, graph: &Graph<F, P>) -> Plan
         requires { IsWatcherOf graph.now self.now }
         ensures plan { result ≡ graph.now.plan }
@@ -96,7 +96,7 @@ impl<F: Shape, P: Within<GraphRule<F>>> KnownNodes<F, P> {
         self.mirror.plan()
     }
 
-    /// The nodes as they are known at run time.
+    /// Returns the copy of the nodes at run time.
     pub(crate) fn mirror(&self) -> &Mirror
         ensures plan { result.now.plan ≡ self.now.view.client.plan }
         ensures nodes { result.now.nodes ≡ nodes_in self.now.view.client.known }
@@ -197,7 +197,7 @@ impl<F: Shape, P: Within<GraphRule<F>>> KnownNodes<F, P> {
         self.mirror.set_link(from, link, word_of(Some(to)));
     }
 
-    /// Marks a live node as unlinked to which no live one leads.
+    /// Marks a live node as unlinked, if no live one leads to it.
     pub(crate) fn mark_unlinked(&mut self, graph: &Graph<F, P>, node: usize)
         requires graph { IsWatcherOf graph.now self.old }
         requires node { node < graph.now.plan.nodes }
@@ -212,8 +212,8 @@ impl<F: Shape, P: Within<GraphRule<F>>> KnownNodes<F, P> {
         self.mirror.mark_unlinked(node);
     }
 
-    /// Looks at the number, by which nodes are reclaimed. It costs what becomes free or retired by
-    /// it.
+    /// Loads the number, and reclaims nodes by it. Costs a step for each node that becomes free or
+    /// retired.
     pub(crate) fn look(&mut self, graph: &Graph<F, P>) -> u64
         requires { IsWatcherOf graph.now self.old }
         ensures graph { IsWatcherOf graph.now self.new }

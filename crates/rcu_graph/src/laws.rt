@@ -29,7 +29,7 @@ ghost use Rattle.rcu_graph.specs.declared.plan.Plan.{Plan};
 use crate::rule::Shape;
 
 /// Each link and each word of a node has a place of its own, inside the words of the graph. The
-/// words of a node lie side by side, and so do the links of one root and of the next.
+/// words of a node are side by side, and so are the links of one root and of the next.
 pub fn each_cell_has_a_place_of_its_own()
     ensures own { (plan : Plan) (node other k l : ℕ) → k < plan.links + plan.words →
         l < plan.links + plan.words → place_of plan.roots plan.links plan.words node k
@@ -75,7 +75,7 @@ pub fn free_nodes_are_not_held<F: Shape>()
         IsHeld known.known node words → get_elem? nodes node ≡ some v → v.state ≢ Free }
 {}
 
-/// A section holds a node with the words that the writer knows of it.
+/// A section holds a node with the words that the writer knows.
 pub fn held_nodes_are_as_known<F: Shape>()
     ensures { (plan : Plan) (table : List ℕ) (xs : Views Planned)
         (writer seat node latest : ℕ) (who own cpu section : Option ℕ) (nodes : List Node)
@@ -101,9 +101,9 @@ pub fn live_nodes_lead_to_live_nodes<F: Shape>()
         × F.joins plan link v.words to.words }
 {}
 
-/// A hop found the truth at its load: the word that it loaded is that of the link, as the writer
-/// knows the nodes then, and the node to which it came has the words that the hop has. So a lookup
-/// by one hop takes effect at its load, also if it finds nothing.
+/// A hop is true at its load: the word that it loaded is that of the link, as the writer knows the
+/// nodes then, and the node to which it came has the words of the hop. So a lookup by one hop takes
+/// effect at its load, also if it finds nothing.
 pub fn hops_are_true_of_the_nodes<F: Shape>()
     ensures { (plan : Plan) (table : List ℕ) (xs : Views Planned)
         (writer seat node link latest : ℕ) (who own cpu section : Option ℕ) (nodes : List Node)
@@ -136,7 +136,7 @@ pub fn chains_go_up<F: Shape>()
 {}
 
 /// Each call of the writer is a step of such a history beside an open section. For `Graph::link`
-/// and `Graph::publish` the node whose link is stored has to be on its chain still.
+/// and `Graph::publish` the node whose link is stored still has to be on its chain.
 pub fn calls_are_writer_steps()
     ensures write { (ours : List ℕ → Bool) (opened root node word value : ℕ)
         (writer : Watching Planned) → state_at (nodes_in writer.view.client.known) node ≡ Free →

@@ -75,7 +75,7 @@ impl Mirror {
         Ok(mirror)
     }
 
-    /// Free nodes, whose links and words are 0.
+    /// Returns free nodes, whose links and words are 0.
     fn free_nodes(alloc: Global, plan: Plan) -> Result<Self, AllocError>
         requires links { plan.links * plan.nodes + 1 < 2 ^ 64 }
         requires words { plan.words * plan.nodes < 2 ^ 64 }
@@ -95,7 +95,7 @@ impl Mirror {
         })
     }
 
-    /// Returns how large the graph is.
+    /// Returns the plan of the graph.
     pub(crate) fn plan(&self) -> Plan
         ensures plan { result ≡ self.now.plan }
         ensures few { length self.now.nodes ≡ self.now.plan.nodes }
@@ -104,7 +104,7 @@ impl Mirror {
         ensures links_fit { self.now.plan.links * self.now.plan.nodes + 1 < 2 ^ 64 }
         ensures nodes_fit { self.now.plan.nodes < 2 ^ 64 - 1 }
     {
-        // A borrow of a field shows the prover what the type keeps.
+        // A borrow of a field gives the prover the invariant of the type.
         let _ = &self.states;
         self.plan
     }
@@ -164,7 +164,7 @@ impl Mirror {
         self.states.mark_unlinked(node);
     }
 
-    /// Leads a link of a node elsewhere.
+    /// Changes the target of a node's link.
     pub(crate) fn set_link(&mut self, node: usize, link: usize, value: u64)
         requires node { node < self.old.plan.nodes }
         requires link { link < self.old.plan.links }
@@ -175,7 +175,7 @@ impl Mirror {
         self.links[cell] = value;
     }
 
-    /// Puts a word of a node in place of the one that it has.
+    /// Replaces a word of a node.
     pub(crate) fn set_word(&mut self, node: usize, word: usize, value: u64)
         requires node { node < self.old.plan.nodes }
         requires word { word < self.old.plan.words }
@@ -201,7 +201,8 @@ impl Mirror {
         }
     }
 
-    /// The nodes after a look that saw this number. It costs what becomes free or retired by it.
+    /// Updates the nodes after a load of this number. Costs a step for each node that becomes free
+    /// or retired.
     pub(crate) fn reclaim(&mut self, number: u64)
         requires small { number ≤ 2 ^ 62 }
         requires late { AreBy number self.old.nodes }

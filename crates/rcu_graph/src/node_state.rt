@@ -1,4 +1,4 @@
-//! What state a node is in.
+//! The states of nodes.
 ghost use Rattle.std.specs.Prelude.{◌≡◌, ◌≤◌, ◌^◌};
 ghost use Rattle.rcu_graph.specs.Nodes.{is_free, is_live, reclaimed_state};
 
@@ -32,8 +32,8 @@ impl NodeState {
         matches!(self, NodeState::Live)
     }
 
-    /// Returns the state after a look that saw this number, which is at most 2^62: what was
-    /// unlinked is retired now, and what was retired a full grace period ago is free.
+    /// Returns the state after a load of this number, which is at most 2^62: an unlinked node is
+    /// then retired, and a node that was retired a full grace period ago is free.
     pub fn reclaimed(self, number: u64) -> NodeState
         requires { number ≤ 2 ^ 62 }
         ensures { result ≡ reclaimed_state number number self }

@@ -25,15 +25,15 @@ const MOST: u64 = 1 << 62;
 /// A graph as it is opened, with its engine.
 #[derive(Drop)]
 pub struct Opened<L: Drop, F: Shape> {
-    /// The engine, which threads share, or which is under no lock. A thread has to drive it.
+    /// The engine, shared by threads or under no lock. A thread has to drive it.
     pub live: L,
     /// The nodes, which its seats read.
     pub graph: Graph<F>,
-    /// A seat a processor, in order.
+    /// A seat for each processor, in order.
     pub seats: Vec<GraphSeat<F>>,
-    /// A watcher a processor.
+    /// A watcher for each processor.
     pub watchers: Vec<GraphWatcher<F>>,
-    /// The watcher that keeps the nodes.
+    /// The watcher of the nodes' writer.
     pub own: GraphWatcher<F>,
 }
 
@@ -46,12 +46,12 @@ pub type UnlockedEngine<const LEAF: u32, const FAN: u32, T, F> = Engine<
 
 impl<F: Shape> Graph<F> {
     /// Opens a graph of a plan, whose roots have their first words and lead nowhere, and whose
-    /// other nodes are free, with its engine: of `cpus` processors, idle at number 0, processor 0
-    /// alone online.
+    /// other nodes are free. Opens its engine too: of `cpus` processors, idle at number 0, with
+    /// processor 0 alone online.
     ///
     /// Faults: `BadSizes` if no graph may have these sizes; `TooManyCpus` (17) for no processor,
-    /// more than 4,096, or more than four levels hold; `BadLast` (19) if `last` is no last number;
-    /// `NoMemory` (16).
+    /// more than 4,096, or more than four levels hold; `BadLast` (19) if `last` is not a legal last
+    /// number; `NoMemory` (16).
     pub fn open<const LEAF: u32, const FAN: u32, T: Drop>(
         alloc: Global,
         cpus: u32,
@@ -92,8 +92,8 @@ impl<F: Shape> Graph<F> {
         })
     }
 
-    /// Opens a graph as [`open`](Self::open), with its engine under no lock: its owner makes one
-    /// call at a time.
+    /// Opens a graph as [`open`](Self::open) does, with its engine under no lock: its owner has to
+    /// make one call at a time.
     pub fn open_unlocked<const LEAF: u32, const FAN: u32, T: Drop>(
         alloc: Global,
         cpus: u32,

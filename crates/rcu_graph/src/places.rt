@@ -1,14 +1,14 @@
-//! Where the links and the words of the nodes are.
+//! The places of the links and the words of the nodes.
 ghost use Rattle.std.specs.Prelude.{◌≡◌, ◌+◌, ◌*◌, ◌<◌, ◌≤◌, ◌^◌};
 ghost use Rattle.rcu_graph.specs.Nodes.{first_place, place_of};
 
 use crate::plan::Plan;
 
-/// Where the links and the words of the nodes begin.
+/// The first place of the links and the words of the nodes.
 pub const FIRST: usize = 16;
 
-/// Returns the place of the cell `k` of a root. The links of the roots lie side by side, so that a
-/// line of a cache has those of many.
+/// Returns the place of the cell `k` of a root. The links of the roots are side by side, so that
+/// one cache line has those of many.
 pub(crate) fn root_place(plan: Plan, root: usize, k: usize) -> usize
     requires root { root < plan.roots }
     requires inside { k < plan.links + plan.words }

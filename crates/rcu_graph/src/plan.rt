@@ -1,4 +1,4 @@
-//! How large a graph is.
+//! The size of a graph.
 
 /// The sizes of a graph, and a number of the user's, chosen once, at the opening.
 #[derive(Clone, Copy, Debug, PartialEq, Eq)]
@@ -11,7 +11,7 @@ pub struct Plan {
     pub words: usize,
     /// The number of nodes, including the roots.
     pub nodes: usize,
-    /// A number that the user's facts may name, as the seed of a hash.
+    /// A number that the user's facts may use, such as the seed of a hash.
     pub seed: u64,
 }
 

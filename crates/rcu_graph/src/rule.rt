@@ -9,15 +9,16 @@ use rcu_live::{Alone, Client, CpuSeat, Live, NumberStep, Watcher, Within, WordSt
 use std::alloc::{AllocError, Global};
 use std::marker::PhantomData;
 
-/// A user's facts on the nodes of a graph of a plan: what the words of one in use satisfy, which
-/// nodes a link may join (as that the keys go up), and which words the roots have.
+/// A user's facts on the nodes of a graph of a plan: the fact on the words of a node in use, which
+/// nodes a link may join (for example, that the keys go up), and which words the roots have.
 pub trait Shape {
     ghost use Rattle.std.specs.Prelude.{◌≡◌, ◌<◌, slice_index};
     ghost use Rattle.rcu_graph.specs.declared.plan.Plan.{Plan};
 
     ghost fits: { Plan → List ℕ → Type 0 };
 
-    // Of the link's number, the words of the node that it leads from, and of that it leads to.
+    // A relation of the link's number, the words of its node, and the words of the node that it
+    // leads to.
     ghost joins: { Plan → ℕ → List ℕ → List ℕ → Type 0 };
 
     ghost first: { Plan → ℕ → List ℕ };
@@ -29,7 +30,7 @@ pub trait Shape {
         ensures { result ≡ slice_index (first plan root) word };
 }
 
-/// The rule of a graph of a plan, whose nodes in use meet `F`.
+/// The rule of a graph of a plan, whose nodes in use satisfy `F`.
 pub struct GraphRule<F> {
     shape: PhantomData<F>,
 }
@@ -107,7 +108,7 @@ impl<F: Shape> WordStep<Planned> for Read<F> {
     ghost then = { tells_read F.first };
 }
 
-/// Loads a word, and keeps the nodes from now on.
+/// Loads a word, and makes the seat the writer of the nodes.
 pub struct Claim<F> {
     shape: PhantomData<F>,
 }
@@ -136,7 +137,7 @@ impl WordStep<Planned> for WriteLink {
     ghost then = { tells_write_link };
 }
 
-/// Stores a link of a live node, which leads nowhere or to a live one then.
+/// Stores a link of a live node, which then leads nowhere or to a live one.
 pub struct Link;
 
 impl WordStep<Planned> for Link {
@@ -145,7 +146,7 @@ impl WordStep<Planned> for Link {
     ghost then = { tells_link };
 }
 
-/// Stores a link of a live node, which leads to a node that was free: that one is live then.
+/// Stores a link of a live node, which then leads to a node that was free and is now live.
 pub struct Publish;
 
 impl WordStep<Planned> for Publish {
@@ -163,7 +164,7 @@ impl WordStep<Planned> for MarkUnlinked {
     ghost then = { tells_mark_unlinked };
 }
 
-/// Looks at the number, by which nodes become free.
+/// Loads the number, by which nodes become free.
 pub struct Reclaim;
 
 impl NumberStep<Planned> for Reclaim {

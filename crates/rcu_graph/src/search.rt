@@ -27,10 +27,10 @@ impl<F: Shape, P: Within<GraphRule<F>>> Graph<F, P> {
         self.read(seat, layout, node, 0)
     }
 
-    /// Searches the chain of a root for a key, by a load a hop, and one a key. The section holds
-    /// each node that it came to; the one that it returns has the key, and is whole. It returns
-    /// none only if a hop led nowhere, or to a greater key. The layout is as of
-    /// [`follow`](Self::follow).
+    /// Searches the chain of a root for a key, by one load for each hop, and one for each key. The
+    /// section holds each node that it came to; the node that it returns has the key, and is
+    /// complete. It returns none only if a hop led nowhere, or to a greater key. The layout is as
+    /// for [`follow`](Self::follow).
     pub fn find(
         &self,
         seat: &mut GraphSeat<F, P>,

@@ -19,7 +19,7 @@ use rcu_live::in_part::{self, Spot};
 use rcu_live::{NumberStep, Within, WordStep};
 
 impl<F: Shape, P: Within<GraphRule<F>>> Graph<F, P> {
-    /// Loads a word by a processor's seat. The caller keeps the place at which the graph's words
+    /// Loads a word by a processor's seat. The caller has the place at which the graph's words
     /// begin.
     pub(crate) fn load<M: WordStep<Planned>>(
         &self,
@@ -43,8 +43,9 @@ impl<F: Shape, P: Within<GraphRule<F>>> Graph<F, P> {
         in_part::load_word::<GraphRule<F>, P, M>(seat, &*self.board, spot)
     }
 
-    /// Loads the cell `k` of a node by a processor's seat. A walk comes to a root first, and to
-    /// others then: by two loads its hops wait for no place that depends on which it is.
+    /// Loads the cell `k` of a node by a processor's seat. A walk first comes to a root, and then
+    /// to other nodes: with two separate loads its hops do not wait for a place that depends on the
+    /// kind of node.
     pub(crate) fn load_cell<M: WordStep<Planned>>(
         &self,
         seat: &mut GraphSeat<F, P>,
@@ -66,7 +67,7 @@ impl<F: Shape, P: Within<GraphRule<F>>> Graph<F, P> {
         ensures others { seat.new ≡ cpu_seat.after_word_step seat.old
             (P.lens.set seat.old.view.client (P.lens.get seat.new.view.client)) }
     {
-        // A borrow of a field shows the prover what the type keeps: that the words fit in memory.
+        // A borrow of a field gives the prover the invariant of the type: the words fit in memory.
         let _ = &self.board;
         if node < layout.plan.roots {
             let place = root_place(layout.plan, node, k);
@@ -125,7 +126,7 @@ impl<F: Shape, P: Within<GraphRule<F>>> Graph<F, P> {
         in_part::store_word::<GraphRule<F>, P, M>(seat, &*self.board, spot, value);
     }
 
-    /// Loads the number by a watcher: a look of the graph's.
+    /// Loads the number by a watcher, as a step of the graph.
     pub(crate) fn look_at_number<M: NumberStep<Planned>>(
         &self,
         seat: &mut GraphWatcher<F, P>,

@@ -13,8 +13,8 @@ use crate::walk::Walk;
 use rcu_live::Within;
 
 impl<F: Shape, P: Within<GraphRule<F>>> Graph<F, P> {
-    /// Lends the seat to a walk of its open section, which goes on from the hops that it has made.
-    /// Nothing is loaded.
+    /// Lends the seat to a walk of its open section, which continues from the hops that it has
+    /// made. Loads nothing.
     pub fn walk<'a>(&'a self, seat: &'a mut GraphSeat<F, P>) -> Walk<'a, F, P>
         requires { IsWalking self.now (seat_part P.lens seat.old) }
         ensures graph { (walked result).graph ≡ self.now }

@@ -1,5 +1,5 @@
-//! The writer of a graph: it publishes and unlinks nodes by single stores, unlinks by itself each
-//! node to which no live node leads, and knows which nodes are free.
+//! The writer of a graph: it publishes and unlinks nodes by single stores, automatically unlinks
+//! each node to which no live node leads, and knows which nodes are free.
 ghost use Rattle.std.specs.Prelude.{◌≡◌, ◌≤◌, ◌<◌, ◌^◌, All, IfOk, IfSome, None, OnErr, length};
 ghost use Rattle.std.specs.Prelude.{slice_index};
 ghost use Rattle.rcu_live.specs.InPart.{watcher_part};
@@ -29,8 +29,8 @@ pub struct Full;
 /// The writer of a graph, for one thread. A graph has one.
 ///
 /// It counts the links of live nodes that lead to each node. So a node to which no live node leads
-/// any more is unlinked by itself (as by the counts of `Rc`), then the nodes to which only that one
-/// led, and so on. Nodes that lead to one another in a ring stay live: unlink one of them first.
+/// is unlinked automatically (as by the counts of `Rc`), then the nodes to which only that one led,
+/// and so on. Nodes in a cycle stay live: unlink one of them first.
 #[derive(Drop)]
 pub struct Writer<F: Shape, P: Within<GraphRule<F>> = Alone> {
     graph: Graph<F, P>,
@@ -57,8 +57,8 @@ impl<F: Shape, P: Within<GraphRule<F>>> Model for Writer<F, P> {
 }
 
 impl<F: Shape, P: Within<GraphRule<F>>> Writer<F, P> {
-    /// The writer of a graph whose nodes are as at first. It takes all the memory that it will ever
-    /// have.
+    /// Returns the writer of a graph whose nodes are as at first. Allocates all memory that it will
+    /// ever need.
     pub fn new(
         alloc: Global,
         graph: &Graph<F, P>,
@@ -136,9 +136,9 @@ impl<F: Shape, P: Within<GraphRule<F>>> Writer<F, P> {
         self.counted.nodes.mirror().word(node, word)
     }
 
-    /// Returns a free node, at a cost that is the same for any number of nodes: the one that was
-    /// freed last, which the cache may still have. It stays free until it is published, so another
-    /// call may return it again. `Full` means that none is free.
+    /// Returns a free node, in constant time: the one that was freed last, which may still be in
+    /// the cache. It stays free until it is published, so another call may return it again. `Full`
+    /// means that none is free.
     pub fn free_node(&self) -> Result<usize, Full>
         ensures inside { IfOk result (λ node. node < self.now.view.client.plan.nodes) }
         ensures free { IfOk result (λ node.
@@ -148,7 +148,7 @@ impl<F: Shape, P: Within<GraphRule<F>>> Writer<F, P> {
         self.counted.nodes.mirror().free_node().ok_or(Full)
     }
 
-    /// Stores all words and all links of a free node. No section sees them: it is free still.
+    /// Stores all words and all links of a free node. No section sees them: the node is still free.
     pub fn fill(&mut self, node: usize, words: &[u64], links: &[Option<usize>])
         requires node { node < self.old.view.client.plan.nodes }
         requires free { state_at (nodes_in self.old.view.client.known) node ≡ Free }
@@ -163,8 +163,7 @@ impl<F: Shape, P: Within<GraphRule<F>>> Writer<F, P> {
     }
 
     /// Links a live node to a free one, which is whole and leads to live nodes: this store makes it
-    /// live (Linux's `rcu_assign_pointer`). A node to which no live node leads any more is
-    /// unlinked.
+    /// live (Linux's `rcu_assign_pointer`). A node to which no live node leads then is unlinked.
     pub fn publish(&mut self, from: usize, link: usize, to: usize)
         requires from { from < self.old.view.client.plan.nodes }
         requires to { to < self.old.view.client.plan.nodes }
@@ -190,7 +189,7 @@ impl<F: Shape, P: Within<GraphRule<F>>> Writer<F, P> {
     }
 
     /// Leads a link of a live node to a live one, or nowhere, by one store. A node to which no live
-    /// node leads any more is unlinked.
+    /// node leads then is unlinked.
     pub fn link(&mut self, from: usize, link: usize, to: Option<usize>)
         requires from { from < self.old.view.client.plan.nodes }
         requires link { link < self.old.view.client.plan.links }
@@ -211,8 +210,8 @@ impl<F: Shape, P: Within<GraphRule<F>>> Writer<F, P> {
         self.counted.link(&self.graph, from, link, to);
     }
 
-    /// Leads a link of a live node nowhere, by one store. A node to which no live node leads any
-    /// more is unlinked.
+    /// Leads a link of a live node nowhere, by one store. A node to which no live node leads then
+    /// is unlinked.
     pub fn unlink(&mut self, from: usize, link: usize)
         requires from { from < self.old.view.client.plan.nodes }
         requires link { link < self.old.view.client.plan.links }

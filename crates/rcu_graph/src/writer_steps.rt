@@ -20,7 +20,7 @@ use crate::rule::{
 use rcu_live::Within;
 
 impl<F: Shape, P: Within<GraphRule<F>>> Graph<F, P> {
-    /// Loads a word: the seat keeps the nodes from now on.
+    /// Loads a word, and makes the seat the writer of the nodes.
     pub(crate) fn claim(&self, seat: &mut GraphWatcher<F, P>)
         requires seat { IsWatcherOf self.now (watcher_part P.lens seat.old) }
         requires owner { (P.lens.get seat.old.view.client).known ≡ Owner }
@@ -29,7 +29,7 @@ impl<F: Shape, P: Within<GraphRule<F>>> Graph<F, P> {
             self.now.plan.words
             (F.first self.now.plan) self.now.plan.roots self.now.plan.nodes) []))) }
     {
-        // A borrow of a field shows the prover what the type keeps: how large the graph is.
+        // A borrow of a field gives the prover the invariant of the type: the size of the graph.
         let _ = &self.board;
         self.watch::<Claim<F>>(seat, 0);
     }
@@ -46,7 +46,7 @@ impl<F: Shape, P: Within<GraphRule<F>>> Graph<F, P> {
         ensures others { seat.new ≡ after_word_step seat.old
             (P.lens.set seat.old.view.client (P.lens.get seat.new.view.client)) }
     {
-        // A borrow of a field shows the prover what the type keeps: that the words fit in memory.
+        // A borrow of a field gives the prover the invariant of the type: the words fit in memory.
         let _ = &self.board;
         let place = self.place(self.layout(), node, self.plan.links + word);
         self.store::<Write>(seat, place, value);
@@ -64,7 +64,7 @@ impl<F: Shape, P: Within<GraphRule<F>>> Graph<F, P> {
         ensures others { seat.new ≡ after_word_step seat.old
             (P.lens.set seat.old.view.client (P.lens.get seat.new.view.client)) }
     {
-        // A borrow of a field shows the prover what the type keeps: that the words fit in memory.
+        // A borrow of a field gives the prover the invariant of the type: the words fit in memory.
         let _ = &self.board;
         let place = self.place(self.layout(), node, link);
         self.store::<WriteLink>(seat, place, value);
@@ -86,13 +86,13 @@ impl<F: Shape, P: Within<GraphRule<F>>> Graph<F, P> {
         ensures others { seat.new ≡ after_word_step seat.old
             (P.lens.set seat.old.view.client (P.lens.get seat.new.view.client)) }
     {
-        // A borrow of a field shows the prover what the type keeps: that the words fit in memory.
+        // A borrow of a field gives the prover the invariant of the type: the words fit in memory.
         let _ = &self.board;
         let place = self.place(self.layout(), node, link);
         self.store::<Link>(seat, place, value);
     }
 
-    /// Links a live node to a free one, which is whole and leads to live nodes: it is live then
+    /// Links a live node to a free one, which is complete and leads to live nodes: it is then live
     /// (Linux's `rcu_assign_pointer`).
     pub fn publish(&self, seat: &mut GraphWatcher<F, P>, from: usize, link: usize, to: usize)
         requires writer { IsWriterOf self.now (watcher_part P.lens seat.old) }
@@ -111,7 +111,7 @@ impl<F: Shape, P: Within<GraphRule<F>>> Graph<F, P> {
         ensures others { seat.new ≡ after_word_step seat.old
             (P.lens.set seat.old.view.client (P.lens.get seat.new.view.client)) }
     {
-        // A borrow of a field shows the prover what the type keeps: that the words fit in memory.
+        // A borrow of a field gives the prover the invariant of the type: the words fit in memory.
         let _ = &self.board;
         let place = self.place(self.layout(), from, link);
         let value = to as u64 + 1;
@@ -119,7 +119,7 @@ impl<F: Shape, P: Within<GraphRule<F>>> Graph<F, P> {
     }
 
     /// Unlinks a live node to which no live one leads: sections that are on it may stay, and no new
-    /// one comes to it (what crossbeam-epoch's `defer_destroy` takes on trust).
+    /// one comes to it (which crossbeam-epoch's `defer_destroy` leaves to its caller).
     pub fn mark_unlinked(&self, seat: &mut GraphWatcher<F, P>, node: usize)
         requires writer { IsWriterOf self.now (watcher_part P.lens seat.old) }
         requires node { node < self.now.plan.nodes }
@@ -133,7 +133,7 @@ impl<F: Shape, P: Within<GraphRule<F>>> Graph<F, P> {
         ensures others { seat.new ≡ after_word_step seat.old
             (P.lens.set seat.old.view.client (P.lens.get seat.new.view.client)) }
     {
-        // A borrow of a field shows the prover what the type keeps: that the words fit in memory.
+        // A borrow of a field gives the prover the invariant of the type: the words fit in memory.
         let _ = &self.board;
         let place = self.place(self.layout(), node, 0);
         self.watch::<MarkUnlinked>(seat, place);
@@ -151,7 +151,7 @@ impl<F: Shape, P: Within<GraphRule<F>>> Graph<F, P> {
         ensures later { seat.old.view.seen ≤ result }
         ensures number { is_number_word result ≡ true }
     {
-        // A borrow of a field shows the prover what the type keeps: how large the graph is.
+        // A borrow of a field gives the prover the invariant of the type: the size of the graph.
         let _ = &self.board;
         self.look_at_number::<Reclaim>(seat)
     }

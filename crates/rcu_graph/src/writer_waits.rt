@@ -12,14 +12,13 @@ use rcu_seq::{Cookie, Fault, Tag};
 use std::sync::Wait;
 
 impl<F: Shape, P: Within<GraphRule<F>>> Writer<F, P> {
-    /// Looks at the number, and drives the engine, until a node is free, if none is. The caller's
+    /// Loads the number, and drives the engine, until a node is free, if none is. The caller's
     /// processor passes quiescent states meanwhile, unless it is offline or idle.
     ///
     /// No proof says that it returns: a section that stays open blocks it, and so does a processor
     /// that is neither idle nor offline and whose thread passes no quiescent state.
     ///
-    /// Faults: `Exhausted` (11) if the last number is reached, so that no node becomes free any
-    /// more.
+    /// Faults: `Exhausted` (11) if the last number is reached, so no further node becomes free.
     pub fn wait_until_free<const LEAF: u32, const FAN: u32, T: Drop>(
         &mut self,
         rt: &impl Wait,

@@ -1,4 +1,4 @@
--- What a map's writer may do.
+-- The steps that a map's writer may take.
 use Rattle.std.proofs.Common.{◌≡◌, ℕ, suc, ◌<◌, ◌∙◌, Option, Some, None, List, sym, subst, arith}
 use Rattle.std.proofs.Common.{refl}
 use Rattle.rcu_live.specs.Watcher.{Watching}

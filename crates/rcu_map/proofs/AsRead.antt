@@ -1,4 +1,4 @@
--- That the entry of a key is as it was read, or another one.
+-- The entry of a key is as it was read, or another one.
 use Rattle.std.proofs.Common.{◌≡◌, ◌∙◌, ℕ, List, ap, refl, sym}
 use Rattle.rcu_graph.specs.Absence.{key_at}
 use Rattle.rcu_graph.specs.Nodes.{node_at}
@@ -11,7 +11,7 @@ use Rattle.rcu_map.specs.Puts.{IsHolder}
 use Rattle.rcu_map.specs.Words.{as_words}
 use Rattle.rcu_map.proofs.Chains.{has_key, one_entry}
 
--- the entry of a node is as it was read, where it has the words
+-- the entry of a node is as it was read, if it has the words
 pub as_read : (buckets : ℕ) (A : List Node) (node : ℕ) (words : List ℕ) → IsEntry buckets A node
     → (node_at A node).words ≡ words → IsAsRead buckets A (key_at A node) words
 as_read buckets A node words entry is = record {

@@ -1,4 +1,4 @@
--- A section that goes on from a key passes over no key behind it that is linked all the while.
+-- A section that goes on from a key skips no key behind it that is linked throughout.
 use Rattle.std.proofs.Common.{◌≡◌, ◌⊎◌, ℕ, zero, suc, ◌*◌, ◌/◌, ◌%◌, ◌^◌, ◌<◌, ◌≤◌, List, [], ◌∷◌}
 use Rattle.std.proofs.Common.{◌++◌, Option, None, Some, ⊎_elim, sym, ap, ◌∙◌, subst, inl, inr}
 use Rattle.std.proofs.Common.{arith, refl}
@@ -19,7 +19,7 @@ use Rattle.rcu_map.specs.declared.cursor.Cursor.{Cursor}
 use Rattle.rcu_map.proofs.Listings.{IsMissed, Progress, before, listed, missed, on_way}
 use Rattle.rcu_map.proofs.Listings.{progress}
 
--- of the numbers of two keys and of their buckets: one lies behind the other
+-- for the numbers of two keys and of their buckets: one is behind the other
 abbrev LiesBehind : (a b key other : ℕ) → Type 0
 LiesBehind a b key other = (a < b) ⊎ ((b ≡ a) × (key < other))
 
@@ -49,7 +49,7 @@ not_both a b key other behind back =
     back)
     behind
 
--- each key lies behind 0
+-- each key is behind 0
 pub behind_0 : (buckets seed key : ℕ) → 0 < key → IsBehind buckets seed 0 key
 behind_0 buckets seed key up =
     let nothing : (0 * seed) % 2 ^ 64 ≡ 0 = omega arith in
@@ -59,7 +59,7 @@ behind_0 buckets seed key up =
     (λ (e : bucket_of buckets seed key ≡ 0). inr (e ∙ sym none, up))
     (λ (ne : bucket_of buckets seed key ≡ 0 → ⊥). inl (omega (arith, ne, none)))
 
--- of the hops of a list the latest one, or one before it
+-- the latest one of the hops of a list, or one before it
 latest_or : (last : Hop) (over : List Hop) (index : ℕ) (hop : Hop)
     → get_elem? (last ∷ over) index ≡ some hop
     → (last ≡ hop) ⊎ ((k : ℕ) × (get_elem? over k ≡ some hop))
@@ -78,7 +78,7 @@ module _ (buckets seed key stays : ℕ) (up : 0 < stays)
     early : start ≤ root
     early = no_later start root key stays behind
 
-    -- a hop that passed over no key behind the first one did not lead to the other
+    -- a hop that skipped no key behind the first one did not lead to the other
     not_up_to : IsUpTo buckets seed key stays → ⊥
     not_up_to up_to = ⊎_elim
         (λ (same : stays ≡ key).
@@ -105,7 +105,7 @@ module _ (buckets seed key stays : ℕ) (up : 0 < stays)
     not_listed : (hops : List Hop) → LedUpTo buckets seed key hops → IsListed stays hops → ⊥
     not_listed hops up_to l = not_led hops l.index l.hop l.node up_to l.there l.led l.has
 
-    -- so none is left only where the key was missed
+    -- so none is left only if the key was missed
     none_left : (over : List Hop) (at : Cursor) → LedUpTo buckets seed key over
         → GoOn buckets seed (at_root start) over at → at.bucket ≡ buckets
         → (IsMissed root stays over → ⊥) → ⊥
@@ -165,7 +165,7 @@ module _ (buckets seed key stays : ℕ) (up : 0 < stays)
 
 module _ {E : Type 0} (holds : List ℕ → Type 0) (decode : List ℕ → E) (key_of : E → ℕ)
     (tells : (words : List ℕ) → holds words → key_of (decode words) ≡ key_in words) where
-  -- what is so of the next words is so of the entry that they tell
+  -- a property of the next words is one of the entry that they decode to
   pub told_up_to : (buckets seed key stays : ℕ) (was now : Known)
       → ((words : Option (List ℕ)) → IsNextAfter holds as_words buckets seed key was words now
       → IsSomeAnd words (λ w. IsUpTo buckets seed stays (key_in w)))

@@ -77,7 +77,7 @@ module _ (holds : List ℕ → Type 0) (plan : Plan) (opened key writer last : �
       (on_chain holds plan.roots plan.seed plan.words plan.nodes opened key some wide up
       (nodes_in now.view.client.known) (is_map now run).map)
 
-  -- there a key is linked just where the map has it
+  -- there a key is linked exactly if the map has it
   links_it : (t : ℕ) (now : Watching Planned) (run : Run now) → Made t now run
       → HasKey plan.roots (nodes_in now.view.client.known) key
       → IsLinkedKey start key (nodes_at moments t)
@@ -97,7 +97,7 @@ module _ (holds : List ℕ → Type 0) (plan : Plan) (opened key writer last : �
       let b = ap (λ (k : Known). length (stored_in k)) is in
       omega (arith, a, b, few)
 
-  -- a call is one store, a look none
+  -- a call is one store, a load of the number none
   changed_once : (before now : Watching Planned) → IsByOneStore before now
       → length (stored_in now.view.client.known)
       ≤ suc (length (stored_in before.view.client.known))
@@ -112,7 +112,7 @@ module _ (holds : List ℕ → Type 0) (plan : Plan) (opened key writer last : �
       let e = ap (λ (k : Watching Planned). length (stored_in k.view.client.known)) is in
       omega (arith, e)
 
-  -- what the writer knew at a moment before the first call it knew at the moment 0
+  -- the writer's knowledge at a moment before the first call was its knowledge at the moment 0
   few_at_first : (t : ℕ) (now : Watching Planned) (m : IsMapOf holds plan now)
       → Made t now (begun now m) → stores_of (moments t) ≤ suc (stores_of (moments 0))
   few_at_first t now m made = one_store_more 0 t now now made.0 made.1 (omega arith)
@@ -147,7 +147,7 @@ module _ (holds : List ℕ → Type 0) (plan : Plan) (opened key writer last : �
         (links_it t now later then has))
         (cases_lt n s)
 
-  -- of each live node that was led elsewhere the chain led to it
+  -- the chain led to each live node that was led elsewhere
   pub run_on : (t : ℕ) (now : Watching Planned) (run : Run now) → Made t now run → t ≤ last
       → (n : ℕ) (low : n < last) → n < t → Moved n low
   run_on t now (begun _ m) made end = λ n low to.
@@ -188,8 +188,9 @@ module _ (holds : List ℕ → Type 0) (plan : Plan) (opened key writer last : �
       (looked_once before now number is) (has_at_end holds plan opened key before run has.0) has.1
       (run_linked_over s before run made.3 (omega (arith, from, end)) has.0)
 
-  -- what is linked at a moment was in the map before a call or after it, where between two moments
-  -- with at most one store what is linked is so at one of them, and between calls it is in the map
+  -- a key that is linked at a moment was in the map before a call or after it, if a key that is
+  -- linked between two moments with at most one store is so at one of them, and between calls it is
+  -- in the map
   module _ (Links Has : List Node → Type 0)
       (at_one : (s t : ℕ) → t ≤ last → stores_of (moments t) ≤ suc (stores_of (moments s))
       → (n : ℕ) → s ≤ n → n ≤ t → Links (nodes_at moments n)
@@ -236,7 +237,7 @@ module _ (holds : List ℕ → Type 0) (plan : Plan) (opened key writer last : �
         call_had s t before now run (looked before now number run opens is m) made.3 made from end
         (looked_once before now number is) (run_had s before run made.3 (omega (arith, from, end)))
 
-  -- so it is of a key, and of the words of an entry with the key
+  -- this holds for a key, and for the words of an entry with the key
   key_had : (t : ℕ) (now : Watching Planned) (run : Run now) → Made t now run → t ≤ last
       → (n : ℕ) → n ≤ t → IsLinkedKey start key (nodes_at moments n)
       → HadKey holds plan opened key now run
@@ -303,7 +304,7 @@ module _ (holds : List ℕ → Type 0) (plan : Plan) (opened key writer last : �
         entry_had words keyed last now run made (omega arith) (from + t) (omega (arith, low, early))
         links
 
--- what is so from this moment on
+-- a property from this moment on
 pub at_first : (P : Moment → Type 0) (moments : ℕ → Moment) (from : ℕ)
     → P (moments from) → P (since from moments 0)
 at_first P moments from p =

@@ -27,7 +27,7 @@ entry_bucket buckets seed key words up is =
     ∙ ap (λ (b : Bool). if b then slice_index words 1 else bucket_of buckets seed key)
     (no_root key up)
 
--- a share of so many is less
+-- a share of this number is less
 share : (x n : ℕ) → x < 2 ^ 64 → 0 < n → x * n < 2 ^ 64 * n
 share x n low some = grind (arith, low, some)
 

@@ -1,4 +1,4 @@
--- What holds of the chains of a map.
+-- Properties of the chains of a map.
 use Rattle.std.proofs.Common.{◌≡◌, ℕ, suc, ◌<◌, ◌≤◌, ⊎_elim, List, Option, Some}
 use Rattle.std.proofs.Common.{None, length, sym, ap, ◌∙◌, subst, arith}
 use Rattle.std.specs.Prelude.{MatchOption, slice_index}
@@ -23,7 +23,7 @@ bucket_at buckets seed nodes i = bucket_in buckets seed (node_at nodes i).words
 
 module _ (holds : List ℕ → Type 0) (buckets seed width count : ℕ) (A : List Node)
     (m : IsMap holds buckets seed width count A) where
-  -- where a live node leads
+  -- the target of a live node
   pub led : (i j : ℕ) → state_at A i ≡ Live → next_of A i ≡ suc j
       → (state_at A j ≡ Live) × GoesUp buckets seed (node_at A i).words (node_at A j).words
   led i j live leads =
@@ -54,7 +54,7 @@ module _ (holds : List ℕ → Type 0) (buckets seed width count : ℕ) (A : Lis
       let near : key_at A k ≤ key_at A j = subst (λ (n : ℕ). key_at A n ≤ key_at A j) is t.near in
       omega (arith, near, more)
 
-  -- one live node alone leads to a node
+  -- only one live node leads to a node
   pub one_way : (i j k : ℕ)
       → state_at A i ≡ Live → state_at A j ≡ Live → next_of A i ≡ suc k → next_of A j ≡ suc k
       → i ≡ j
@@ -119,7 +119,7 @@ module _ (holds : List ℕ → Type 0) (buckets seed width count : ℕ) (A : Lis
       })
       (a.is ∙ sym b.is)
 
-  -- where a key belongs
+  -- the place of a key
   module _ (key previous : ℕ) (some : 0 < key) where
     pub absent : IsPlace buckets seed key A previous None → HasKey buckets A key → ⊥
     absent place has =
@@ -156,14 +156,14 @@ module _ (holds : List ℕ → Type 0) (buckets seed width count : ℕ) (A : Lis
       let is = has.1.is in
       let up = has_key has.0 has.1.entry.live has.1.entry.behind in omega (arith, is, up)
 
-  -- whether there is an entry is told by the place of its key
+  -- the place of a key shows whether there is an entry
   pub told : (key previous : ℕ) (node : Option ℕ) → 0 < key → IsPlace buckets seed key A previous
       node
       → MatchOption node (HasKey buckets A key → ⊥) (λ n. IsNodeOf buckets A key n)
   told key previous None some place = absent key previous some place
   told key previous (Some node) some place = there key previous some node place
 
-  -- the root of a key's bucket is where its search begins
+  -- the search of a key begins at the root of its bucket
   pub begins : (key : ℕ)
       → 0 < buckets
       → 1 < width

@@ -1,5 +1,5 @@
--- A map's nodes after what no live node leads to was unlinked: those that stay are in order, and no
--- others are live.
+-- A map's nodes after every node without a link from a live one was unlinked: the remaining ones
+-- are in order, and no others are live.
 use Rattle.std.proofs.Common.{◌≡◌, ℕ, suc, ◌<◌, ◌≤◌, ◌⊎◌, inl, inr, ⊎_elim, Bool, true, false, ◌&&◌}
 use Rattle.std.proofs.Common.{List, length, refl, sym, ap, ◌∙◌, subst, arith}
 use Rattle.std.specs.Prelude.{slice_index}

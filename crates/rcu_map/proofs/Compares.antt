@@ -1,4 +1,4 @@
--- What comes of an update that is made if an entry is as it was read.
+-- The result of an update that is made if an entry is as it was read.
 use Rattle.std.proofs.Common.{◌≡◌, ◌∙◌, ◌<◌, ℕ, Bool, true, false, List, Some, None, Ok, Err, ap}
 use Rattle.std.proofs.Common.{arith, refl, sym}
 use Rattle.std.proofs.lemmas.Bool.{false≢true}
@@ -134,7 +134,7 @@ pub it_holds : (holds : List ℕ → Type 0) (buckets : ℕ) (A : List Node) (ke
 it_holds holds buckets A key true words h e = h
 it_holds holds buckets A key false words h e = absurd (false≢true e)
 
--- it is the one of the node that has its key
+-- it is the entry of the node that has its key
 pub same_entry : (holds : List ℕ → Type 0) (buckets seed width count : ℕ) (A : List Node)
     → IsMap holds buckets seed width count A → (key node : ℕ) (words : List ℕ)
     → IsNodeOf buckets A key node → IsHolder as_words holds key_in buckets A key words

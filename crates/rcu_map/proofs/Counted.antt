@@ -1,4 +1,4 @@
--- How many entries there are where the state of one node changes, and where none does.
+-- The number of entries if the state of one node changes, and if none does.
 use Rattle.std.proofs.Common.{◌≡◌, ◌≢◌, ℕ, zero, suc, ◌+◌, ◌-◌, ◌<◌, ◌≤◌, Bool, true, false, List}
 use Rattle.std.proofs.Common.{[], ◌∷◌, length, drop, refl, sym, ap, ◌∙◌, arith}
 use Rattle.std.proofs.lemmas.List.{get_or-drop, length-drop}
@@ -121,7 +121,7 @@ one_live (v ∷ nodes) (suc i) low live =
     let d = one_live nodes i (omega (arith, low)) live in
     omega (arith, a, d)
 
--- where there is an entry, there are some
+-- if there is an entry, the number is not 0
 pub some_entries : (buckets : ℕ) (nodes : List Node) (i : ℕ) → IsEntry buckets nodes i
     → 0 < entries_in buckets nodes
 some_entries buckets nodes i entry =

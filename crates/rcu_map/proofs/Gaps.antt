@@ -1,5 +1,5 @@
--- Chains after a node was put in, and after one was passed: they are in order, but for what they
--- lead past.
+-- Chains after a node was put in, and after one was skipped: they are in order, except for the
+-- nodes that they skip.
 use Rattle.std.proofs.Common.{◌≡◌, ◌≢◌, ℕ, suc, ◌<◌, ◌≤◌, ⊎_elim, Bool, true, false, List, length}
 use Rattle.std.proofs.Common.{Some, None, refl, sym, ap, ◌∙◌, subst, arith}
 use Rattle.std.specs.Prelude.{nat_eq, not}
@@ -37,7 +37,7 @@ other_but old i ne = go (nat_eq i old) refl
     go true e = absurd (ne (eqb-true i old e))
     go false e = refl
 
--- of these nodes those that stay are in order, as in a map of so many buckets
+-- of these nodes those that stay are in order, as in a map of this number of buckets
 pub record AreOrdered (buckets seed width : ℕ) (nodes : List Node) (stays : ℕ → Bool) : Type 0 where
   pub roots : (i : ℕ) → i < buckets → (node_at nodes i).words ≡ root_words width i
   pub linked : (i : ℕ) → state_at nodes i ≡ Live → length (node_at nodes i).links ≡ 1
@@ -88,7 +88,7 @@ pub record IsPassed (A S : List Node) (previous word : ℕ) : Type 0 where
 
 module _ (holds : List ℕ → Type 0) (buckets seed width count : ℕ) (A : List Node)
     (m : IsMap holds buckets seed width count A) where
-  -- where no node has the key
+  -- if no node has the key
   pub insertion_gap : (key previous : ℕ) → IsPlace buckets seed key A previous None
       → IsGap buckets seed A all previous key (next_of A previous)
   insertion_gap key previous place = record {
@@ -109,7 +109,7 @@ module _ (holds : List ℕ → Type 0) (buckets seed width count : ℕ) (A : Lis
         omega (arith, far, near);
   }
 
-  -- where an old node has the key, and is left out
+  -- if an old node has the key, and is left out
   module _ (key previous old : ℕ) (place : IsPlace buckets seed key A previous (Some old)) where
     pub old_led : (state_at A old ≡ Live) × (bucket_at buckets seed A previous ≡ bucket_at buckets
         seed A old)

@@ -1,5 +1,5 @@
--- Of the live nodes that stay each is a root, or is led to by another one, after a node was put in
--- and after one was passed.
+-- Each live node that stays is a root, or another one leads to it, after a node was put in and
+-- after one was skipped.
 use Rattle.std.proofs.Common.{◌≡◌, ◌≢◌, ℕ, suc, ◌<◌, ◌≤◌, ◌⊎◌, inl, inr, ⊎_elim, Bool, true, List}
 use Rattle.std.proofs.Common.{refl, sym, ap, ◌∙◌}
 use Rattle.std.proofs.lemmas.Bool.{cases_lt}
@@ -36,7 +36,7 @@ module _ (holds : List ℕ → Type 0) (buckets seed width count : ℕ) (A : Lis
   module _ (stays : ℕ → Bool) (previous word : ℕ)
       (passes : (i j : ℕ) → state_at A j ≡ Live → next_of A j ≡ suc i → stays i ≡ true
       → (word ≡ suc i) ⊎ ((j ≢ previous) × (stays j ≡ true))) where
-    -- where a node was put in
+    -- if a node was put in
     pub held_with : (S : List Node) (node : ℕ) (words : List ℕ)
         → IsPut A S previous node words word
         → state_at A node ≡ Free
@@ -66,7 +66,7 @@ module _ (holds : List ℕ → Type 0) (buckets seed width count : ℕ) (A : Lis
         (passes i r.0 r.1 r.2 kept))))
         (cases_lt i buckets)
 
-    -- where one was passed
+    -- if one was skipped
     pub held_past : (S : List Node)
         → IsPassed A S previous word → state_at A previous ≡ Live → stays previous ≡ true
         → AreHeld buckets S stays

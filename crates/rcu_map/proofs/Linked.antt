@@ -51,7 +51,7 @@ module _ (holds : List ℕ → Type 0) (buckets seed width count : ℕ) (A : Lis
       })
       (cases_lt (key_at A t.to) (key_at A j))
 
-  -- what the links of a live node lead to is live
+  -- a node to which the links of a live node lead is live
   live_all : (to from : ℕ) → state_at A from ≡ Live → Reaches A to from → state_at A to ≡ Live
   live_all to from live (arrived at is) = subst (λ (n : ℕ). state_at A n ≡ Live) is live
   live_all to from live (onwards at next leads further) =

@@ -1,4 +1,4 @@
--- What a wait for room comes to, and where entries are the same.
+-- The result of a wait for room, and cases in which entries are the same.
 use Rattle.std.proofs.Common.{◌≡◌, ℕ, ◌+◌, ◌-◌, ◌<◌, ◌≤◌, List}
 use Rattle.std.proofs.Common.{length, refl, ap, ◌∙◌, arith, Err, Ok, OnErr, OnOk, Result}
 use Rattle.rcu_live.specs.CpuSeat.{Seated}
@@ -27,7 +27,7 @@ key_kept buckets A B key same (node, one) =
     (same (node_at B node).words).0 (record { node = node; entry = one.entry; is = refl }) in
     (h.node, record { entry = h.entry; is = ap key_in h.is ∙ one.is })
 
--- what comes of a wait for a free node: no entry changed
+-- the result of a wait for a free node: no entry changed
 pub made_room : {C E : Type 0} (seat now : Seated C) (k m : Watching Planned)
     (r : Result (Unit {0}) E) → OnOk r (graph.HasMadeRoom seat now k m)
     → OnOk r (HasMadeRoom (buckets_in k) seat now k m)
@@ -42,7 +42,7 @@ gave_up seat now k m (Ok _) up = tt
 gave_up seat now k m (Err _) up =
     record { gave_up = up; entries = reclaimed_entries _ _ _ (reclaimed_nodes k m up.looked) }
 
--- an error of a wait is that the entry is one too many, just where it is
+-- an error of a wait is that the entry is one too many, exactly if it is
 pub why_full : {C : Type 0} (key : ℕ) (seat now : Seated C) (before : Watching Planned)
     (why : NotPut) (after : Watching Planned)
     → WaitedFor key seat now before (Err why) after
@@ -69,7 +69,7 @@ module _ (holds : List ℕ → Type 0) (buckets seed width count : ℕ) (A : Lis
       let few = m.few in
       let most = entries_and_roots buckets A roots_fit in omega (arith, few, most)
 
-  -- where each node is live, there are as many entries as nodes that are no roots
+  -- if each node is live, there are as many entries as nodes that are no roots
   pub as_many_as_nodes : AreAllLive A → entries_in buckets A + buckets ≡ count
   as_many_as_nodes all =
       many_behind buckets A roots_fit (λ i low. live_test (state_at A i) (all i low)) ∙ m.few

@@ -18,7 +18,8 @@ use Rattle.rcu_map.specs.Listing.{GoOn, at_root, left_from}
 use Rattle.rcu_map.specs.declared.cursor.Cursor.{Cursor}
 use Rattle.rcu_map.proofs.Stepping.{at_most, left_on, went_on, went_over}
 
--- a section that goes on from the root of a key's bucket, and came to no entry behind the key yet
+-- a section that goes on from the root of a key's bucket, and did not yet come to an entry behind
+-- the key
 pub record IsNearing (buckets seed key : ℕ) (was now : Known) (at : Cursor) : Type 0 where
   pub over : List Hop
   pub are : hops_in now ≡ over ++ hops_in was
@@ -83,7 +84,7 @@ module _ (holds : List ℕ → Type 0) (map : Object Plan) (old new : Seated Pla
       let w = went_on holds map old new mid at s (omega (arith, ne)) in
       left_on buckets mid at s.goes.inside small w.bucket w.up)
 
-  -- the bucket of an entry is the one where the section is then
+  -- the bucket of an entry is the one in which the section then is
   bucket_is : 0 < at.key → bucket_of buckets seed at.key ≡ at.bucket
   bucket_is keyed =
       let w = went_on holds map old new mid at s keyed in

@@ -17,7 +17,7 @@ roots_are_whole holds plan = record {
   fit = λ i low. root_whole holds plan.words i;
 }
 
--- what was opened was not refused
+-- an opened map was not refused
 pub opened_is_sized : {A E : Type 0} (value : A) (error : E) → Ok value ≡ Err error → ⊥
 opened_is_sized value error is = IfErr-at_err (λ _. ⊥) is tt
 
@@ -40,7 +40,7 @@ is_sized buckets width entries seed has = let s = has.graph in record {
   small = s.small;
 }
 
--- so many nodes that they can't be counted are too many
+-- nodes that cannot be counted are too many
 pub too_many : (buckets width entries : ℕ) → 2 ^ 64 ≤ buckets + entries + 1
     → HasSizes buckets width entries → ⊥
 too_many buckets width entries large has =

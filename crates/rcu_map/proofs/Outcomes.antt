@@ -1,4 +1,4 @@
--- What comes of putting an entry in: it was put in, it was not wanted, or no node was free.
+-- The result of putting an entry in: it was put in, it was not requested, or no node was free.
 use Rattle.std.proofs.Common.{◌≡◌, ◌<◌, ℕ, true, List, Option, Some, Result, Ok}
 use Rattle.std.proofs.Common.{Err, ap, refl, sym, subst}
 use Rattle.std.specs.Prelude.{MatchResult}
@@ -17,7 +17,7 @@ use Rattle.rcu_graph.specs.Puts.{HasPut, IsFull, put}
 use Rattle.rcu_map.proofs.Chains.{free_node}
 use Rattle.rcu_map.proofs.Replacements.{replaced, replaced_count, replaced_map}
 
--- an entry was put in the place of another one, or no node was free
+-- an entry replaced another one, or no node was free
 module _ (holds : List ℕ → Type 0) (before now : Watching Planned)
     (m : IsMap holds before.view.client.plan.roots before.view.client.plan.seed
     before.view.client.plan.words

@@ -161,7 +161,7 @@ module _ (holds : List ℕ → Type 0) (buckets seed width count : ℕ) where
     pub none_first : entries_in buckets nodes ≡ 0
     none_first = ap (λ (l : List Node). entries_in buckets l) e ∙ first_count few_first tended_first
 
--- a writer keeps its entries, where it looked at the number
+-- a writer keeps its entries, if it loaded the number
 module _ (holds : List ℕ → Type 0) (width : ℕ) (k m : Watching Planned)
     (planned : m.view.client.plan ≡ k.view.client.plan)
     (s : AreAsLive (nodes_in k.view.client.known) (nodes_in m.view.client.known))

@@ -1,4 +1,4 @@
--- What is left of a map after an entry was taken out.
+-- A map after an entry was removed.
 use Rattle.std.proofs.Common.{◌≡◌, ◌≢◌, ℕ, suc, ◌+◌, ◌<◌, ◌≤◌, ◌⊎◌, inl, inr, true, List, Option}
 use Rattle.std.proofs.Common.{Some, length, sym, ap, ◌∙◌, subst, arith}
 use mathlib.Core.Logic.{dite}
@@ -42,7 +42,7 @@ module _ (holds : List ℕ → Type 0) (buckets seed width count : ℕ) (A : Lis
         let up = (led holds buckets seed width count A m old old had.entry.live leads).1.up in
         omega (arith, up)
 
-    -- who led to a node that stays is led to it still
+    -- a node that led to one that stays still leads to it
     pub passes : (word : ℕ)
         → word ≡ next_of A old
         → (i j : ℕ) → state_at A j ≡ Live

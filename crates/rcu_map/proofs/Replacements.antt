@@ -1,4 +1,4 @@
--- What is left of a map after an entry was put in the place of another one.
+-- A map after an entry replaced another one.
 use Rattle.std.proofs.Common.{◌≡◌, ◌≢◌, ℕ, ◌<◌, inl, inr, ⊎_elim, true, List, Option, Some, length}
 use Rattle.std.proofs.Common.{refl, sym, ap, ◌∙◌, subst, arith}
 use mathlib.Core.Logic.{dite}
@@ -30,7 +30,7 @@ use Rattle.rcu_map.proofs.Collected.{AreHeld, is_unlinked, map_after, same_state
 
 module _ (holds : List ℕ → Type 0) (buckets seed width count : ℕ) (A : List Node)
     (m : IsMap holds buckets seed width count A) where
-  -- an entry is put in the place of an old one
+  -- an entry replaces an old one
   module _ (previous node old : ℕ) (words : List ℕ) (next : Option ℕ) (B : List Node)
       (some : 0 < key_in words) (place : IsPlace buckets seed (key_in words) A previous (Some old))
       (to : word_to next ≡ next_of A old) (inside : node < count) (free : state_at A node ≡ Free)

@@ -1,4 +1,4 @@
--- If a map has room for one entry more, and that a node is kept for replacements.
+-- The room of a map for one more entry, and the node that is kept for replacements.
 use Rattle.std.proofs.Common.{◌≡◌, ℕ, ◌+◌, ◌<◌, ◌≤◌, ⊎_elim, List, arith, subst}
 use Rattle.std.proofs.lemmas.Bool.{cases_lt}
 use Rattle.rcu_live.specs.CpuSeat.{Seated}
@@ -38,7 +38,7 @@ module _ (holds : List ℕ → Type 0) (width : ℕ) (k : Watching Planned) (len
       let p : Plan = k.view.client.plan in
       as_many_as_nodes holds p.roots p.seed p.words p.nodes nodes kept.map kept.some all
 
-  -- where there is an entry, some node is not live
+  -- if there is an entry, some node is not live
   pub not_all_live : (key : ℕ) → HasKey (buckets_in k) nodes key → AreAllLive nodes → ⊥
   not_all_live key has all =
       let many = all_used all in
@@ -47,14 +47,14 @@ module _ (holds : List ℕ → Type 0) (width : ℕ) (k : Watching Planned) (len
       let most = kept.most in
       omega (arith, many, some, count, most)
 
-  -- so it is where there is room
+  -- this holds if there is room
   pub not_all_used : (IsAtCapacity k → ⊥) → AreAllLive nodes → ⊥
   not_all_used not all =
       let many = all_used all in
       let room = has_room k not in
       omega (arith, many, room)
 
--- where an entry that finds no room is not one too many, no node is free
+-- if an entry that finds no room is not one too many, no node is free
 pub is_none_free : (k : Watching Planned) (key : ℕ) → (IsOneTooMany k key → ⊥) → LacksRoom k key
     → AreAllUsed (nodes_in k.view.client.known)
 is_none_free k key not lacks = ⊎_elim (λ (many : IsOneTooMany k key). absurd (not many))
@@ -88,7 +88,7 @@ module _ {C : Type 0} (seat now : Seated C) (before looked : Watching Planned) (
       (λ (none : IsNoneFreeYet (nodes_in looked.view.client.known)). room.made.free none.used)
       lacks
 
--- an entry that takes a free node has room, where its key is there or the map is not full
+-- an entry that takes a free node has room, if its key is there or the map is not full
 module _ (k : Watching Planned) (key node : ℕ)
     (free : IsFreeNode (nodes_in k.view.client.known) node) where
   one_is_free : IsNoneFreeYet (nodes_in k.view.client.known) → ⊥

@@ -7,7 +7,7 @@ use mathlib.Core.Logic.{dite}
 use native.Mathlib.Decide.{ℕ_discrete}
 use Rattle.rcu_map.specs.Keys.{IsWhole, key_in, root_words}
 
--- one word more was read
+-- one more word was read
 pub read_more : (read words : List ℕ) (at x : ℕ) → at < length read
     → ((j : ℕ) → j < at → slice_index read j ≡ slice_index words j) → x ≡ slice_index words at
     → (j : ℕ) → j < at + 1 → slice_index (set read at x) j ≡ slice_index words j

@@ -34,7 +34,7 @@ use Rattle.rcu_graph.proofs.Puts.{not_free}
 use Rattle.rcu_map.proofs.Linked.{is_linked, leads_on}
 use Rattle.rcu_graph.proofs.Puts.{target_there}
 
--- where each live node leads as it may, the chain of a bucket is one
+-- if each live node leads as it may, the chain of a bucket is one
 chained_by : (buckets seed width root : ℕ) (nodes : List Node)
     → AreLed (λ _ from to. GoesUp buckets seed from to) 1 nodes
     → state_at nodes root ≡ Live
@@ -286,7 +286,7 @@ put_is_there buckets words true before after put =
 put_is_there buckets words false before after put =
     has_it buckets words after ((put.entries words).1 (inr refl))
 
--- what is there throughout a run is there at its end
+-- a key that is there throughout a run is there at its end
 module _ (holds : List ℕ → Type 0) (plan : Plan) (opened key : ℕ) where
   pub has_at_end : (now : Watching Planned) (run : IsRun holds plan opened now)
       → HasKeyThroughout holds plan opened key now run
@@ -402,7 +402,7 @@ module _ (holds : List ℕ → Type 0) (plan : Plan) (opened key : ℕ) (some : 
   map_at_end now (changed before _ run by m) = m
   map_at_end now (looked before _ number run opens is m) = m
 
-  -- a run ends where its writer is
+  -- a run ends at its writer's state
   ends_at : (now : Watching Planned) (run : Run now)
       → nodes_at now run (last_at now run) ≡ nodes_in now.view.client.known
   ends_at now (begun _ m) = refl

@@ -206,7 +206,7 @@ module _ (holds : List ℕ → Type 0) (map : Object Plan) (old new : Seated Pla
   led_to : (to : ℕ) → s.hop.to ≡ to → at ≡ led_from start to (key_after s.hop)
   led_to to e = s.led ∙ ap (λ (n : ℕ). led_from start n (key_after s.hop)) e
 
-  -- it led nowhere where there is no key
+  -- it led nowhere if there is no key
   pub went_over : at.key ≡ 0 → (s.hop.to ≡ 0) × (at ≡ at_root (start.bucket + 1))
   went_over none = by s.hop.to refl
     where

@@ -1,4 +1,4 @@
--- The nodes as they are stored: after a node was put in, and after a link was led past one.
+-- The stored nodes: after a node was put in, and after a link was led past one.
 use Rattle.std.proofs.Common.{◌≡◌, ◌≢◌, ℕ, suc, ◌<◌, List, [], ◌∷◌, Option, length, map, refl, sym}
 use Rattle.std.proofs.Common.{ap, ◌∙◌, arith, length-set}
 use Rattle.std.specs.Prelude.{slice_index}
@@ -49,7 +49,7 @@ module _ (A : List Node) (previous : ℕ) (inside : previous < length A)
     at_other : (i : ℕ) → i ≢ node → i ≢ previous → node_at after i ≡ node_at A i
     at_other = elsewhere A previous inside node words next low apart
 
-    -- of all nodes but the new one stays what a link does not change
+    -- all nodes but the new one keep the parts that a link does not change
     stays : {X : Type 0} (part : Node → X)
         → part (linked_to 0 (suc node) (node_at A previous)) ≡ part (node_at A previous)
         → (i : ℕ) → i ≢ node

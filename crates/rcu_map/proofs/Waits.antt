@@ -1,4 +1,4 @@
--- What comes of putting an entry in by a call that waits for a free node.
+-- The result of putting an entry in by a call that waits for a free node.
 use Rattle.std.proofs.Common.{◌≡◌, ℕ, Bool, true, false, List, Option, Some, None, Result, Ok, Err}
 use Rattle.std.proofs.Common.{ap, refl, subst, ◌∙◌}
 use Rattle.std.specs.Prelude.{is_some}
@@ -59,7 +59,7 @@ module _ {C : Type 0} (buckets : ℕ) (words : List ℕ) (there : Bool) (seat : 
 
 module _ {E : Type 0} (decode : List ℕ → E) (valid : E → Type 0) (key_of : E → ℕ) (buckets : ℕ)
     (key : ℕ) where
-  -- where it is wanted, it is put in
+  -- if it is requested, it is put in
   pub wanted_is_put : (how : Put) (nodes : List Node) (old : Option E)
       → IsWanted how buckets nodes key → Holds decode valid key_of buckets nodes key old
       → is_put how (is_some old) ≡ true
@@ -73,7 +73,7 @@ module _ {E : Type 0} (decode : List ℕ → E) (valid : E → Type 0) (key_of :
   wanted_is_put Replace nodes (Some entry) wanted one = refl
   wanted_is_put Upsert nodes old wanted holds = refl
 
-  -- who has the key of the same entries
+  -- the holder of the key among the same entries
   pub same_holder : (before after : List Node) (old : Option E)
       → AreSameEntries buckets before after → Holds decode valid key_of buckets after key old
       → Holds decode valid key_of buckets before key old

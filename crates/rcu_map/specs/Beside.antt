@@ -16,7 +16,7 @@ abbrev pub since : ℕ → (ℕ → Moment) → ℕ → Moment
 since from moments t = moments (from + t)
 
 module _ (holds : List ℕ → Type 0) (plan : Plan) where
-  -- the rule of a map holds at each moment, and this seat keeps it
+  -- the rule of a map holds at each moment, and this seat is its writer's
   abbrev pub IsMapOver : (writer last : ℕ) → (ℕ → Moment) → Type 0
   IsMapOver = IsKeptOver (λ p. IsWhole holds p.words)
       (λ p _ from to. GoesUp p.roots p.seed from to) (λ p. root_words p.words) plan
@@ -28,8 +28,8 @@ module _ (holds : List ℕ → Type 0) (plan : Plan) where
 
   module _ (opened : Number) (moments : ℕ → Moment) where
     -- the calls of a run were made from the moment 0 to this one: between any two of them there is
-    -- a moment at which the writer knew what it does there. Before the first one, or where there is
-    -- none, it knew the same from the moment 0 on
+    -- a moment at which the writer had its knowledge of then. Before the first one, or if there is
+    -- none, its knowledge was the same from the moment 0 on
     abbrev pub AreMadeOver : ℕ → (now : Watching Planned) → IsRun holds plan opened now → Type 0
     AreMadeOver t now (begun _ map) =
         ((moments 0).writer ≡ now.view.client.known)
@@ -45,7 +45,7 @@ module _ (holds : List ℕ → Type 0) (plan : Plan) where
         × (s ≤ t)
         × AreMadeOver s before run
 
-  -- it was so of the nodes at the beginning of a run, or after one of its calls
+  -- the nodes had a property at the beginning of a run, or after one of its calls
   abbrev pub Had : (List Node → Type 0) → (opened : Number) (now : Watching Planned)
       → IsRun holds plan opened now → Type 0
   Had has opened now (begun _ map) = has (nodes_in now.view.client.known)
@@ -59,7 +59,7 @@ module _ (holds : List ℕ → Type 0) (plan : Plan) where
       → IsRun holds plan opened now → Type 0
   HadKey opened key = Had (λ nodes. HasKey plan.roots nodes key) opened
 
-  -- so was the entry of these words
+  -- the entry of these words was in the map then
   abbrev pub HadEntry : (opened : Number) (words : List ℕ) (now : Watching Planned)
       → IsRun holds plan opened now → Type 0
   HadEntry opened words = Had (λ nodes. HasEntry plan.roots nodes words) opened

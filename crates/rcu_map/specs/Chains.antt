@@ -13,15 +13,15 @@ use Rattle.rcu_graph.specs.declared.plan.Plan.{Plan}
 use Rattle.rcu_map.specs.Entries.{entries_in}
 use Rattle.rcu_map.specs.Keys.{GoesUp, IsWhole, bucket_in, multiplier_of, root_words}
 
--- how many buckets the map of a writer has, and by which number it multiplies its keys
+-- how many buckets the map of a writer has, and the number by which it multiplies its keys
 abbrev pub buckets_in : Watching Planned → ℕ
 buckets_in writer = writer.view.client.plan.roots
 
 abbrev pub seed_in : Watching Planned → ℕ
 seed_in writer = writer.view.client.plan.seed
 
--- the plan of a map of so many buckets, words an entry and entries, and of this seed: beside a node
--- for each of the buckets and of the entries it has one more, so that a full map can replace
+-- the plan of a map of this number of buckets, words for each entry, and entries, and of this seed:
+-- besides a node for each bucket and entry it has one more, so that a full map can replace
 abbrev pub plan_of_map : ℕ → ℕ → ℕ → ℕ → Plan
 plan_of_map buckets width entries seed =
     plan_of buckets 1 width (buckets + entries + 1) (multiplier_of seed)
@@ -30,7 +30,8 @@ plan_of_map buckets width entries seed =
 abbrev pub capacity : Plan → ℕ
 capacity plan = plan.nodes - plan.roots - 1
 
--- a map may have so many buckets, words an entry and entries: an entry has a key and a word more
+-- a map may have this number of buckets, words for each entry, and entries: an entry has a key and
+-- one more word
 pub record HasSizes (buckets width entries : ℕ) : Type 0 where
   pub some : 0 < buckets
   pub wide : 2 ≤ width
@@ -49,9 +50,9 @@ pub record LeadsTowards (nodes : List Node) (i j : ℕ) : Type 0 where
   pub leads : next_of nodes i ≡ suc to
   pub near : key_at nodes to ≤ key_at nodes j
 
--- so many nodes are those of a map of so many buckets. The live ones are tended, and have a link
--- each; the roots have their words. The live nodes of a bucket are one chain, in the order of their
--- keys: each leads to the one with the next greater key. No two have one key
+-- this number of nodes are those of a map of this number of buckets. The live ones are tended, and
+-- have a link each; the roots have their words. The live nodes of a bucket are one chain, in the
+-- order of their keys: each leads to the one with the next greater key. No two have one key
 pub record IsMap (holds : List ℕ → Type 0) (buckets seed width count : ℕ)
     (nodes : List Node) : Type 0 where
   pub few : length nodes ≡ count
@@ -64,8 +65,9 @@ pub record IsMap (holds : List ℕ → Type 0) (buckets seed width count : ℕ)
   pub apart : (i j : ℕ) → AreOfOneBucket buckets seed nodes i j → key_at nodes i ≡ key_at nodes j →
       i ≡ j
 
--- of this plan, whose roots are those of the buckets, the nodes are those of a map with so many
--- entries, which are no more than it may have, of two words or more: of so many, where that is no 0
+-- the nodes are those of a map of this plan, whose roots are those of the buckets, with this number
+-- of entries, which are no more than it may have, of two words or more: of exactly this number of
+-- words, if it is not 0
 pub record IsKept (holds : List ℕ → Type 0) (width : ℕ) (plan : Plan) (nodes : List Node)
     (len : ℕ) : Type 0 where
   pub some : 0 < plan.roots

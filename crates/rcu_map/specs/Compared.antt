@@ -1,4 +1,4 @@
--- What an update makes of an entry that is to be as it was read.
+-- The effect of an update of an entry that has to be as it was read.
 use Rattle.std.specs.Prelude.{◌≡◌, ℕ, true, List, Option, Some, None, Result, Ok, Err, IfOk, OnErr}
 use Rattle.std.specs.Prelude.{OnOk}
 use Rattle.rcu_live.specs.Watcher.{Watching}
@@ -20,20 +20,20 @@ pub record IsAsRead (buckets : ℕ) (nodes : List Node) (key : ℕ) (words : Lis
   pub has : HasEntry buckets nodes words
   pub is : key_in words ≡ key
 
--- the words of the entry that has the key, where there is one
+-- the words of the entry that has the key, if there is one
 abbrev pub words_found : Compared → List ℕ → Option (List ℕ)
 words_found Same words = Some words
 words_found Changed words = Some words
 words_found Gone words = None
 
--- the same of a call that may find no node free
+-- the same for a call that may find no node free
 abbrev pub compared : Result Compared Full → List ℕ → Result (Option (List ℕ)) Full
 compared (Ok found) words = Ok (words_found found words)
 compared (Err full) words = Err full
 
--- the writer was to put the entry of these words in the place of the one of this key, if that is as
--- it was read: it returned the one that had the key, and replaced it where it was as it was read;
--- or it was, and no node was free yet
+-- the writer had to replace the entry of this key by one of these words, if that is as it was read:
+-- it returned the entry that had the key, and replaced it if it was as it was read; or it was, and
+-- no node was free yet
 pub record HasComparedToReplace {E : Type 0} (decode : List ℕ → E) (valid : E → Type 0)
     (key_of : E → ℕ) (key : ℕ) (read words : List ℕ) (before : Watching Planned)
     (result : Result (Option E) Full) (after : Watching Planned) : Type 0
@@ -56,8 +56,8 @@ pub record HasComparedToReplace {E : Type 0} (decode : List ℕ → E) (valid : 
     pub full : OnErr result (IsNoneFreeYet (nodes_in before.view.client.known))
     pub unchanged : OnErr result (after ≡ before)
 
--- the writer was to take the entry of this key out, if it is as it was read: it returned the one
--- that had the key, and took it out where it was as it was read
+-- the writer had to remove the entry of this key, if it is as it was read: it returned the entry
+-- that had the key, and removed it if it was as it was read
 pub record HasComparedToRemove {E : Type 0} (decode : List ℕ → E) (valid : E → Type 0)
     (key_of : E → ℕ) (key : ℕ) (read : List ℕ) (before : Watching Planned)
     (old : Option E) (after : Watching Planned) : Type 0

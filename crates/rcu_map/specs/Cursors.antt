@@ -22,8 +22,8 @@ abbrev pub latest_words : List Hop → List ℕ
 latest_words [] = []
 latest_words (hop ∷ before) = hop.words
 
--- of so many nodes and buckets: the section is on the cursor's node, the root of its bucket where
--- there is no key, else the node of this key and bucket to which its latest hop led
+-- for this number of nodes and buckets: the section is on the cursor's node, the root of its bucket
+-- if there is no key, else the node of this key and bucket to which its latest hop led
 pub record IsOnCursor (count buckets seed : ℕ) (known : Known) (at : Cursor) : Type 0 where
   pub inside : at.node < count
   pub root : at.key ≡ 0 → at.node ≡ at.bucket
@@ -50,7 +50,7 @@ pub record IsOnEntry (holds : List ℕ → Type 0) (map : Object Plan) (seat : S
   pub keyed : 0 < key
   pub is : key_in words ≡ key
 
--- an open section went on from a cursor by one hop, and is where that led
+-- an open section went on from a cursor by one hop, and is at the target
 pub record HasStepped (holds : List ℕ → Type 0) (map : Object Plan) (old : Seated Planned)
     (start : Cursor) (new : Seated Planned) (at : Cursor) : Type 0 where
   pub same : new ≡ after_word_step old new.view.client
@@ -61,7 +61,7 @@ pub record HasStepped (holds : List ℕ → Type 0) (map : Object Plan) (old : S
   pub may : MayGoOn map new at
   pub whole : 0 < at.key → IsWhole holds map.plan.words hop.words
 
--- an open section went on from a cursor to the next entry, or to the end where there is none
+-- an open section went on from a cursor to the next entry, or to the end if there is none
 pub record HasListed {E : Type 0} (holds : List ℕ → Type 0) (decode : List ℕ → E)
     (valid : E → Type 0) (key_of : E → ℕ) (map : Object Plan) (old : Seated Planned)
     (start : Cursor) (new : Seated Planned) (at : Cursor) (result : Option E) : Type 0 where

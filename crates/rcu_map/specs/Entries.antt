@@ -1,4 +1,4 @@
--- The entries of a map, as its nodes have them, and what a writer's calls make of them.
+-- The entries of a map, as its nodes have them, and the changes by a writer's calls.
 use Rattle.std.specs.Prelude.{◌≡◌, ◌≢◌, ◌⊎◌, ◌↔◌, ◌≤◌, ℕ, List, drop}
 use Rattle.rcu_graph.specs.Absence.{key_at}
 use Rattle.rcu_graph.specs.Nodes.{node_at, state_at}
@@ -37,8 +37,8 @@ pub record IsSame (before after : List Node) (i : ℕ) : Type 0 where
   pub state : state_at after i ≡ state_at before i
   pub words : (node_at after i).words ≡ (node_at before i).words
 
--- the entry of these words was put in: beside the entries that were there it is in the map, and
--- nothing else. It has a node that was free, and the other nodes are the same
+-- the entry of these words was inserted: the map has it, the entries that were there, and nothing
+-- else. It has a node that was free, and the other nodes are the same
 pub record IsInserted (buckets : ℕ) (before : List Node) (words : List ℕ)
     (after : List Node) : Type 0 where
   pub entries : (w : List ℕ) → HasEntry buckets after w ↔ (HasEntry buckets before w ⊎ (w ≡ words))
@@ -48,9 +48,9 @@ pub record IsInserted (buckets : ℕ) (before : List Node) (words : List ℕ)
   pub is : (node_at after node).words ≡ words
   pub others : (i : ℕ) → i ≢ node → IsSame before after i
 
--- the entry of these words was put in the place of the one that had its key: beside those of other
--- keys it is in the map, and nothing else. It has a node that was free, the node of the old one was
--- unlinked, and the other nodes are the same
+-- the entry of these words replaced the one that had its key: the map has it, those of other keys,
+-- and nothing else. It has a node that was free, the node of the old one was unlinked, and the
+-- other nodes are the same
 pub record IsReplaced (buckets : ℕ) (before : List Node) (words : List ℕ)
     (after : List Node) : Type 0 where
   pub entries : (w : List ℕ)
@@ -66,8 +66,8 @@ pub record IsReplaced (buckets : ℕ) (before : List Node) (words : List ℕ)
   pub stays : (node_at after old).words ≡ (node_at before old).words
   pub others : (i : ℕ) → i ≢ node → i ≢ old → IsSame before after i
 
--- the entry of this key was taken out: those of other keys are in the map, and nothing else. Its
--- node was unlinked, and the other nodes are the same
+-- the entry of this key was removed: the map has those of other keys, and nothing else. Its node
+-- was unlinked, and the other nodes are the same
 pub record IsRemoved (buckets : ℕ) (before : List Node) (key : ℕ) (after : List Node) : Type 0 where
   pub entries : (w : List ℕ)
       → HasEntry buckets after w ↔ (HasEntry buckets before w × (key_in w ≢ key))
@@ -82,7 +82,7 @@ abbrev pub AreSameEntries : ℕ → List Node → List Node → Type 0
 AreSameEntries buckets before after =
     (w : List ℕ) → HasEntry buckets after w ↔ HasEntry buckets before w
 
--- the map has an entry of this key, whose words tell this one
+-- the map has an entry of this key, whose words decode to this one
 pub record IsEntryOf {E : Type 0} (decode : List ℕ → E) (buckets : ℕ) (nodes : List Node) (key : ℕ)
     (entry : E) : Type 0 where
   pub words : List ℕ

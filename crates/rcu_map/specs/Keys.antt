@@ -11,7 +11,7 @@ key_in words = slice_index words 0
 abbrev pub multiplier_of : ℕ → ℕ
 multiplier_of seed = (11400714819323198485 + (seed * 2) % 2 ^ 64) % 2 ^ 64
 
--- the bucket of a key, of so many: the key times the map's number, as a share of 2^64
+-- the bucket of a key, out of this number: the key times the map's number, as a share of 2^64
 abbrev pub bucket_of : ℕ → ℕ → ℕ → ℕ
 bucket_of buckets seed key = (key * seed) % 2 ^ 64 * buckets / 2 ^ 64
 
@@ -29,7 +29,7 @@ pub record GoesUp (buckets seed : ℕ) (from to : List ℕ) : Type 0 where
   pub up : key_in from < key_in to
   pub same : bucket_in buckets seed from ≡ bucket_in buckets seed to
 
--- the words are so many, and those of an entry where they have a key
+-- there are this many words, and they are an entry's if they have a key
 pub record IsWhole (holds : List ℕ → Type 0) (width : ℕ) (words : List ℕ) : Type 0 where
   pub sized : length words ≡ width
   pub entry : 0 < key_in words → holds words

@@ -1,4 +1,4 @@
--- What a clause sees of an iterator over the entries of a map.
+-- An iterator over the entries of a map, as contracts see it.
 use Rattle.std.specs.Prelude.{◌≡◌, ℕ, List, Option, IfSome, MatchOption}
 use Rattle.std.specs.Borrow.{GName}
 use Rattle.rcu_live.specs.Board.{Object}
@@ -18,8 +18,8 @@ use Rattle.rcu_map.specs.declared.entries.Entries.{Entries}
 use Rattle.rcu_map.specs.declared.entry.Entry as entry
 use Rattle.rcu_map.specs.declared.shape.MapShape.{MapShape}
 
--- the map, the seat whose section reads it, which seat is borrowed (a name that tells one borrowed
--- seat from another), and where it stands
+-- the map, the seat whose section reads it, which seat is borrowed (a name that distinguishes
+-- borrowed seats), and its cursor
 pub record Listing (D : Type 0) : Type 0 where
   pub map : Object Plan
   pub seat : Seated D
@@ -33,7 +33,7 @@ abbrev pub listing : {E : Type 0} {width : ℕ} {P W A D : Type 0} {entry : entr
 listing s = record { map = s.map.now; seat = s.seat.now; name = s.seat.ghost_name; at = s.at }
 
 module _ {D : Type 0} (lens : Lens D Planned) where
-  -- after hops to a cursor, by which the section knows this of the map
+  -- after hops to a cursor, which left the section this knowledge about the map
   abbrev pub after_hops : Listing D → Known → Cursor → Listing D
   after_hops s known at = record s {
     seat = after_word_step s.seat
@@ -41,12 +41,12 @@ module _ {D : Type 0} (lens : Lens D Planned) where
     at = at;
   }
 
-  -- what its section knows of the map
+  -- the knowledge of its section about the map
   abbrev pub known_in : Listing D → Known
   known_in s = (lens.get s.seat.view.client).known
 
-  -- a call went on to the next entry, of which the user's fact holds, or to the end where it
-  -- returned none. Nothing changes but what the section knows and where it stands
+  -- a call went on to the next entry, for which the user's fact holds, or to the end if it returned
+  -- none. Nothing changes but the section's knowledge and the cursor
   pub record Listed {E : Type 0} (holds : List ℕ → Type 0) (decode : List ℕ → E)
       (valid : E → Type 0) (key_of : E → ℕ) (old : Listing D) (result : Option E)
       (new : Listing D) : Type 0 where

@@ -13,18 +13,18 @@ use Rattle.rcu_map.specs.declared.cursor.Cursor.{Cursor}
 abbrev pub at_root : ℕ → Cursor
 at_root bucket = record { bucket = bucket; node = bucket; key = 0 }
 
--- where a link leads from a cursor: to the node whose key is this, or, where it leads nowhere, to
--- the next bucket
+-- the cursor after a link: on the node with this key, or, if the link leads nowhere, on the next
+-- bucket
 abbrev pub led_from : Cursor → ℕ → ℕ → Cursor
 led_from at zero key = at_root (at.bucket + 1)
 led_from at (suc node) key = record { bucket = at.bucket; node = node; key = key }
 
--- where a hop leads from a cursor
+-- the cursor after a hop
 abbrev pub cursor_after : Cursor → Hop → Cursor
 cursor_after at hop = led_from at hop.to (key_after hop)
 
--- a hop goes on from a cursor in one of so many buckets: along the link 0 of its node, which led
--- nowhere, or to a node with a greater key of the same bucket
+-- a hop goes on from a cursor in one of this number of buckets: along the link 0 of its node, which
+-- led nowhere, or to a node with a greater key of the same bucket
 pub record GoesOn (buckets seed : ℕ) (at : Cursor) (hop : Hop) : Type 0 where
   pub inside : at.bucket < buckets
   pub here : hop.from ≡ at.node
@@ -32,8 +32,8 @@ pub record GoesOn (buckets seed : ℕ) (at : Cursor) (hop : Hop) : Type 0 where
   pub up : (node : ℕ) → hop.to ≡ suc node → at.key < key_after hop
   pub same : (node : ℕ) → hop.to ≡ suc node → bucket_of buckets seed (key_after hop) ≡ at.bucket
 
--- these hops, the latest one first, go on from one cursor to another, each from where the one
--- before it led
+-- these hops, the latest one first, go on from one cursor to another, each from the target of the
+-- one before
 abbrev pub GoOn : ℕ → ℕ → Cursor → List Hop → Cursor → Type 0
 GoOn buckets seed start [] at = at ≡ start
 GoOn buckets seed start (hop ∷ before) at =
@@ -42,7 +42,7 @@ GoOn buckets seed start (hop ∷ before) at =
     × GoesOn buckets seed last hop
     × (at ≡ cursor_after last hop)
 
--- each of these hops led nowhere: they passed over no entry
+-- each of these hops led nowhere: they skipped no entry
 abbrev pub LedNowhere : List Hop → Type 0
 LedNowhere [] = Unit {0}
 LedNowhere (hop ∷ before) = (hop.to ≡ 0) × LedNowhere before
@@ -62,8 +62,8 @@ pub record IsNextEntry {E : Type 0} (holds : List ℕ → Type 0) (decode : List
   pub whole : holds last.words
   pub told : entry ≡ decode last.words
 
--- a section went on from a cursor and came to no entry any more: its hops are those before, and
--- some to the ends of all chains from there on, up to the last bucket's
+-- a section went on from a cursor and came to no further entry: its hops are those before, and some
+-- to the ends of all chains from there on, up to the last bucket's
 pub record IsAtEnd (buckets seed : ℕ) (was : Known) (start : Cursor) (now : Known)
     (at : Cursor) : Type 0 where
   pub over : List Hop
@@ -72,8 +72,8 @@ pub record IsAtEnd (buckets seed : ℕ) (was : Known) (start : Cursor) (now : Kn
   pub goes : GoOn buckets seed start over at
   pub ended : at.bucket ≡ buckets
 
--- more than the entries to which a section may come from a cursor: so many buckets, each with fewer
--- than 2^64 keys
+-- more than the entries to which a section may come from a cursor: this number of buckets, each
+-- with fewer than 2^64 keys
 abbrev pub left_from : ℕ → Cursor → ℕ
 left_from buckets at = (buckets - at.bucket) * 2 ^ 64 - at.key
 

@@ -4,13 +4,13 @@ use Rattle.rcu_graph.specs.declared.known.Known.{Known}
 use Rattle.rcu_map.specs.Listing.{IsNextEntry}
 use Rattle.rcu_map.specs.declared.cursor.Cursor.{Cursor}
 
--- what a call that returned an entry left: what the section knows of the map, and where the
--- iterator stands, with the key of that entry
+-- the state after a call that returned an entry: the section's knowledge about the map, and the
+-- iterator's cursor, with the key of that entry
 pub record Nexted : Type 0 where
   pub known : Known
   pub at : Cursor
 
--- what these calls left of this
+-- the state after these calls
 abbrev pub after_nexts : Nexted → List Nexted → Nexted
 after_nexts first [] = first
 after_nexts first (call ∷ earlier) = call

@@ -1,4 +1,5 @@
--- What a map's writer makes of an entry that it is to put in, and of a key that it is to take out.
+-- The effect of a map's writer on an entry that it has to put in, and on a key that it has to
+-- remove.
 use Rattle.std.specs.Prelude.{◌≡◌, ℕ, Bool, true, false, List, Option, Some, None, Result, IfOk}
 use Rattle.std.specs.Prelude.{IfSome, OnErr, is_some}
 use Rattle.rcu_live.specs.Watcher.{Watching}
@@ -17,20 +18,20 @@ use Rattle.rcu_map.specs.Room.{LacksRoom}
 use Rattle.rcu_map.specs.declared.put.Put.{Put}
 use Rattle.rcu_map.specs.declared.put.Put.TheVariants.{Insert, Replace, Upsert}
 
--- whether an entry is put in, where one has its key already or none has
+-- an entry is put in, if one has its key already or if none has
 abbrev pub is_put : Put → Bool → Bool
 is_put Insert true = false
 is_put Insert false = true
 is_put Replace there = there
 is_put Upsert there = true
 
--- the same of the entries of these nodes
+-- the same for the entries of these nodes
 abbrev pub IsWanted : Put → ℕ → List Node → ℕ → Type 0
 IsWanted Insert buckets nodes key = ¬ HasKey buckets nodes key
 IsWanted Replace buckets nodes key = HasKey buckets nodes key
 IsWanted Upsert buckets nodes key = Unit {0}
 
--- the entry that has this key, of which the user's fact holds
+-- the entry that has this key, for which the user's fact holds
 pub record IsHolder {E : Type 0} (decode : List ℕ → E) (valid : E → Type 0) (key_of : E → ℕ)
     (buckets : ℕ) (nodes : List Node) (key : ℕ) (entry : E) : Type 0 where
   pub is : IsEntryOf decode buckets nodes key entry
@@ -44,12 +45,12 @@ Holds decode valid key_of buckets nodes key None = ¬ HasKey buckets nodes key
 Holds decode valid key_of buckets nodes key (Some entry) =
     IsHolder decode valid key_of buckets nodes key entry
 
--- if there is one, it is an entry of this key, of which the user's fact holds
+-- if there is one, it is an entry of this key, for which the user's fact holds
 abbrev pub IsOfKey : {E : Type 0} → (E → Type 0) → (E → ℕ) → ℕ → Option E → Type 0
 IsOfKey valid key_of key old = IfSome old (λ entry. (key_of entry ≡ key) × valid entry)
 
--- the writer changed the nodes by one store, after which each chain goes up, and unlinked what no
--- live node leads to any more. So a section sees the entries as they were, or as they are
+-- the writer changed the nodes by one store, after which each chain goes up, and unlinked every
+-- node to which no live node leads. So a section sees the entries as they were, or as they are
 pub record IsByOneStore (before after : Watching Planned) : Type 0 where
   pub stored : List Node
   pub one : IsOneStore (nodes_in before.view.client.known) stored
@@ -63,20 +64,21 @@ pub record HasChanged (change : List Node → List Node → Type 0)
   pub by : IsByOneStore before after
   pub nodes : change (nodes_in before.view.client.known) (nodes_in after.view.client.known)
 
--- the entry of these words is in the map: in the place of the one that had its key, or beside the
--- others where none had it
+-- the entry of these words is in the map: it replaced the one that had its key, or was added if
+-- none had it
 abbrev pub IsPutIn : ℕ → List ℕ → Bool → List Node → List Node → Type 0
 IsPutIn buckets words true before after = IsReplaced buckets before words after
 IsPutIn buckets words false before after = IsInserted buckets before words after
 
--- the writer put the entry of these words in, one of its key being there or none; or it did nothing
+-- the writer put the entry of these words in, with an entry of its key or without; or it did
+-- nothing
 abbrev pub HasPutIn : ℕ → List ℕ → Bool → Bool → Watching Planned → Watching Planned → Type 0
 HasPutIn buckets words there true before after =
     HasChanged (IsPutIn buckets words there) before after
 HasPutIn buckets words there false before after = after ≡ before
 
--- the writer was to put an entry of this key and these words in: it returned the one that had the
--- key, and put the new one in where that was wanted; or that was wanted, and there was no room
+-- the writer had to put in an entry of this key and these words: it returned the entry that had the
+-- key, and put the new one in if that was requested; or it was requested, and there was no room
 pub record HasAnswered {E : Type 0} (decode : List ℕ → E) (valid : E → Type 0) (key_of : E → ℕ)
     (how : Put) (key : ℕ) (words : List ℕ) (before : Watching Planned)
     (result : Result (Option E) Full) (after : Watching Planned) : Type 0

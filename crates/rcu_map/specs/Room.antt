@@ -1,4 +1,4 @@
--- If a map has room for an entry.
+-- The room of a map for an entry.
 use Rattle.std.specs.Prelude.{◌≡◌, ℕ, ◌≤◌, ◌<◌, ◌⊎◌, List, length}
 use Rattle.rcu_live.specs.Watcher.{Watching}
 use Rattle.rcu_graph.specs.Nodes.{nodes_in, state_at}
@@ -33,7 +33,7 @@ pub record IsNoneFreeYet (nodes : List Node) : Type 0 where
   pub used : AreAllUsed nodes
   pub waits : ¬ AreAllLive nodes
 
--- there is no room for an entry of this key: it is one too many, or no node is free yet
+-- the map has no room for an entry of this key: it is one too many, or no node is free yet
 abbrev pub LacksRoom : Watching Planned → ℕ → Type 0
 LacksRoom writer key =
     IsOneTooMany writer key ⊎ IsNoneFreeYet (nodes_in writer.view.client.known)

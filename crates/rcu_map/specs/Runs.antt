@@ -1,4 +1,4 @@
--- What a section sees of its writer's calls, where it began at this number.
+-- The writer's calls as a section that began at this number sees them.
 use Rattle.std.specs.Prelude.{◌≡◌, ℕ, zero, suc, ◌+◌, Bool, true, List, [], ◌∷◌, map, nat_eq}
 use Rattle.rcu_seq.specs.Numbers.{Number}
 use Rattle.rcu_live.specs.Numbers.{is_open_at}
@@ -16,7 +16,7 @@ use Rattle.rcu_map.specs.Keys.{bucket_in}
 use Rattle.rcu_map.specs.Puts.{IsByOneStore}
 use Rattle.rcu_map.specs.Splices.{IsOneStore, by_passing, by_put}
 
--- whether a node of these words belongs to this bucket
+-- a node of these words belongs to this bucket
 abbrev pub is_of : ℕ → ℕ → ℕ → List ℕ → Bool
 is_of buckets seed bucket words = nat_eq (bucket_in buckets seed words) bucket
 
@@ -36,12 +36,12 @@ moments_in before after by (suc zero) =
 moments_in before after by (suc (suc zero)) = by.stored
 moments_in before after by (suc (suc (suc t))) = nodes_in after.view.client.known
 
--- the nodes before a look at the number, and after it
+-- the nodes before a load of the number, and after it
 abbrev pub around : Watching Planned → Watching Planned → ℕ → List Node
 around before after zero = nodes_in before.view.client.known
 around before after (suc t) = nodes_in after.view.client.known
 
--- the nodes at so many moments, and at those from then on
+-- the nodes at this number of moments, and at those from then on
 abbrev pub then_to : ℕ → (ℕ → List Node) → (ℕ → List Node) → ℕ → List Node
 then_to zero first later t = later t
 then_to (suc last) first later zero = first zero
@@ -56,7 +56,7 @@ pub record IsMapOf (holds : List ℕ → Type 0) (plan : Plan) (writer : Watchin
 
 module _ (holds : List ℕ → Type 0) (plan : Plan) (opened : Number) where
   -- since the section began the writer has come to this state by calls: each changed the map by one
-  -- store, or looked at a number at which the section may be open
+  -- store, or loaded a number at which the section may be open
   pub data IsRun : Watching Planned → Type 0 where
     begun : (now : Watching Planned) → IsMapOf holds plan now → IsRun now
     changed : (before now : Watching Planned) → IsRun before → IsByOneStore before now

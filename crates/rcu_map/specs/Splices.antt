@@ -1,4 +1,4 @@
--- Where a key belongs in a chain, and what it takes to take a node out of one and what that leaves.
+-- The place of a key in a chain, the conditions for taking a node out of one, and the effect.
 use Rattle.std.specs.Prelude.{◌≡◌, ◌<◌, ℕ, suc, List, Option, Some, None, length}
 use Rattle.rcu_live.specs.Board.{Object}
 use Rattle.rcu_live.specs.Watcher.{Watching}
@@ -31,7 +31,7 @@ pub record IsPlace (buckets seed key : ℕ) (nodes : List Node) (previous : ℕ)
   pub less : key_at nodes previous < key
   pub leads : LeadsToKey key nodes previous node
 
--- the seat may keep the graph's nodes, which are as at first
+-- the seat may become the writer of the graph's nodes, which are as at first
 pub record CanKeep (fits : List ℕ → Type 0) (first : ℕ → List ℕ) (graph : Object Plan)
     (seat : Watching Planned) : Type 0 where
   pub one : graph.plan.links ≡ 1
@@ -40,7 +40,7 @@ pub record CanKeep (fits : List ℕ → Type 0) (first : ℕ → List ℕ) (grap
       seat.view.client.known
   pub whole : AreWhole fits first graph.plan
 
--- by one store the nodes became these: a free node, which was filled before, was put behind a live
+-- the nodes became these by one store: a free node, which was filled before, was put behind a live
 -- one; or a live one was led elsewhere
 pub data IsOneStore (before stored : List Node) : Type 0 where
   by_put : (previous node : ℕ) (words : List ℕ) (next : Option ℕ)
@@ -50,7 +50,7 @@ pub data IsOneStore (before stored : List Node) : Type 0 where
       → state_at before previous ≡ Live → stored ≡ relinked before previous 0 next
       → IsOneStore before stored
 
--- the writer may lead the one node to where the other one leads
+-- the writer may lead one node to the target of the other one
 pub record CanPass (joins : ℕ → List ℕ → List ℕ → Type 0) (writer : Watching Planned)
     (previous old : ℕ) : Type 0 where
   pub one : writer.view.client.plan.links ≡ 1
@@ -60,8 +60,8 @@ pub record CanPass (joins : ℕ → List ℕ → List ℕ → Type 0) (writer : 
   pub target : IsTarget (joins 0) (node_at (nodes_in writer.view.client.known) previous).words
       (nodes_in writer.view.client.known) (next_of (nodes_in writer.view.client.known) old)
 
--- the previous node was led to where the old one leads, by one store, and what no live node leads
--- to any more was unlinked
+-- the previous node was led to the target of the old one, by one store, and every node to which no
+-- live node leads was unlinked
 pub record HasPassed (fits : List ℕ → Type 0) (joins : ℕ → List ℕ → List ℕ → Type 0)
     (before now : Watching Planned) (previous old : ℕ) : Type 0 where
   pub next : Option ℕ
@@ -76,7 +76,7 @@ pub record HasPassed (fits : List ℕ → Type 0) (joins : ℕ → List ℕ → 
       (relinked (nodes_in before.view.client.known) previous 0 next)
       (nodes_in now.view.client.known)
 
--- the writer has the graph's nodes as its seat had them
+-- the writer has the nodes of the graph as its seat had them
 pub record HasKept (fits : List ℕ → Type 0) (joins : ℕ → List ℕ → List ℕ → Type 0)
     (graph : Object Plan) (seat writer : Watching Planned) : Type 0 where
   pub same : writer ≡ seat

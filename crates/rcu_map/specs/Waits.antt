@@ -1,4 +1,4 @@
--- What a call that waits for a free node leaves.
+-- The effect of a call that waits for a free node.
 use Rattle.std.specs.Prelude.{◌≡◌, ℕ, Bool, true, false, List, Err, Ok, Result}
 use Rattle.rcu_seq.specs.declared.fault.Fault.TheVariants.{Exhausted}
 use Rattle.rcu_live.specs.CpuSeat.{Seated}
@@ -31,7 +31,7 @@ pub record HasGivenUp {C : Type 0} (buckets : ℕ) (seat now : Seated C)
   pub entries : AreSameEntries buckets (nodes_in before.view.client.known)
       (nodes_in after.view.client.known)
 
--- what a wait for room for an entry of this key comes to, outside of sections: the entry is one too
+-- the result of a wait for room for an entry of this key, outside of sections: the entry is one too
 -- many, and nothing happened; or it is not, and then a node is free, or the wait was given up
 abbrev pub WaitedFor : {C : Type 0} → ℕ → Seated C → Seated C → Watching Planned
     → Result (Unit {0}) NotPut → Watching Planned → Type 0
@@ -51,8 +51,8 @@ pub record HasChangedLater {C : Type 0} (change : List Node → List Node → Ty
   pub waited : HasMadeRoom buckets seat now before looked
   pub changed : HasChanged change looked after
 
--- the writer of a caller with this seat, which is outside of sections, made this change: at once
--- where a node was free, and else as soon as one was
+-- the writer of a caller with this seat, which is outside of sections, made this change: at once if
+-- a node was free, and otherwise as soon as one was
 pub record HasChangedInTime {C : Type 0} (change : List Node → List Node → Type 0) (buckets : ℕ)
     (seat now : Seated C) (before after : Watching Planned) : Type 0 where
   pub outside : seat.depth ≡ 0
@@ -62,8 +62,8 @@ pub record HasChangedInTime {C : Type 0} (change : List Node → List Node → T
   pub waited : AreAllUsed (nodes_in before.view.client.known)
       → HasChangedLater change buckets seat now before after
 
--- the writer of such a caller put the entry of these words in so, one of its key being there or
--- none; or nothing happened
+-- the writer of such a caller put the entry of these words in like this, with an entry of its key
+-- or without; or nothing happened
 abbrev pub HasPutInTime : {C : Type 0} → ℕ → List ℕ → Bool → Bool → Seated C → Seated C
     → Watching Planned → Watching Planned → Type 0
 HasPutInTime buckets words there true seat now before after =

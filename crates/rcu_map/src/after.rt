@@ -1,5 +1,5 @@
-//! The next entry of a map behind a key, in an open section: going over the entries with no cursor
-//! that a caller keeps.
+//! The next entry of a map behind a key, in an open section: iteration over the entries without a
+//! cursor.
 ghost use Rattle.std.specs.Prelude.{◌≡◌, ◌<◌, IfSome, false, length, true};
 ghost use Rattle.rcu_live.specs.CpuSeat.{after_word_step};
 ghost use Rattle.rcu_live.specs.InPart.{seat_part};
@@ -17,8 +17,8 @@ use rcu_graph::Invariant;
 use rcu_live::Within;
 
 impl<E: Invariant, const W: usize, P: Within<MapRule<E, W>>> Map<E, W, P> {
-    /// As [`next_after`](Self::next_after), by words. Writes those of the entry, and returns
-    /// whether there is one.
+    /// Does as [`next_after`](Self::next_after), by words. Writes the words of the entry, and
+    /// returns whether there is one.
     pub fn next_words_after(&self, seat: &mut MapSeat<E, W, P>, key: u64, entry: &mut [u64]) -> bool
         requires walking { IsWalking self.now (seat_part P.lens seat.old) }
         requires room { length entry.old ≡ self.now.plan.words }
@@ -39,7 +39,7 @@ impl<E: Invariant, const W: usize, P: Within<MapRule<E, W>>> Map<E, W, P> {
         let mut at = Cursor::at_root(bucket);
         'buckets: while at.bucket < plan.roots {
             at = self.step(seat, at);
-            // Of the key's bucket the entries up to the key are passed over.
+            // In the key's bucket the entries up to the key are skipped.
             let limit = if at.bucket == bucket { key } else { 0 };
             if at.key > limit {
                 self.read_words(seat, at.node, at.key, entry);
@@ -53,10 +53,10 @@ impl<E: Invariant, const W: usize, P: Within<MapRule<E, W>>> Map<E, W, P> {
 impl<E: Entry<W>, const W: usize, P: Within<MapRule<E, W>>> Map<E, W, P> {
     /// Returns the next entry behind a key, in the order of [`entries`](Self::entries): bucket by
     /// bucket, and in each by key. Behind the key 0 that is the first one. The key need not be in
-    /// the map, so whoever goes over the entries keeps the last key, and no cursor.
+    /// the map, so an iteration stores only the last key, and no cursor.
     ///
-    /// It takes two loads for each node of the chains from the key's bucket up to there, and one
-    /// for each word of the entry but the key. It ends, whatever the writer does meanwhile.
+    /// Costs two loads for each node of the chains from the key's bucket up to there, and one for
+    /// each word of the entry but the key. It ends, whatever the writer does meanwhile.
     pub fn next_after(&self, seat: &mut MapSeat<E, W, P>, key: u64) -> Option<E>
         requires walking { IsWalking self.now (seat_part P.lens seat.old) }
         ensures same { seat.new ≡ after_word_step seat.old

@@ -15,7 +15,7 @@ use crate::writer::MapWriter;
 use rcu_graph::{Full, Invariant};
 use rcu_live::Within;
 
-/// What an update finds that is made if the entry of a key is as it was read.
+/// The result of an update that is made only if the entry of a key is as it was read.
 #[derive(Clone, Copy, Debug, PartialEq, Eq)]
 pub enum Compared {
     /// The entry is as it was read: the update was made.
@@ -43,7 +43,7 @@ impl<E: Invariant, const W: usize, P: Within<MapRule<E, W>>> MapWriter<E, W, P> 
         true
     }
 
-    /// Writes the words of the entry of a node, and returns whether they were there already.
+    /// Writes the words of the entry of a node, and returns whether the buffer had them already.
     fn read_again(&self, node: usize, words: &mut [u64]) -> bool
         requires node { IsEntry (buckets_in self.now) (nodes_in self.now.view.client.known) node }
         requires room { length words.old ≡ self.now.view.client.plan.words }
@@ -60,8 +60,8 @@ impl<E: Invariant, const W: usize, P: Within<MapRule<E, W>>> MapWriter<E, W, P> 
         as_read
     }
 
-    /// As [`compare_replace`](Self::compare_replace), by words. Writes those of the entry that has
-    /// the key over those that were read.
+    /// Does as [`compare_replace`](Self::compare_replace), by words. Writes the words of the entry
+    /// that has the key over those that were read.
     pub fn compare_replace_words(
         &mut self,
         words: &[u64],
@@ -93,8 +93,8 @@ impl<E: Invariant, const W: usize, P: Within<MapRule<E, W>>> MapWriter<E, W, P> 
         Ok(Compared::Same)
     }
 
-    /// As [`compare_remove`](Self::compare_remove), by words. Writes those of the entry that has
-    /// the key over those that were read.
+    /// Does as [`compare_remove`](Self::compare_remove), by words. Writes the words of the entry
+    /// that has the key over those that were read.
     pub fn compare_remove_words(&mut self, read: &mut [u64]) -> Compared
         requires room { length read.old ≡ self.old.view.client.plan.words }
         ensures removed { HasComparedToRemove as_words E.holds key_in (key_in read.old) read.old
@@ -121,10 +121,9 @@ impl<E: Invariant, const W: usize, P: Within<MapRule<E, W>>> MapWriter<E, W, P> 
 }
 
 impl<E: Entry<W>, const W: usize, P: Within<MapRule<E, W>>> MapWriter<E, W, P> {
-    /// Puts an entry in the place of the one that has its key, as [`replace`](Self::replace), if
-    /// that one is as it was read: if it has the words of `read`. Returns the one that had the key:
-    /// so it was replaced if that has these words. `Full` means that it has them, and that no node
-    /// is free yet.
+    /// Replaces the entry that has the key, as [`replace`](Self::replace) does, if that entry is as
+    /// it was read: if it has the words of `read`. Returns the entry that had the key: it was
+    /// replaced if it has these words. `Full` means that it has them, but no node is free yet.
     pub fn compare_replace(&mut self, read: E, entry: E) -> Result<Option<E>, Full>
         requires sound { E.valid entry }
         requires sound_read { E.valid read }
@@ -140,9 +139,9 @@ impl<E: Entry<W>, const W: usize, P: Within<MapRule<E, W>>> MapWriter<E, W, P> {
         }
     }
 
-    /// Takes the entry of a key out, as [`remove`](Self::remove), if it is as it was read: if it
-    /// has the words of `read`. Returns the one that had the key: so it was taken out if that has
-    /// these words.
+    /// Removes the entry of a key, as [`remove`](Self::remove) does, if it is as it was read: if it
+    /// has the words of `read`. Returns the entry that had the key: it was removed if it has these
+    /// words.
     pub fn compare_remove(&mut self, read: E) -> Option<E>
         requires sound { E.valid read }
         ensures { HasComparedToRemove E.decode E.valid E.key_of (E.key_of read) (E.in_words read)

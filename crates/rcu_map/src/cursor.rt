@@ -1,4 +1,4 @@
-//! How far an iteration over the entries of a map has come.
+//! The position of an iteration over the entries of a map.
 
 /// A node of a bucket's chain, and its key. On the root of the bucket no entry of it was reached
 /// yet: the key is 0.
@@ -13,7 +13,7 @@ impl Cursor {
     ghost use Rattle.std.specs.Prelude.{◌≡◌};
     ghost use Rattle.rcu_map.specs.Listing.{at_root};
 
-    /// On the root of a bucket.
+    /// Returns the cursor on the root of a bucket.
     pub(crate) fn at_root(bucket: usize) -> Cursor
         ensures { result ≡ at_root bucket }
     {

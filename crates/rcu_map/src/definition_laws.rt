@@ -26,8 +26,8 @@ use crate::entry::Entry;
 
 /// A writer has the map of a plan if it knows that plan, and its nodes are those of a map of the
 /// plan's sizes. Such a map begins a run. The run goes on by each call that puts an entry, and by
-/// each look at a number at which the section may be open. A key that was put is there, whether or
-/// not it replaced another entry. One that is there throughout is there at the end.
+/// each load of a number at which the section may be open. A key that was put is there, whether or
+/// not it replaced another entry. A key that is there throughout is there at the end.
 pub fn runs_go_on_by_calls<E: Entry<W>, const W: usize>()
     ensures map { (plan : Plan) (now : Watching Planned) → now.view.client.plan ≡ plan →
         IsMap E.holds plan.roots plan.seed plan.words plan.nodes
@@ -55,10 +55,10 @@ pub fn a_change_is_one_store()
         stored_in after.view.client.known ≡ by.stored ∷ stored_in before.view.client.known }
 {}
 
-/// Calls are made over moments if the writer's knowledge changes by them alone: from the moment 0
-/// to that before the first call it knows the same, and each call is at or after the one before. So
-/// a run with no call may have any moments. A key that is there throughout was there, and if there
-/// was no call it was there at the beginning.
+/// Calls are made over moments if only they change the writer's knowledge: it is the same from the
+/// moment 0 to that before the first call, and each call is at or after the one before. So a run
+/// with no call may have any moments. A key that is there throughout was there, and if there was no
+/// call it was there at the beginning.
 pub fn calls_are_made_over_moments<E: Entry<W>, const W: usize>()
     ensures begun { (plan : Plan) (opened t : ℕ) (moments : ℕ → Moment) (now : Watching Planned)
         (map : IsMapOf E.holds plan now) →
@@ -87,8 +87,8 @@ pub fn calls_are_made_over_moments<E: Entry<W>, const W: usize>()
         HasEntry plan.roots (nodes_in now.view.client.known) words }
 {}
 
-/// The words of an entry are their own decoding. A call that found an entry has its words, and one
-/// that found none has none.
+/// The words of an entry are their own decoding. A call that found an entry has its words, and a
+/// call that found none has none.
 pub fn words_tell_themselves()
     ensures themselves { (words : List ℕ) → as_words words ≡ words }
     ensures there { (words : List ℕ) → words_if true words ≡ Some words }
@@ -104,8 +104,8 @@ pub fn a_map_has_room_for_its_entries()
         capacity (plan_of_map buckets width entries seed) ≡ entries }
 {}
 
-/// There is no room for an entry if it is one too many, or if no node is free yet. An entry whose
-/// key is there is never one too many: so it waits for a node alone.
+/// A map has no room for an entry if it is one too many, or if no node is free yet. An entry whose
+/// key is in the map is never one too many: it only waits for a node.
 pub fn a_full_map_replaces()
     ensures replaced { (writer : Watching Planned) (key : ℕ) →
         HasKey (buckets_in writer) (nodes_in writer.view.client.known) key → LacksRoom writer key →
@@ -134,7 +134,7 @@ pub fn an_entry_is_as_it_was_read()
     ensures full { (full : Full) (words : List ℕ) → compared (Err full) words ≡ Err full }
 {}
 
-/// A map has sizes if there is a bucket and an entry has a word beside its key, and no others.
+/// A map may have sizes with a bucket and with a word of an entry beside its key, and no others.
 pub fn an_entry_has_a_word_beside_its_key()
     ensures least { HasSizes 1 2 0 }
     ensures key_alone { (buckets entries : ℕ) → HasSizes buckets 1 entries → ⊥ }

@@ -3,8 +3,8 @@ ghost use Rattle.std.specs.Prelude.{◌≤◌};
 
 use rcu_graph::Value;
 
-/// A value that is kept in `W` words, two or more, of which word 0 is its key. The words tell it
-/// again. A key is 1 or more.
+/// A value that is stored in `W` words, two or more, of which word 0 is its key. The words decode
+/// to it. A key is 1 or more.
 pub trait Entry<const W: usize>: Value<W> {
     ghost use Rattle.std.specs.Prelude.{◌≡◌, ◌≤◌, ◌<◌, List, ℕ};
     ghost use Rattle.rcu_map.specs.Keys.{key_in};
@@ -21,7 +21,7 @@ pub trait Entry<const W: usize>: Value<W> {
     ghost tells: { (words : List ℕ) → Self.holds words →
         key_of (Self.decode words) ≡ key_in words };
 
-    /// A key and a word more.
+    /// A key and one more word.
     ghost roomy: { 2 ≤ W };
 }
 

@@ -54,7 +54,7 @@ impl<E: Entry<W>, const W: usize> Map<E, W> {
     /// Returns the plan of a map of this many buckets and entries, and of this seed, as one of
     /// several clients.
     ///
-    /// It is `BadSizes` if no map is so large.
+    /// Returns `BadSizes` if no map may be this large.
     pub fn sized(buckets: usize, entries: usize, seed: u64) -> Result<Plan, NotOpened>
         ensures plan { IfOk result (λ plan. plan ≡ plan_of_map buckets W entries seed) }
         ensures some { IfOk result (λ plan. 0 < plan.roots) }

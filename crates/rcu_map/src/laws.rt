@@ -34,7 +34,7 @@ use rcu_graph::laws::{
 };
 
 /// A key is in a map exactly if the chain of its bucket leads to it. So a statement about linked
-/// keys, as that a section finds them, is one about the keys of entries.
+/// keys (for example, that a section finds them) is one about the keys of entries.
 pub fn keys_of_a_map_are_linked<E: Entry<W>, const W: usize>()
     ensures { (buckets seed key count : ℕ) (nodes : List Node) → 0 < buckets → 0 < key →
         IsMap E.holds buckets seed W count nodes →
@@ -203,13 +203,13 @@ pub fn keys_that_stay_are_returned_by_next<E: Entry<W>, const W: usize>()
     keys_that_stay_are_listed_over_a_run::<E, W>();
 }
 
-/// Each key lies behind 0, so the next entry behind 0 is the first one.
+/// Each key is behind 0, so
 pub fn each_key_lies_behind_0()
     ensures { (buckets seed key : ℕ) → 0 < key → IsBehind buckets seed 0 key }
 {}
 
 /// A step to the next entry behind a key finds words, and passes over no key that stays in the map
-/// over such a run and lies behind the first one: the words are of that key, or of one before it.
+/// over such a run and is behind the first one: the words are of that key, or of one before it.
 pub fn no_words_of_a_key_that_stays_are_passed_over<E: Invariant, const W: usize>()
     ensures { (plan : Plan) (opened key stays writer seat from done last : ℕ)
         (moments : ℕ → Moment) (now : Watching Planned) (run : IsRun E.holds plan opened now)
@@ -230,7 +230,7 @@ pub fn no_words_of_a_key_that_stays_are_passed_over<E: Invariant, const W: usize
 }
 
 /// A step to the next entry behind a key passes over no entry that stays: it returns that of the
-/// key that stays over such a run and lies behind the first one, or one before it.
+/// key that stays over such a run and is behind the first one, or one before it.
 pub fn no_key_that_stays_is_passed_over<E: Entry<W>, const W: usize>()
     ensures { (plan : Plan) (opened key stays writer seat from done last : ℕ)
         (moments : ℕ → Moment) (now : Watching Planned) (run : IsRun E.holds plan opened now)

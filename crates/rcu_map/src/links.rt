@@ -8,7 +8,7 @@ use rcu_graph::{Graph, GraphWatcher, Shape, Writer};
 use rcu_live::Within;
 use std::alloc::{AllocError, Global};
 
-/// The writer of a graph whose nodes are as at first.
+/// Returns the writer of a graph whose nodes are as at first.
 pub(crate) fn keep<F: Shape, P: Within<GraphRule<F>>>(
     alloc: Global,
     graph: &Graph<F, P>,
@@ -25,8 +25,8 @@ pub(crate) fn keep<F: Shape, P: Within<GraphRule<F>>>(
     Ok(writer)
 }
 
-/// Leads the previous node to where the old one leads, by one store. What no live node leads to any
-/// more is unlinked.
+/// Leads the previous node to the target of the old one, by one store. Every node to which no live
+/// node leads then is unlinked.
 pub(crate) fn pass<F: Shape, P: Within<GraphRule<F>>>(
     writer: &mut Writer<F, P>,
     previous: usize,

@@ -18,8 +18,8 @@ use rcu_graph::Invariant;
 use rcu_live::Within;
 
 impl<E: Invariant, const W: usize, P: Within<MapRule<E, W>>> Map<E, W, P> {
-    /// Goes on from a cursor by one hop, and returns where that led: to a node, or to the root of
-    /// the next bucket, if it led nowhere.
+    /// Goes on from a cursor by one hop, and returns the new cursor: on a node, or on the root of
+    /// the next bucket if the link led nowhere.
     pub(crate) fn step(&self, seat: &mut MapSeat<E, W, P>, at: Cursor) -> Cursor
         requires may { MayGoOn self.now (seat_part P.lens seat.old) at }
         requires inside { at.bucket < self.now.plan.roots }
@@ -42,7 +42,7 @@ impl<E: Invariant, const W: usize, P: Within<MapRule<E, W>>> Map<E, W, P> {
 }
 
 impl<E: Entry<W>, const W: usize, P: Within<MapRule<E, W>>> Map<E, W, P> {
-    /// Returns the entry that a node has, by a load a word.
+    /// Returns the entry of a node, by one load for each word.
     pub(crate) fn entry_at(&self, seat: &mut MapSeat<E, W, P>, node: usize, key: u64) -> E
         requires { IsOnEntry E.holds self.now (seat_part P.lens seat.old) node key }
         ensures same { seat.new ≡ seat.old }
@@ -77,7 +77,7 @@ impl<E: Entry<W>, const W: usize, P: Within<MapRule<E, W>>> Map<E, W, P> {
         (at, None)
     }
 
-    /// Lends the seat to an iterator over all entries, in an open section. Nothing is loaded yet.
+    /// Lends the seat to an iterator over all entries, in an open section. Loads nothing yet.
     pub fn entries<'a>(&'a self, seat: &'a mut MapSeat<E, W, P>) -> Entries<'a, E, W, P>
         requires { IsWalking self.now (seat_part P.lens seat.old) }
         ensures map { (listing result).map ≡ self.now }

@@ -1,4 +1,4 @@
-//! A map: what a section reads of it, without a lock, a wait or a store.
+//! A map, and how a section reads it, without a lock, a wait or a store.
 ghost use Rattle.std.specs.Prelude.{◌≡◌, ◌≤◌, ◌<◌, ◌+◌, ◌^◌, ℕ, IfOk, IfSome, List, None, false};
 ghost use Rattle.std.specs.Prelude.{is_some, length, true};
 ghost use Rattle.std.specs.Arc.{arc_value};
@@ -25,7 +25,7 @@ use std::sync::Arc;
 /// one bucket it is a sorted list. The map is the client of the engine, or one of several, at the
 /// place `P`.
 ///
-/// An entry has `W` words. If `W` is 0, the map's plan has their number at run time, and entries
+/// An entry has `W` words. If `W` is 0, the map's plan gives their number at run time, and entries
 /// are read and put by their words.
 #[derive(Drop)]
 pub struct Map<E: Invariant, const W: usize, P: Within<MapRule<E, W>> = Alone> {
@@ -50,7 +50,7 @@ impl<E: Invariant, const W: usize, P: Within<MapRule<E, W>>> Model for Map<E, W,
 }
 
 impl<E: Invariant, const W: usize, P: Within<MapRule<E, W>>> Map<E, W, P> {
-    /// Returns a map over a graph of one link a node, whose roots are those of the buckets.
+    /// Returns a map over a graph with one link in each node, whose roots are those of the buckets.
     pub fn over(graph: Graph<MapShape<E, W>, P>) -> Map<E, W, P>
         requires some { 0 < graph.plan.roots }
         requires one { graph.plan.links ≡ 1 }
@@ -71,7 +71,7 @@ impl<E: Invariant, const W: usize, P: Within<MapRule<E, W>>> Map<E, W, P> {
         ensures words { 0 < W → self.now.plan.words ≡ W }
         ensures row { 1 + self.now.plan.words < 2 ^ 64 }
     {
-        // A borrow of a field shows the prover what the type keeps.
+        // A borrow of a field gives the prover the invariant of the type.
         let graph = &self.graph;
         graph.plan()
     }
@@ -80,7 +80,7 @@ impl<E: Invariant, const W: usize, P: Within<MapRule<E, W>>> Map<E, W, P> {
     pub fn try_clone(&self) -> Result<Map<E, W, P>, AllocError>
         ensures { IfOk result (λ map. map ≡ self.now) }
     {
-        // A borrow of a field shows the prover what the type keeps.
+        // A borrow of a field gives the prover the invariant of the type.
         let graph = &self.graph;
         Ok(Map {
             graph: graph.try_clone()?,
@@ -102,11 +102,11 @@ impl<E: Invariant, const W: usize, P: Within<MapRule<E, W>>> Map<E, W, P> {
     }
 
     /// Returns the layout of the nodes' links and words, by constants if `W` is not 0: so no
-    /// multiplication by another number waits for a load.
+    /// multiplication by a variable waits for a load.
     pub(crate) fn layout(&self) -> Layout
         ensures { result ≡ layout_of self.now }
     {
-        // A borrow of a field shows the prover what the type keeps: that a node has one link.
+        // A borrow of a field gives the prover the invariant of the type: a node has one link.
         let graph = &self.graph;
         let plan = graph.plan();
         let words = if W > 0 { W } else { plan.words };
@@ -120,8 +120,8 @@ impl<E: Invariant, const W: usize, P: Within<MapRule<E, W>>> Map<E, W, P> {
         }
     }
 
-    /// Writes the words of the node that the section is on, whose key was read: by a load each of
-    /// the others.
+    /// Writes the words of the node that the section is on, whose key was read already: by one load
+    /// for each of the others.
     pub(crate) fn read_words(
         &self,
         seat: &mut MapSeat<E, W, P>,
@@ -170,8 +170,8 @@ impl<E: Invariant, const W: usize, P: Within<MapRule<E, W>>> Map<E, W, P> {
         self.graph.find(seat, self.layout(), bucket, key)
     }
 
-    /// As [`get`](Self::get), by words. Writes those of the entry, and returns whether there is
-    /// one.
+    /// Does as [`get`](Self::get), by words. Writes the words of the entry, and returns whether
+    /// there is one.
     pub fn get_words(&self, seat: &mut MapSeat<E, W, P>, key: u64, entry: &mut [u64]) -> bool
         requires walking { IsWalking self.now (seat_part P.lens seat.old) }
         requires room { length entry.old ≡ self.now.plan.words }

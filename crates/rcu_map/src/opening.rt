@@ -26,20 +26,20 @@ use std::sync::Arc;
 /// A map as it is opened, with its engine.
 #[derive(Drop)]
 pub struct Opened<L: Drop, E: Invariant, const W: usize> {
-    /// The engine, which threads share, or which is under no lock. A thread has to drive it.
+    /// The engine, shared by threads or under no lock. A thread has to drive it.
     pub live: L,
     /// The map, which its seats read.
     pub map: Map<E, W>,
-    /// A seat a processor, in order.
+    /// A seat for each processor, in order.
     pub seats: Vec<MapSeat<E, W>>,
-    /// A watcher a processor.
+    /// A watcher for each processor.
     pub watchers: Vec<MapWatcher<E, W>>,
     /// The writer, which puts the entries.
     pub writer: MapWriter<E, W>,
 }
 
-/// Returns how many nodes a map of this many buckets and entries has: one for each, and one by
-/// which it can replace an entry while it is full.
+/// Returns how many nodes a map of this many buckets and entries has: one for each, and one more,
+/// with which it can replace an entry while it is full.
 fn node_count(buckets: usize, entries: usize) -> Option<usize>
     ensures sum { IfSome result (λ nodes. nodes ≡ buckets + entries + 1) }
     ensures large { IfNone result (2 ^ 64 ≤ buckets + entries + 1) }
@@ -47,9 +47,11 @@ fn node_count(buckets: usize, entries: usize) -> Option<usize>
     buckets.checked_add(entries)?.checked_add(1)
 }
 
-/// Returns the plan of a map of this many buckets, words an entry and entries, and of this seed.
+/// Returns the plan of a map of this many buckets, words for each entry, and entries, and of this
+/// seed.
 ///
-/// It is `BadSizes` for no bucket, or fewer than two words, or if the nodes are too many to count.
+/// Returns `BadSizes` for no bucket, or fewer than two words, or if the nodes are too many to
+/// count.
 pub fn make_plan(buckets: usize, words: usize, entries: usize, seed: u64) -> Result<Plan, NotOpened>
     ensures plan { IfOk result (λ plan. plan ≡ plan_of_map buckets words entries seed) }
     ensures some { OnOk result (0 < buckets) }
@@ -73,7 +75,7 @@ pub fn make_plan(buckets: usize, words: usize, entries: usize, seed: u64) -> Res
 }
 
 impl<E: Invariant, const W: usize> Map<E, W> {
-    /// As [`open_unlocked`](Self::open_unlocked), by a plan.
+    /// Does as [`open_unlocked`](Self::open_unlocked), by a plan.
     pub fn open_planned<const LEAF: u32, const FAN: u32, T: Drop>(
         alloc: Global,
         cpus: u32,
@@ -121,16 +123,15 @@ impl<E: Invariant, const W: usize> Map<E, W> {
 }
 
 impl<E: Entry<W>, const W: usize> Map<E, W> {
-    /// Opens a map with no entry, with its engine: of `cpus` processors, idle at number 0,
+    /// Opens a map with no entry, and its engine: of `cpus` processors, idle at number 0, with
     /// processor 0 alone online. The map has room for `entries`; a replaced or removed one keeps
-    /// its room until a grace period ends. A full map can replace: it has a node more than its
-    /// buckets and entries take. The seed chooses the bucket of each key: draw it at random, so
-    /// that nobody can choose keys that share a bucket.
+    /// its room until a grace period ends. A full map can replace entries: it has one node more
+    /// than its buckets and entries need. The seed determines the bucket of each key: draw it at
+    /// random, so that nobody can choose keys that share a bucket.
     ///
-    /// Faults: `BadSizes` for no bucket, or more than 2^32 words in all, an entry's and one more a
-    /// node;
-    /// `TooManyCpus` (17) for no processor, more than 4,096, or more than four levels hold;
-    /// `BadLast` (19) if `last` is no last number; `NoMemory` (16).
+    /// Faults: `BadSizes` for no bucket, or more than 2^32 words in all, an entry's and one more
+    /// for each node; `TooManyCpus` (17) for no processor, more than 4,096, or more than four
+    /// levels hold; `BadLast` (19) if `last` is not a legal last number; `NoMemory` (16).
     pub fn open<const LEAF: u32, const FAN: u32, T: Drop>(
         alloc: Global,
         cpus: u32,
@@ -177,8 +178,8 @@ impl<E: Entry<W>, const W: usize> Map<E, W> {
         })
     }
 
-    /// Opens a map as [`open`](Self::open), with its engine under no lock: its owner makes one call
-    /// at a time.
+    /// Opens a map as [`open`](Self::open) does, with its engine under no lock: its owner has to
+    /// make one call at a time.
     pub fn open_unlocked<const LEAF: u32, const FAN: u32, T: Drop>(
         alloc: Global,
         cpus: u32,

@@ -1,4 +1,4 @@
-//! How an entry is put in, and why it was not.
+//! The ways to put an entry in, and why it was not put in.
 ghost use Rattle.std.specs.Prelude.{◌≡◌};
 ghost use Rattle.rcu_map.specs.Puts.{is_put};
 
@@ -7,11 +7,11 @@ use rcu_seq::Fault;
 /// Which entries a put may add or replace.
 #[derive(Clone, Copy, Debug, PartialEq, Eq)]
 pub enum Put {
-    /// Beside the others, if none has its key.
+    /// Adds the entry, if none has its key.
     Insert,
-    /// In the place of the one that has its key.
+    /// Replaces the entry that has its key.
     Replace,
-    /// Either.
+    /// Does either.
     Upsert,
 }
 
@@ -31,7 +31,7 @@ impl Put {
 /// Why a call that waits for a free node put no entry in.
 #[derive(Clone, Copy, Debug, PartialEq, Eq)]
 pub enum NotPut {
-    /// The map has as many entries as it may, and none has the key: one has to be taken out first.
+    /// The map has as many entries as it may, and none has the key: one has to be removed first.
     Full,
     /// The wait was refused, or given up.
     Fault(Fault),

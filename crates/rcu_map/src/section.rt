@@ -14,7 +14,7 @@ use rcu_seq::Fault;
 
 impl<E: Entry<W>, const W: usize> Map<E, W> {
     /// Reads the entry of a key in a section of its own, of the map's engine. It takes no lock and
-    /// waits for nobody.
+    /// never waits.
     ///
     /// Faults: `Offline` (2) if the processor is offline; `CpuIdle` (23) if it is idle.
     pub fn get_section<L: Shared<MapRule<E, W>>>(

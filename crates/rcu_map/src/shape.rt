@@ -1,11 +1,11 @@
-//! The facts that the nodes of a map meet, and the seats of its engine.
+//! The facts on the nodes of a map, and the seats of its engine.
 use rcu_graph::rule::GraphRule;
 use rcu_graph::{GraphSeat, GraphWatcher, Invariant, Plan, Shape};
 use rcu_live::Alone;
 use std::marker::PhantomData;
 
-/// The facts of a map whose buckets' roots are the roots: a node in use is one, or has an entry's
-/// words. A link leads to a node of the same bucket with a greater key.
+/// The facts of a map whose roots are those of the buckets: a node in use is a root, or has an
+/// entry's words. A link leads to a node of the same bucket with a greater key.
 pub struct MapShape<E, const W: usize> {
     entry: PhantomData<E>,
 }

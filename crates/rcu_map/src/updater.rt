@@ -11,8 +11,8 @@ use rcu_live::{Alone, Within};
 use std::sync::{Mutex, MutexGuard, Wait};
 
 /// The writer of a map behind a lock: threads that share it update the map, one call at a time.
-/// What each call does to the map is said at [`MapWriter`]. None holds the lock while it waits for
-/// a reader.
+/// [`MapWriter`] says what each call does to the map. None holds the lock while it waits for a
+/// reader.
 #[derive(Drop)]
 pub struct Updater<E: Entry<W>, const W: usize, P: Within<MapRule<E, W>> = Alone> {
     writer: Mutex<MapWriter<E, W, P>>,
@@ -26,7 +26,7 @@ impl<E: Entry<W>, const W: usize, P: Within<MapRule<E, W>>> Updater<E, W, P> {
         }
     }
 
-    /// Lends the writer, for several steps between which no other thread's comes.
+    /// Lends the writer, for several steps without another thread's between them.
     pub fn lock(&self, rt: &impl Wait) -> MutexGuard<'_, MapWriter<E, W, P>> {
         self.writer.lock(rt)
     }
@@ -39,7 +39,7 @@ impl<E: Entry<W>, const W: usize, P: Within<MapRule<E, W>>> Updater<E, W, P> {
         self.lock(rt).put(how, entry)
     }
 
-    /// Puts an entry in if none has its key, as [`MapWriter::insert`].
+    /// Inserts an entry if none has its key, as [`MapWriter::insert`] does.
     pub fn insert(&self, rt: &impl Wait, entry: E) -> Result<Option<E>, Full>
         requires { E.valid entry }
         ensures { IfOk result (λ old. IsOfKey E.valid E.key_of (E.key_of entry) old) }
@@ -47,7 +47,7 @@ impl<E: Entry<W>, const W: usize, P: Within<MapRule<E, W>>> Updater<E, W, P> {
         self.put(rt, Put::Insert, entry)
     }
 
-    /// Puts an entry in the place of the one that has its key, as [`MapWriter::replace`].
+    /// Replaces the entry that has the key, as [`MapWriter::replace`] does.
     pub fn replace(&self, rt: &impl Wait, entry: E) -> Result<Option<E>, Full>
         requires { E.valid entry }
         ensures { IfOk result (λ old. IsOfKey E.valid E.key_of (E.key_of entry) old) }
@@ -55,7 +55,7 @@ impl<E: Entry<W>, const W: usize, P: Within<MapRule<E, W>>> Updater<E, W, P> {
         self.put(rt, Put::Replace, entry)
     }
 
-    /// Puts an entry in, in the place of the one that has its key, as [`MapWriter::upsert`].
+    /// Inserts an entry, or replaces the one that has its key, as [`MapWriter::upsert`] does.
     pub fn upsert(&self, rt: &impl Wait, entry: E) -> Result<Option<E>, Full>
         requires { E.valid entry }
         ensures { IfOk result (λ old. IsOfKey E.valid E.key_of (E.key_of entry) old) }
@@ -63,8 +63,8 @@ impl<E: Entry<W>, const W: usize, P: Within<MapRule<E, W>>> Updater<E, W, P> {
         self.put(rt, Put::Upsert, entry)
     }
 
-    /// Puts an entry in the place of the one that has its key, if that is as it was read, as
-    /// [`MapWriter::compare_replace`].
+    /// Replaces the entry that has the key, if that is as it was read, as
+    /// [`MapWriter::compare_replace`] does.
     pub fn compare_replace(&self, rt: &impl Wait, read: E, entry: E) -> Result<Option<E>, Full>
         requires sound { E.valid entry }
         requires sound_read { E.valid read }
@@ -73,7 +73,7 @@ impl<E: Entry<W>, const W: usize, P: Within<MapRule<E, W>>> Updater<E, W, P> {
         self.lock(rt).compare_replace(read, entry)
     }
 
-    /// Takes the entry of a key out, if it is as it was read, as [`MapWriter::compare_remove`].
+    /// Removes the entry of a key, if it is as it was read, as [`MapWriter::compare_remove`] does.
     pub fn compare_remove(&self, rt: &impl Wait, read: E) -> Option<E>
         requires { E.valid read }
         ensures { IsOfKey E.valid E.key_of (E.key_of read) result }
@@ -81,22 +81,22 @@ impl<E: Entry<W>, const W: usize, P: Within<MapRule<E, W>>> Updater<E, W, P> {
         self.lock(rt).compare_remove(read)
     }
 
-    /// Takes the entry of a key out, as [`MapWriter::remove`].
+    /// Removes the entry of a key, as [`MapWriter::remove`] does.
     pub fn remove(&self, rt: &impl Wait, key: u64) -> Option<E>
         ensures { IsOfKey E.valid E.key_of key result }
     {
         self.lock(rt).remove(key)
     }
 
-    /// Looks at the number, and returns it, as [`MapWriter::reclaim`].
+    /// Loads the number, and returns it, as [`MapWriter::reclaim`] does.
     pub fn reclaim(&self, rt: &impl Wait) -> u64
         ensures { result ≤ 2 ^ 62 }
     {
         self.lock(rt).reclaim()
     }
 
-    /// Returns the entry of a key, as [`MapWriter::get`]: no later change is missed, as it may be
-    /// by a section.
+    /// Returns the entry of a key, as [`MapWriter::get`] does. It misses no earlier change, as a
+    /// section may.
     pub fn get(&self, rt: &impl Wait, key: u64) -> Option<E>
         ensures keyed { IfSome result (λ entry. E.key_of entry ≡ key) }
         ensures sound { IfSome result (λ entry. E.valid entry) }
@@ -104,7 +104,7 @@ impl<E: Entry<W>, const W: usize, P: Within<MapRule<E, W>>> Updater<E, W, P> {
         self.lock(rt).get(key)
     }
 
-    /// Returns how many entries there are.
+    /// Returns the number of entries.
     pub fn len(&self, rt: &impl Wait) -> usize {
         self.lock(rt).len()
     }

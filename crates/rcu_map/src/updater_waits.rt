@@ -17,8 +17,8 @@ use rcu_seq::{Cookie, Tag};
 use std::sync::Wait;
 
 impl<E: Entry<W>, const W: usize, P: Within<MapRule<E, W>>> Updater<E, W, P> {
-    /// Looks at the number, and puts an entry in, if that needs no node or there is room. If a
-    /// later number may free a node for it, `Err` is the number.
+    /// Loads the number, and puts an entry in, if that needs no node or there is room. If a later
+    /// number may free a node for it, `Err` is the number.
     fn look_and_put(
         &self,
         rt: &impl Wait,
@@ -40,14 +40,14 @@ impl<E: Entry<W>, const W: usize, P: Within<MapRule<E, W>>> Updater<E, W, P> {
         }
     }
 
-    /// Puts an entry in so, and returns the one that had its key, as
-    /// [`MapWriter::put_or_wait`](crate::MapWriter::put_or_wait). The lock is taken for each look,
-    /// and not held meanwhile: so other threads go on.
+    /// Inserts, replaces or upserts an entry, and returns the one that had its key, as
+    /// [`MapWriter::put_or_wait`](crate::MapWriter::put_or_wait) does. It takes the lock for each
+    /// load of the number, and does not hold it meanwhile, so other threads go on.
     ///
     /// No proof says that it returns: others may take each node that becomes free.
     ///
     /// Faults: `InSection` (4) if a section is open on the seat; `Exhausted` (11) if the last
-    /// number is reached, so that no node becomes free any more.
+    /// number is reached, so no further node becomes free.
     pub fn put_or_wait<const LEAF: u32, const FAN: u32, T: Drop>(
         &self,
         rt: &impl Wait,

@@ -1,4 +1,4 @@
-//! What a map's writer does to its entries, by one store each.
+//! A map's writer's updates of its entries, by one store each.
 ghost use Rattle.std.specs.Prelude.{◌≡◌, ◌≢◌, ◌<◌, IfNone, IsSome, MatchResult, None, Ok, Some};
 ghost use Rattle.std.specs.Prelude.{false, length, true};
 ghost use Rattle.rcu_graph.specs.Graph.{IsOfSameGraph};
@@ -22,7 +22,7 @@ use rcu_graph::{Full, Invariant};
 use rcu_live::Within;
 
 impl<E: Invariant, const W: usize, P: Within<MapRule<E, W>>> MapWriter<E, W, P> {
-    /// Puts an entry of these words behind the node where its key belongs, which no entry has.
+    /// Puts an entry of these words, whose key no entry has, behind the node where the key belongs.
     fn put_behind(&mut self, previous: usize, words: &[u64]) -> Result<(), Full>
         requires whole { E.holds words.now }
         requires keyed { 0 < key_in words.now }
@@ -43,8 +43,8 @@ impl<E: Invariant, const W: usize, P: Within<MapRule<E, W>>> MapWriter<E, W, P> 
         Ok(())
     }
 
-    /// Puts an entry of these words in the place of the old one that has its key, behind this node,
-    /// and returns its node.
+    /// Replaces the old entry that has the key of these words, behind this node, by one of these
+    /// words. Returns its node.
     pub(crate) fn put_over(
         &mut self,
         previous: usize,
@@ -66,8 +66,8 @@ impl<E: Invariant, const W: usize, P: Within<MapRule<E, W>>> MapWriter<E, W, P> 
         self.nodes.put(previous, words, next)
     }
 
-    /// As [`put`](Self::put), by words. Writes those of the entry that had the key, and returns
-    /// whether there is one.
+    /// Does as [`put`](Self::put), by words. Writes the words of the entry that had the key, and
+    /// returns whether there is one.
     pub fn put_words(&mut self, how: Put, words: &[u64], old: &mut [u64]) -> Result<bool, Full>
         requires whole { E.holds words.now }
         requires keyed { 0 < key_in words.now }
@@ -92,7 +92,7 @@ impl<E: Invariant, const W: usize, P: Within<MapRule<E, W>>> MapWriter<E, W, P> 
             self.copy_words(node, old);
             return Ok(true);
         }
-        // Where no node is free, nothing is written.
+        // If no node is free, nothing is written.
         self.nodes.free_node()?;
         self.copy_words(node, old);
         let Ok(_) = self.put_over(place.previous, node, words) else {
@@ -101,8 +101,8 @@ impl<E: Invariant, const W: usize, P: Within<MapRule<E, W>>> MapWriter<E, W, P> 
         Ok(true)
     }
 
-    /// As [`remove`](Self::remove), by words. Writes those of the entry, and returns whether there
-    /// was one.
+    /// Does as [`remove`](Self::remove), by words. Writes the words of the entry, and returns
+    /// whether there was one.
     pub fn remove_words(&mut self, key: u64, old: &mut [u64]) -> bool
         requires room { length old.old ≡ self.old.view.client.plan.words }
         ensures same { IsOfSameGraph self.old self.new }
@@ -115,7 +115,7 @@ impl<E: Invariant, const W: usize, P: Within<MapRule<E, W>>> MapWriter<E, W, P> 
         ensures unchanged { result ≡ false → self.new ≡ self.old }
         ensures left { result ≡ false → old.new ≡ old.old }
     {
-        // A borrow of a field shows the prover what the type keeps: that an entry has a key.
+        // A borrow of a field gives the prover the invariant of the type: an entry has a key.
         let _ = &self.nodes;
         if key == 0 {
             return false;
@@ -148,8 +148,8 @@ impl<E: Entry<W>, const W: usize, P: Within<MapRule<E, W>>> MapWriter<E, W, P> {
         Ok(None)
     }
 
-    /// Puts an entry in, by one store, if none has its key. Returns the one that has it: then
-    /// nothing changed. `Full` means that none has it, and that the map is full or no node is free
+    /// Inserts an entry, by one store, if none has its key. Returns the entry that has the key:
+    /// then nothing changed. `Full` means that none has it, but the map is full or no node is free
     /// yet. Costs a step for each node of its bucket up to there.
     pub fn insert(&mut self, entry: E) -> Result<Option<E>, Full>
         requires sound { E.valid entry }
@@ -159,9 +159,9 @@ impl<E: Entry<W>, const W: usize, P: Within<MapRule<E, W>>> MapWriter<E, W, P> {
         self.put(Put::Insert, entry)
     }
 
-    /// Puts an entry in the place of the one that has its key, by one store, and returns that: a
-    /// section finds the old one or the new one. If none has its key, nothing changes. `Full` means
-    /// that one has it, and that no node is free yet: one will be, also in a full map. Costs as
+    /// Replaces the entry that has the key, by one store, and returns it: a section finds the old
+    /// entry or the new one. If none has the key, nothing changes. `Full` means that one has it,
+    /// but no node is free yet: one will be, also in a full map. Costs the same as
     /// [`insert`](Self::insert).
     pub fn replace(&mut self, entry: E) -> Result<Option<E>, Full>
         requires sound { E.valid entry }
@@ -171,9 +171,9 @@ impl<E: Entry<W>, const W: usize, P: Within<MapRule<E, W>>> MapWriter<E, W, P> {
         self.put(Put::Replace, entry)
     }
 
-    /// Puts an entry in, by one store, in the place of the one that has its key, and returns that
-    /// (as std's `insert` of a hash map). `Full` means that no node is free yet, or that none has
-    /// its key and the map is full. Costs as [`insert`](Self::insert).
+    /// Inserts an entry, by one store, or replaces the one that has its key, and returns that (as
+    /// std's `insert` of a hash map). `Full` means that no node is free yet, or that none has its
+    /// key and the map is full. Costs the same as [`insert`](Self::insert).
     pub fn upsert(&mut self, entry: E) -> Result<Option<E>, Full>
         requires sound { E.valid entry }
         ensures { HasAnswered E.decode E.valid E.key_of Put.Upsert
@@ -182,7 +182,7 @@ impl<E: Entry<W>, const W: usize, P: Within<MapRule<E, W>>> MapWriter<E, W, P> {
         self.put(Put::Upsert, entry)
     }
 
-    /// Takes the entry of this key out, by one store, and returns it, if there is one.
+    /// Removes the entry of this key, by one store, and returns it, if there is one.
     pub fn remove(&mut self, key: u64) -> Option<E>
         ensures same { IsOfSameGraph self.old self.new }
         ensures old { Holds E.decode E.valid E.key_of (buckets_in self.old)

@@ -58,7 +58,7 @@ pub(crate) struct Place {
 
 impl<E: Invariant, const W: usize, P: Within<MapRule<E, W>>> MapWriter<E, W, P> {
     /// Returns the writer of a map that has no entry yet: the nodes of its graph are as at first.
-    /// It takes all the memory that it will ever have.
+    /// Allocates all memory that it will ever need.
     pub fn new(
         alloc: Global,
         map: &Map<E, W, P>,
@@ -70,7 +70,7 @@ impl<E: Invariant, const W: usize, P: Within<MapRule<E, W>>> MapWriter<E, W, P> 
             (P.lens.get seat.view.client).known }
         ensures { IfOk result (λ writer. writer ≡ watcher_part P.lens seat) }
     {
-        // A borrow of a field shows the prover what the type keeps: that there is a bucket.
+        // A borrow of a field gives the prover the invariant of the type: there is a bucket.
         let graph = &map.graph;
         let nodes = keep(alloc, graph, seat)?;
         Ok(MapWriter { nodes, len: 0 })
@@ -85,7 +85,7 @@ impl<E: Invariant, const W: usize, P: Within<MapRule<E, W>>> MapWriter<E, W, P> 
         self.nodes.tends();
     }
 
-    /// As [`Map::plan`].
+    /// Returns its plan, as [`Map::plan`] does.
     pub fn plan(&self) -> Plan
         ensures plan { result ≡ self.now.view.client.plan }
         ensures wide { 2 ≤ self.now.view.client.plan.words }
@@ -99,13 +99,14 @@ impl<E: Invariant, const W: usize, P: Within<MapRule<E, W>>> MapWriter<E, W, P> 
             ≡ entries_in (buckets_in self.now) (nodes_in self.now.view.client.known) }
         ensures most { result ≤ capacity self.now.view.client.plan }
     {
-        // A borrow of a field shows the prover what the type keeps: that they are no more.
+        // A borrow of a field gives the prover the invariant of the type: the map has at most as
+        // many entries as it may.
         let _ = &self.nodes;
         self.len
     }
 
-    /// Returns whether there are as many entries as the map may have. Then no further one can be
-    /// inserted before one is removed, and each can be replaced.
+    /// Returns whether the map has as many entries as it may. Then no further one can be inserted
+    /// before one is removed, but each can be replaced.
     pub fn is_full(&self) -> bool
         ensures { IsTrue result ↔ IsAtCapacity self.now }
     {
@@ -120,16 +121,16 @@ impl<E: Invariant, const W: usize, P: Within<MapRule<E, W>>> MapWriter<E, W, P> 
         self.is_full() && !self.contains(key)
     }
 
-    /// Returns whether the map is full and a node is free: then nothing is to be waited for.
+    /// Returns whether the map is full and a node is free: then a caller need not wait.
     pub fn is_only_for_replacements(&self) -> bool
         ensures { IsTrue result ↔ IsOnlyForReplacements self.now }
     {
         self.is_full() && self.has_free_node()
     }
 
-    /// What a writer keeps for replacements: nothing is done. A caller learns the clauses by the
-    /// call: a node is free or waits for its grace period, if there is an entry or if one more may
-    /// be inserted.
+    /// States the invariant of a writer for replacements, and does nothing: a caller learns its
+    /// clauses by the call. A node is free or waits for its grace period, if there is an entry or
+    /// if one more may be inserted.
     pub(crate) fn keeps_a_node(&self)
         ensures entry { (key : ℕ) →
             HasKey (buckets_in self.now) (nodes_in self.now.view.client.known) key →
@@ -137,7 +138,7 @@ impl<E: Invariant, const W: usize, P: Within<MapRule<E, W>>> MapWriter<E, W, P> 
         ensures room { (IsAtCapacity self.now → ⊥) →
             AreAllLive (nodes_in self.now.view.client.known) → ⊥ }
     {
-        // A borrow of a field shows the prover what the type keeps.
+        // A borrow of a field gives the prover the invariant of the type.
         let _ = &self.nodes;
     }
 
@@ -160,7 +161,7 @@ impl<E: Invariant, const W: usize, P: Within<MapRule<E, W>>> MapWriter<E, W, P> 
             (λ node.
             IsNodeOf (buckets_in self.now) (nodes_in self.now.view.client.known) key node) }
     {
-        // A borrow of a field shows the prover what the type keeps: that there is a bucket.
+        // A borrow of a field gives the prover the invariant of the type: there is a bucket.
         let nodes = &self.nodes;
         let mut previous = bucket_of(nodes.plan(), key);
         'chain: loop {
@@ -194,7 +195,7 @@ impl<E: Invariant, const W: usize, P: Within<MapRule<E, W>>> MapWriter<E, W, P> 
             (λ node.
             IsNodeOf (buckets_in self.now) (nodes_in self.now.view.client.known) key node) }
     {
-        // A borrow of a field shows the prover what the type keeps: that an entry has a key.
+        // A borrow of a field gives the prover the invariant of the type: an entry has a key.
         let _ = &self.nodes;
         if key == 0 {
             return None;
@@ -215,8 +216,8 @@ impl<E: Invariant, const W: usize, P: Within<MapRule<E, W>>> MapWriter<E, W, P> 
         }
     }
 
-    /// As [`get`](Self::get), by words. Writes those of the entry, and returns whether there is
-    /// one.
+    /// Does as [`get`](Self::get), by words. Writes the words of the entry, and returns whether
+    /// there is one.
     pub fn get_words(&self, key: u64, entry: &mut [u64]) -> bool
         requires room { length entry.old ≡ self.now.view.client.plan.words }
         ensures there { IsTrue result ↔ HasKey (buckets_in self.now)
@@ -265,12 +266,13 @@ impl<E: Entry<W>, const W: usize, P: Within<MapRule<E, W>>> MapWriter<E, W, P> {
         ensures { self.now.view.client.plan.words ≡ W }
     {
         words_are_two::<E, W>();
-        // A borrow of a field shows the prover what the type keeps: how many words an entry has.
+        // A borrow of a field gives the prover the invariant of the type: the number of an entry's
+        // words.
         let _ = &self.nodes;
     }
 
-    /// Returns the entry of this key, if there is one, and reads no shared word. No entry has the
-    /// key 0. Costs a step for each node of its bucket up to there.
+    /// Returns the entry of this key, if there is one, without a load of a shared word. No entry
+    /// has the key 0. Costs a step for each node of its bucket up to there.
     pub fn get(&self, key: u64) -> Option<E>
         ensures there { IsSome result ↔ HasKey (buckets_in self.now)
             (nodes_in self.now.view.client.known) key }

@@ -21,7 +21,7 @@ use rcu_live::{Client, CpuSeat, Live, Within};
 use rcu_seq::Fault;
 use std::sync::Wait;
 
-/// Refuses a seat with an open section, which its caller would wait for.
+/// Refuses a seat with an open section, for which its caller would wait.
 pub(crate) fn check_outside<C: Client>(seat: &CpuSeat<C>) -> Result<(), Fault>
     ensures { MatchResult result (λ _. seat.now.depth ≡ 0)
         (λ fault. (fault ≡ Fault.InSection) × (0 < seat.now.depth)) }
@@ -33,7 +33,7 @@ pub(crate) fn check_outside<C: Client>(seat: &CpuSeat<C>) -> Result<(), Fault>
 }
 
 impl<E: Entry<W>, const W: usize, P: Within<MapRule<E, W>>> MapWriter<E, W, P> {
-    /// Looks at the number, and drives the engine, until a node is free.
+    /// Loads the number, and drives the engine, until a node is free.
     fn wait_until_free<const LEAF: u32, const FAN: u32, T: Drop>(
         &mut self,
         rt: &impl Wait,
@@ -81,17 +81,17 @@ impl<E: Entry<W>, const W: usize, P: Within<MapRule<E, W>>> MapWriter<E, W, P> {
     }
 
     /// Inserts, replaces or upserts an entry, as [`insert`](Self::insert),
-    /// [`replace`](Self::replace) or [`upsert`](Self::upsert), and returns the one that had its
-    /// key. If it needs a node and none is free, it looks at the number and drives the engine until
-    /// one is. The caller's processor passes quiescent states meanwhile, unless it is offline or
-    /// idle. It does not wait if the map is full and no entry has the key: that is `Full`.
+    /// [`replace`](Self::replace) or [`upsert`](Self::upsert) does, and returns the one that had
+    /// its key. If it needs a node and none is free, it loads the number and drives the engine
+    /// until one is. The caller's processor passes quiescent states meanwhile, unless it is offline
+    /// or idle. It does not wait if the map is full and no entry has the key: that is `Full`.
     ///
     /// No proof says that it returns: a section that stays open blocks it, and so does a processor
     /// that is neither idle nor offline and whose thread passes no quiescent state.
     ///
-    /// Faults: `InSection` (4) if a section is open on the seat, which the caller would wait for,
-    /// and then nothing happened; `Exhausted` (11) if the last number is reached, so that no node
-    /// becomes free any more.
+    /// Faults: `InSection` (4) if a section is open on the seat, for which the caller would wait;
+    /// then nothing happened; `Exhausted` (11) if the last number is reached, so no further node
+    /// becomes free.
     pub fn put_or_wait<const LEAF: u32, const FAN: u32, T: Drop>(
         &mut self,
         rt: &impl Wait,

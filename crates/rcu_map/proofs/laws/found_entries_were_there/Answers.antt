@@ -5,7 +5,7 @@ use Rattle.rcu_map.specs.Found.{IsEntryFound, IsOfNode}
 use Rattle.rcu_map.specs.Keys.{bucket_of}
 use Rattle.rcu_map.proofs.laws.found_entries_were_there.Goals as goal
 
--- an entry is told of a node
+-- an entry is that of a node
 of_node : {E : Type 0} (holds : List ℕ → Type 0) (decode : List ℕ → E) (key : ℕ) (known : Known)
     (node : Option ℕ) (entry : E)
     → IsOfNode (λ i e. IsEntryFound holds decode key known i e) node (Some entry)
