@@ -6,6 +6,8 @@ from comparison import snapshot
 # The kthreads of CPUs whose callbacks are offloaded (rcu_nocbs): one for each CPU invokes them, and
 # one for each group of CPUs accelerates them.
 INVOKES, ACCELERATES = re.compile(r"rcuo[ps]/(\d+)-"), re.compile(r"rcuog/")
+# In place of each address, as long as Linux has no random bits to hash it with (hash-ptr).
+HIDDEN = "(____ptrval____)"
 
 
 def list_of(event):
@@ -48,8 +50,18 @@ class Callbacks:
                      f"Linux lets callbacks of CPU {event.cpu} wait for {needs}, the engine for "
                      f"{self.linux(cookie)}")
 
+    def is_hidden(self, event):
+        """Whether the trace has no address, by which a callback is found again."""
+        hidden = HIDDEN in event.words[1]
+        if hidden:
+            self.seen[f"not compared: {event.name} without an address (the kernel's word "
+                      "no_hash_pointers gives it)"] += 1
+        return hidden
+
     def rcu_callback(self, event):
         cpu, address = event.cpu, event.words[1]
+        if self.is_hidden(event):
+            return
         if cpu not in self.online:
             self.queued[address] = 0, self.take(event), event
             self.seen["callbacks queued, and not given to a list"] += 1
@@ -81,7 +93,7 @@ class Callbacks:
             self.hand_out(event)
 
     def rcu_invoke_callback(self, event):
-        if "rcu_barrier_callback" in event.text:
+        if "rcu_barrier_callback" in event.text or self.is_hidden(event):
             return
         queued = self.queued.pop(event.words[1], None)
         if not queued:
@@ -137,6 +149,8 @@ class Callbacks:
                       "rcu_barrier is done in Linux")
 
     def rcu_sr_normal(self, event):
+        if self.is_hidden(event):
+            return
         address, what = "sync " + event.words[1], event.words[-1]
         if what == "event=request":
             self.queued[address] = 0, self.take(event), event

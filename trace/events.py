@@ -18,7 +18,8 @@ GZIP = b"\x1f\x8b"
 OPPOSITE = {"Start": "End", "End": "Start", "Startirq": "Endirq", "Endirq": "Startirq"}
 # Kernels before 4.20 have two or three flavours at a time, each with grace periods of its own.
 FLAVOURS = {"rcu_sched", "rcu_preempt", "rcu_bh"}
-# How many words these events have at least: the last line of a trace may be cut off.
+# How many words these events have at least: the last line of a trace may be cut off. (Linux 6.1 with
+# trace_options nohash-ptr writes no words of them, and the next event in the same line.)
 WORDS = {"rcu_grace_period": 3, "rcu_grace_period_init": 6, "rcu_quiescent_state_report": 7,
          "rcu_future_grace_period": 7, "rcu_fqs": 4, "rcu_watching": 4, "rcu_dyntick": 4,
          "rcu_callback": 3, "rcu_invoke_callback": 3, "rcu_barrier": 4, "rcu_sr_normal": 3,
@@ -49,7 +50,7 @@ def parsed(number, line):
     task, pid, cpu, time, name, text = found.groups()
     text = text.rstrip()
     words = text.split()
-    if len(words) < WORDS.get(name, 0):
+    if len(words) < WORDS.get(name, 0) or "] " in text:
         return None
     if name == "rcu_dyntick":
         words[0] = OPPOSITE.get(words[0], words[0])
