@@ -211,9 +211,6 @@ no_part true true n e = absurd (omega (arith, e))
 no_part true false n e = absurd (omega (arith, e))
 no_part false i n e = refl
 
-not_first : (a b : Bool) → a ≡ true → b ≡ false → (a && not b) ≡ true
-not_first a b i j = rw (i, j) refl
-
 exit_fewer : (b i : Bool) (m n : ℕ) → b ≡ true → n ≡ m + 1
     → cond b (m + cond i 1 2) 0 + 1 ≡ cond b (n + cond i 1 2) 0
 exit_fewer true i m n j e = omega (arith, e)
@@ -232,16 +229,19 @@ exit_elsewhere h c d n =
     let same : depth d (Exit c ∷ h) ≡ depth d h = omega (arith, counts, none) in
     ap (λ k. cond (awaits d h) (k + cond (is_idle d h) 1 2) 0) same
 
+pub exited : (s : Size) (h : History) (c : ℕ) → c < s.cpus → 0 < depth c h → Surely s h (Exit c)
+exited s h c l d = record {
+  accepted = grind (arith, nat_tests);
+  stores = refl;
+  stands = refl;
+  no_fault = λ f i. cc;
+}
+
 by_exit : (s : Size) (h : History) (c : ℕ) → awaits c h ≡ true → c < s.cpus → 0 < depth c h
     → Step s steps_of retires h c
 by_exit s h c a l d = record {
   event = Exit c;
-  surely = record {
-    accepted = grind (arith, nat_tests);
-    stores = refl;
-    stands = refl;
-    no_fault = λ f i. cc;
-  };
+  surely = exited s h c l d;
   is_kind = refl;
   less = exit_less h c a d;
   others = exit_elsewhere h c;
@@ -265,16 +265,20 @@ idle_elsewhere h c d n =
     ap (λ b. cond (awaits d h) (depth d h + cond (cond b true (is_idle d h)) 1 2) 0)
     (ne_eqb c d (λ i. n (sym i)))
 
+pub idled : (s : Size) (h : History) (c : ℕ) → online c h ≡ true → c < s.cpus → depth c h ≡ 0
+    → is_idle c h ≡ false → Surely s h (Idle c)
+idled s h c o l d i = record {
+  accepted = grind (arith, nat_tests);
+  stores = refl;
+  stands = refl;
+  no_fault = λ f i. cc;
+}
+
 by_idle : (s : Size) (h : History) (c : ℕ) → awaits c h ≡ true → online c h ≡ true → c < s.cpus
     → depth c h ≡ 0 → is_idle c h ≡ false → Step s steps_of retires h c
 by_idle s h c a o l d i = record {
   event = Idle c;
-  surely = record {
-    accepted = grind (arith, nat_tests);
-    stores = refl;
-    stands = refl;
-    no_fault = λ f i. cc;
-  };
+  surely = idled s h c o l d i;
   is_kind = refl;
   less = idle_less h c a i;
   others = idle_elsewhere h c;
@@ -297,7 +301,7 @@ scan_fewer : (b a i : Bool) (n : ℕ) → b ≡ false → a ≡ true → n ≡ 0
     → cond b (n + cond i 1 2) 0 + 1 ≡ cond a (n + cond i 1 2) 0
 scan_fewer b a i n x y z w = rw (x, y, z, w) refl
 
-scanned : (s : Size) (h : History) (c : ℕ) → online c h ≡ true → c < s.cpus → is_idle c h ≡ true
+pub scanned : (s : Size) (h : History) (c : ℕ) → online c h ≡ true → c < s.cpus → is_idle c h ≡ true
     → Surely s h (Scan c)
 scanned s h c o l i = record {
   accepted = grind (arith, nat_tests);
@@ -381,10 +385,6 @@ pub none_left : (b : Bool) → cond {A = ℕ} b 1 0 ≡ 0 → b ≡ false
 none_left true e = absurd (omega (arith, e))
 none_left false e = refl
 
-some_awaited : (b : Bool) → 0 < cond {A = ℕ} b 1 0 → b ≡ true
-some_awaited true l = refl
-some_awaited false l = absurd (omega (arith, l))
-
 one_fewer : (b a : Bool) → b ≡ false → a ≡ true → cond {A = ℕ} b 1 0 + 1 ≡ cond a 1 0
 one_fewer b a i j = rw (i, j) refl
 
@@ -447,7 +447,7 @@ quiet_next : (s : Size) (h : History) (c : ℕ) → AreAccepted s h → AreQuiet
     → 0 < left_of h c → (step : Step s left_of collects h c) × AreQuiet s (step.event ∷ h)
 unfolding AreQuiet collect_scan collect_report
 quiet_next s h c p q l m =
-    let a = some_awaited (awaits c h) m in
+    let a = is_awaited (awaits c h) 1 m in
     elim (q c l a) [
       | inl i ↦ (
         collect_scan s h c a (awaited_is_online s c h p a) l i,

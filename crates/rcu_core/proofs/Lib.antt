@@ -37,5 +37,6 @@ pub mod StepKinds
 pub mod Steps
 pub mod Waited
 pub mod Wanted
+pub mod WayOut
 pub mod WithMemory
 pub mod Writes

@@ -33,7 +33,7 @@ none_awaited : (b : Bool) → cond {A = ℕ} b 1 0 ≡ 0 → b ≡ false
 none_awaited true e = absurd (omega (arith, e))
 none_awaited false e = refl
 
-one_left : (s : Size) (h : History) → fault_in s (situation h) End ≡ None → steps_left s h ≡ 1
+pub one_left : (s : Size) (h : History) → fault_in s (situation h) End ≡ None → steps_left s h ≡ 1
 one_left s h p =
     let none : how_many s (λ c. awaits c h) ≡ 0 = grind (arith, nat_tests) in
     let count = sums_are s.cpus (λ c. cond {A = ℕ} (awaits c h) 1 0)

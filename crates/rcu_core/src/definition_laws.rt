@@ -1,6 +1,6 @@
 //! Laws that pin the definitions of histories, case by case.
 ghost use Rattle.std.specs.Prelude.{◌≡◌, ◌≢◌, ◌⊎◌, ◌+◌, ◌<◌, ◌≤◌, [], ◌∷◌, ℕ, Bool, List, None};
-ghost use Rattle.std.specs.Prelude.{Some, length, true};
+ghost use Rattle.std.specs.Prelude.{Some, false, length, true};
 ghost use Rattle.rcu_barrier.specs.Runs.{copies};
 ghost use Rattle.rcu_core.specs.Callbacks.{handed_out, queue_count, queued_before_barrier};
 ghost use Rattle.rcu_core.specs.Callbacks.{times_handed_out};
@@ -12,6 +12,7 @@ ghost use Rattle.rcu_core.specs.Progress.{SurelyLeads, collects, helps, hinders,
 ghost use Rattle.rcu_core.specs.Progress.{retires, steps_left};
 ghost use Rattle.rcu_core.specs.Replies.{AreAccepted, IsLegalReply, Size, answer};
 ghost use Rattle.rcu_core.specs.Situation.{situation};
+ghost use Rattle.rcu_core.specs.WayOut.{IsStepOut, IsWayOut, next_retiring_event, steps_out};
 ghost use Rattle.rcu_core.specs.Runs.{IsLegalRun, Run, history, takes};
 
 use crate::event::Event;
@@ -216,4 +217,61 @@ pub fn a_grace_period_ends_by_its_steps()
     ensures fewer { (size : Size) (run : Run) (count : ℕ) → IsLegalRun size run
         → running (history run) ≡ true → EndsBy retires size (history run) count
         → steps_left size (history run) ≤ count }
+{}
+
+/// The next event of the way out is an exit in a section, a step to idle outside of one, a scan of
+/// an idle processor, and the end once none is awaited. The first awaited processor goes first.
+pub fn the_next_event_out_is_of_the_first_awaited()
+    ensures inside { (last most : ℕ) →
+        next_retiring_event (record { cpus = 2; last = last; most = most })
+        (situation (Event.Enter 0 ∷ Event.Begin ∷ Event.Online 1 ∷ [])) ≡ Some (Event.Exit 0) }
+    ensures awake { (last most : ℕ) →
+        next_retiring_event (record { cpus = 2; last = last; most = most })
+        (situation (Event.Begin ∷ Event.Online 1 ∷ [])) ≡ Some (Event.Idle 0) }
+    ensures idle { (last most : ℕ) →
+        next_retiring_event (record { cpus = 2; last = last; most = most })
+        (situation (Event.Idle 0 ∷ Event.Begin ∷ Event.Online 1 ∷ [])) ≡ Some (Event.Scan 0) }
+    ensures second { (last most : ℕ) →
+        next_retiring_event (record { cpus = 2; last = last; most = most })
+        (situation (Event.Scan 0 ∷ Event.Idle 0 ∷ Event.Begin ∷ Event.Online 1 ∷ []))
+        ≡ Some (Event.Idle 1) }
+    ensures late { (last most : ℕ) →
+        next_retiring_event (record { cpus = 2; last = last; most = most })
+        (situation (Event.Scan 0 ∷ Event.Idle 0 ∷ Event.Online 1 ∷ Event.Begin ∷ []))
+        ≡ Some Event.End }
+    ensures none { (last most : ℕ) →
+        next_retiring_event (record { cpus = 2; last = last; most = most }) (situation []) ≡ None }
+{}
+
+/// A step to idle of an awaited processor is a step out. A note is not, nor is a scan that is
+/// refused, nor an exit of a processor that is not awaited, which leaves as many steps.
+pub fn a_step_out_leaves_one_step_fewer()
+    ensures idle { (most : ℕ) → IsStepOut (record { cpus = 1; last = 4; most = most })
+        (Event.Begin ∷ []) (Event.Idle 0) }
+    ensures note { (last most : ℕ) →
+        IsStepOut (record { cpus = 1; last = last; most = most }) (Event.Begin ∷ [])
+        (Event.Note 0) → ⊥ }
+    ensures late { (last most : ℕ) →
+        IsStepOut (record { cpus = 2; last = last; most = most })
+        (Event.Enter 1 ∷ Event.Online 1 ∷ Event.Begin ∷ []) (Event.Exit 1) → ⊥ }
+    ensures refused { (last most : ℕ) →
+        IsStepOut (record { cpus = 1; last = last; most = most }) (Event.Begin ∷ [])
+        (Event.Scan 0) → ⊥ }
+{}
+
+/// A way out goes on to the end of the grace period, and takes no event out of turn. It has as many
+/// events as are left, and none if no grace period runs.
+pub fn a_way_out_has_each_next_event()
+    ensures whole { (last most : ℕ) → IsWayOut (record { cpus = 1; last = last; most = most })
+        (Event.Begin ∷ []) (Event.Idle 0 ∷ Event.Scan 0 ∷ Event.End ∷ [])
+        (Event.End ∷ Event.Scan 0 ∷ Event.Idle 0 ∷ Event.Begin ∷ []) }
+    ensures part { (last most : ℕ) (reached : History)
+        → IsWayOut (record { cpus = 1; last = last; most = most }) (Event.Begin ∷ [])
+        (Event.Idle 0 ∷ Event.Scan 0 ∷ []) reached → ⊥ }
+    ensures other { (last most : ℕ) (events : List Event) (reached : History)
+        → IsWayOut (record { cpus = 1; last = last; most = most }) (Event.Begin ∷ [])
+        (Event.Scan 0 ∷ events) reached → ⊥ }
+    ensures left { (last most : ℕ) →
+        steps_out (record { cpus = 1; last = last; most = most }) (Event.Begin ∷ []) ≡ 3 }
+    ensures none { (size : Size) (h : History) → running h ≡ false → steps_out size h ≡ 0 }
 {}

@@ -34,9 +34,9 @@ use std::marker::Model;
 /// Contracts see these three parts.
 #[derive(Drop)]
 pub struct Core<A: Awaited, T: Drop> {
-    gp: GpState<A, T>,
+    pub(crate) gp: GpState<A, T>,
     /// Each processor, at its index.
-    cpus: Vec<CpuData>,
+    pub(crate) cpus: Vec<CpuData>,
     /// All reports, the first one first.
     reports: Vec<Report>,
     /// The allocator of everything that grows.

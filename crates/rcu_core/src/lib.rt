@@ -12,6 +12,7 @@ pub mod reply;
 pub mod run_laws;
 pub mod value_list;
 pub mod version_laws;
+pub mod way_out;
 
 pub use cpu_list::CpuList;
 pub use event::Event;

@@ -1,8 +1,8 @@
 //! No state is a dead end: the events that end a running grace period, how many are left, and what
 //! two grace periods finish. These laws do not say who makes these events, or when.
 ghost use Rattle.std.specs.Prelude.{◌≡◌, ◌≢◌, ◌≤◌, ◌<◌, ◌+◌, ◌⊎◌, [], ◌∷◌, ◌++◌, ℕ, true, false};
-ghost use Rattle.std.specs.Prelude.{count_by, length, List, Some, slice_get};
-ghost use Rattle.std.specs.List.{list_any};
+ghost use Rattle.std.specs.Prelude.{count_by, length, List, None, Some, slice_get};
+ghost use Rattle.std.specs.List.{list_all, list_any};
 ghost use Rattle.rcu_seq.specs.Numbers.{is_last, snapshot};
 ghost use Rattle.rcu_seq.specs.Tags.{cookie_at, is_done_at, last_epoch};
 ghost use Rattle.rcu_seq.specs.declared.cookie.Cookie.{Cookie};
@@ -14,12 +14,13 @@ ghost use Rattle.rcu_core.specs.History.{History, awaits, begins, departs, ends,
 ghost use Rattle.rcu_core.specs.History.{number, renumbers, running, tag_now};
 ghost use Rattle.rcu_core.specs.Links.{ToldSince, starts, tag};
 ghost use Rattle.rcu_core.specs.Progress.{CanDrain, CanFinishCookie, CanFinishBarrier, EndsBy};
-ghost use Rattle.rcu_core.specs.Progress.{HasReported, IsQuiet, SurelyLeads, collects, helps};
-ghost use Rattle.rcu_core.specs.Progress.{hinders, how_often, retires, steps_left};
+ghost use Rattle.rcu_core.specs.Progress.{HasEnded, HasReported, IsQuiet, SurelyLeads, collects};
+ghost use Rattle.rcu_core.specs.Progress.{helps, hinders, how_often, retires, steps_left};
 ghost use Rattle.rcu_core.specs.Core.{Represents, State, size_at};
 ghost use Rattle.rcu_core.specs.Replies.{AreAccepted, IsLegalReply, Size, answer, how_many};
 ghost use Rattle.rcu_core.specs.Runs.{IsLegalRun, Run, RunsLegally, history, takes};
 ghost use Rattle.rcu_core.specs.Situation.{situation};
+ghost use Rattle.rcu_core.specs.WayOut.{IsStepOut, IsWayOut, next_retiring_event, steps_out};
 
 use crate::event::Event;
 use crate::reply::Reply;
@@ -72,6 +73,32 @@ pub fn quiet_processors_end_a_grace_period()
 pub fn a_grace_period_can_end()
     ensures { (size : Size) (run : Run) → IsLegalRun size run → running (history run) ≡ true
         → EndsBy retires size (history run) (steps_left size (history run)) }
+{}
+
+/// While a grace period runs, and only then, there is a next event of the way out. It can not be
+/// refused, for want of memory either, and one step fewer is left after it.
+pub fn the_next_event_out_is_accepted()
+    ensures some { (size : Size) (h : History) → running h ≡ true
+        → (event : Event) × (next_retiring_event size (situation h) ≡ Some event) }
+    ensures none { (size : Size) (h : History) → running h ≡ false
+        → next_retiring_event size (situation h) ≡ None }
+    ensures step { (size : Size) (h : History) (event : Event) → AreAccepted size h
+        → next_retiring_event size (situation h) ≡ Some event → IsStepOut size h event }
+{}
+
+/// If each next event of the way out is taken, as many as are left end the running grace period:
+/// exits, steps to idle, scans and the end. None of them can be refused, for want of memory either.
+pub fn the_way_out_ends_a_grace_period()
+    ensures exists { (size : Size) (h : History) → AreAccepted size h
+        → (events : List Event) × ((reached : History) × IsWayOut size h events reached) }
+    ensures many { (size : Size) (events : List Event) (h reached : History) → AreAccepted size h
+        → IsWayOut size h events reached → length events ≡ steps_out size h }
+    ensures leads { (size : Size) (events : List Event) (h reached : History) → AreAccepted size h
+        → IsWayOut size h events reached → SurelyLeads size h events reached }
+    ensures each { (size : Size) (events : List Event) (h reached : History) → AreAccepted size h
+        → IsWayOut size h events reached → list_all retires events ≡ true }
+    ensures ended { (size : Size) (events : List Event) (h reached : History) → AreAccepted size h
+        → running h ≡ true → IsWayOut size h events reached → HasEnded h reached }
 {}
 
 /// Until the next grace period begins, only an enter or a wake of an awaited processor adds to the

@@ -8,3 +8,4 @@ mod machine;
 mod most;
 mod state;
 mod steps;
+mod way_out;
