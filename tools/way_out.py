@@ -1,8 +1,10 @@
 """Which events end the running grace period from the end of a script on, and who holds it up.
 
-That there are such events, as many as are left and none of them refused, is proved of the engine
-(rcu_core::progress::a_grace_period_can_end). Here they are only found and shown: ./rcu answers
-lines behind the script that show what each processor lacks, and then the way itself.
+The engine's own function for it is proved: rcu_core's Core::next_retiring_event names the events,
+one after another, as many as are left and none of them refused
+(rcu_core::progress::the_way_out_ends_a_grace_period). Here they are found apart from it, and shown:
+./rcu answers lines behind the script that show what each processor lacks, and then the way itself.
+Of one script tools/front_door and rcu_core_tests (events::way_out) have the same events.
 """
 import re
 

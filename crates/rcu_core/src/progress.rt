@@ -75,8 +75,8 @@ pub fn a_grace_period_can_end()
         → EndsBy retires size (history run) (steps_left size (history run)) }
 {}
 
-/// While a grace period runs, and only then, there is a next event of the way out. It can not be
-/// refused, for want of memory either, and one step fewer is left after it.
+/// While a grace period runs, and only then, there is a next event of the way out. It cannot be
+/// refused, not even for lack of memory, and one step fewer is left after it.
 pub fn the_next_event_out_is_accepted()
     ensures some { (size : Size) (h : History) → running h ≡ true
         → (event : Event) × (next_retiring_event size (situation h) ≡ Some event) }
@@ -86,8 +86,9 @@ pub fn the_next_event_out_is_accepted()
         → next_retiring_event size (situation h) ≡ Some event → IsStepOut size h event }
 {}
 
-/// If each next event of the way out is taken, as many as are left end the running grace period:
-/// exits, steps to idle, scans and the end. None of them can be refused, for want of memory either.
+/// The next events of the way out (`Core::next_retiring_event`), one after another, end the running
+/// grace period. There are `steps_left` of them: exits, steps to idle, scans and the end. None of
+/// them can be refused, not even for lack of memory.
 pub fn the_way_out_ends_a_grace_period()
     ensures exists { (size : Size) (h : History) → AreAccepted size h
         → (events : List Event) × ((reached : History) × IsWayOut size h events reached) }

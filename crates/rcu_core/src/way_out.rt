@@ -52,8 +52,8 @@ impl<A: Awaited> Core<A, u64> {
         u64::from(processor.depth()) + if processor.is_idle() { 1 } else { 2 }
     }
 
-    /// How many events end the running grace period by [`Core::next_retiring_event`]; 0 if none
-    /// runs. No way of exits, steps to idle, scans and an end is shorter. It costs a step a
+    /// Returns how many events end the running grace period by [`Core::next_retiring_event`]; 0 if
+    /// none runs. No way of exits, steps to idle, scans and an end is shorter. It costs a step a
     /// processor.
     pub fn steps_left(&self) -> u64
         ensures { (h : History) → Represents self.now h → result ≡ steps_out (size_at self.now) h }
@@ -70,12 +70,12 @@ impl<A: Awaited> Core<A, u64> {
         left
     }
 
-    /// The next event on the way to the end of the running grace period, or `None` if none runs. It
-    /// is of the first awaited processor: an exit while a section of it is open, then a step to
+    /// Returns the next event on the way to the end of the running grace period, or `None` if none
+    /// runs. It is of the first awaited processor: an exit while a section of it is open, then a step to
     /// idle, and once it is idle a scan. If no processor is awaited, it is the end.
     ///
-    /// [`Core::step`] does not refuse it, for want of memory either. If each event is asked for and
-    /// taken, as many as were left at first end the grace period, and no other way is shorter. It
+    /// [`Core::step`] does not refuse it, not even for lack of memory. If the caller takes each next
+    /// event, [`Core::steps_left`] of them end the grace period, and no other way is shorter. It
     /// costs a step a processor at most, and no memory.
     pub fn next_retiring_event(&self) -> Option<Event>
         ensures next { (h : History) → Represents self.now h
