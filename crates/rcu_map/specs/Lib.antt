@@ -12,6 +12,7 @@ pub mod Nexts
 pub mod Puts
 pub mod Room
 pub mod Runs
+pub mod SmallMap
 pub mod Splices
 pub mod Waits
 pub mod Words

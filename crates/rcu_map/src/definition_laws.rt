@@ -1,26 +1,37 @@
-//! The definitions of runs of a writer's calls.
-ghost use Rattle.std.specs.Prelude.{◌≡◌, ◌↔◌, ◌≤◌, ◌∷◌, ℕ, Bool, Err, List, None, Ok, Some};
-ghost use Rattle.std.specs.Prelude.{false, true};
+//! The definitions of runs of a writer's calls, and a small run that meets the laws' premises.
+ghost use Rattle.std.specs.Prelude.{◌<◌, ◌↔◌, ◌∷◌, ◌≡◌, ◌≤◌, [], ℕ, Bool, Err, List, None, Ok};
+ghost use Rattle.std.specs.Prelude.{Some, false, true};
 ghost use Rattle.rcu_live.specs.Numbers.{is_open_at};
 ghost use Rattle.rcu_live.specs.Watcher.{Watching};
 ghost use Rattle.rcu_graph.specs.Beside.{Moment};
 ghost use Rattle.rcu_graph.specs.Writer.{after_look};
-ghost use Rattle.rcu_graph.specs.Nodes.{nodes_in, stored_in};
+ghost use Rattle.rcu_graph.specs.Nodes.{IsHeld, nodes_in, stored_in};
 ghost use Rattle.rcu_graph.specs.Puts.{IsFreeNode};
 ghost use Rattle.rcu_graph.specs.declared.writer.Full.{Full};
 ghost use Rattle.rcu_graph.specs.declared.known.Node.{Node};
 ghost use Rattle.rcu_graph.specs.declared.known.Planned.{Planned};
 ghost use Rattle.rcu_graph.specs.declared.plan.Plan.{Plan};
-ghost use Rattle.rcu_map.specs.Beside.{AreMadeOver, HadEntry, HadKey};
+ghost use Rattle.rcu_graph.specs.Absence.{AreMadeBy};
+ghost use Rattle.rcu_graph.specs.Search.{IsSearched};
+ghost use Rattle.rcu_map.specs.Beside.{AreMadeOver, HadEntry, HadKey, IsMapOver, IsReadOver};
 ghost use Rattle.rcu_map.specs.Chains.{HasSizes, IsMap, buckets_in, capacity, plan_of_map};
 ghost use Rattle.rcu_map.specs.Compared.{IsAsRead, compared};
 ghost use Rattle.rcu_map.specs.Entries.{HasEntry, HasKey};
-ghost use Rattle.rcu_map.specs.Keys.{key_in};
+ghost use Rattle.rcu_map.specs.Keys.{bucket_of, key_in};
 ghost use Rattle.rcu_map.specs.Puts.{HasChanged, IsByOneStore, IsPutIn};
 ghost use Rattle.rcu_map.specs.Room.{IsAtCapacity, IsNoneFreeYet, LacksRoom};
 ghost use Rattle.rcu_map.specs.Words.{answered, as_words, words_if};
-ghost use Rattle.rcu_map.specs.Runs.{HasKeyThroughout, IsMapOf, IsRun, begun, changed};
+ghost use Rattle.rcu_map.specs.Runs.{HasKeyThroughout, IsMapOf, IsRun, begun, changed, last_of};
+ghost use Rattle.rcu_map.specs.Runs.{seen_in};
 ghost use Rattle.rcu_map.specs.declared.compared.Compared.{Compared};
+ghost use Rattle.rcu_map.specs.After.{IsNextAfter};
+ghost use Rattle.rcu_map.specs.Found.{IsGot};
+ghost use Rattle.rcu_map.specs.Listing.{GoOn, IsAtEnd, IsNextEntry, at_root};
+ghost use Rattle.rcu_map.specs.Nexts.{AreNexts, after_nexts};
+ghost use Rattle.rcu_map.specs.SmallMap.{hop_1, hop_2, small_calls, small_decode, small_first};
+ghost use Rattle.rcu_map.specs.SmallMap.{small_holds, small_hops, small_looked, small_moments};
+ghost use Rattle.rcu_map.specs.SmallMap.{small_nodes, small_plan};
+ghost use Rattle.rcu_map.specs.declared.cursor.Cursor.{Cursor};
 
 use crate::entry::Entry;
 
@@ -139,4 +150,71 @@ pub fn an_entry_has_a_word_beside_its_key()
     ensures least { HasSizes 1 2 0 }
     ensures key_alone { (buckets entries : ℕ) → HasSizes buckets 1 entries → ⊥ }
     ensures no_bucket { (width entries : ℕ) → HasSizes 0 width entries → ⊥ }
+{}
+
+/// The writer's calls are a run over the moments, which are those of a map, with the writer's seat
+/// 1 and a section of the number 4 on the seat 0. The key 3 is in the map throughout, since its
+/// entry is replaced. The key 6 is there between two calls only, and the key 8 never. The section's
+/// hops to both are true of the nodes at moments of the calls. The calls are no run over the
+/// moments before the look, and between the store of a replacement and the mark of the old node the
+/// nodes are those of no map.
+pub fn a_map_changes_beside_a_section()
+    ensures plan { (0 < small_plan.roots) × (small_plan.links ≡ 1) × (2 ≤ small_plan.words) }
+    ensures map { IsMapOver small_holds small_plan 1 10 small_moments }
+    ensures not_writer { IsMapOver small_holds small_plan 0 10 small_moments → ⊥ }
+    ensures reads { IsReadOver small_holds small_plan 0 4 10 small_moments }
+    ensures not_later { IsReadOver small_holds small_plan 0 8 10 small_moments → ⊥ }
+    ensures no_map { IsMap small_holds 2 small_plan.seed 2 5 (small_nodes 2) → ⊥ }
+    ensures run { (own : Watching Planned) →
+        (run : IsRun small_holds small_plan 4 (small_looked own))
+        × AreMadeOver small_holds small_plan 4 small_moments 10 (small_looked own) run
+        × (AreMadeOver small_holds small_plan 4 small_moments 7 (small_looked own) run → ⊥)
+        × HasKeyThroughout small_holds small_plan 4 3 (small_looked own) run
+        × (HasKeyThroughout small_holds small_plan 4 6 (small_looked own) run → ⊥)
+        × HadKey small_holds small_plan 4 6 (small_looked own) run
+        × (HadKey small_holds small_plan 4 8 (small_looked own) run → ⊥)
+        × HadEntry small_holds small_plan 4 (6 ∷ 60 ∷ []) (small_looked own) run
+        × AreMadeBy (seen_in small_holds small_plan 4 (small_looked own) run)
+        (last_of small_holds small_plan 4 (small_looked own) run) (hop_2 ∷ hop_1 ∷ []) }
+{}
+
+/// The section finds the entry of the key 3, and that of the key 6 when it was removed already, and
+/// none of the key 5, which belongs to the other bucket. It does not find the key 6 before it
+/// comes to that node, and then it does not miss it.
+pub fn a_section_finds_entries()
+    ensures stays { IsSearched (bucket_of 2 small_plan.seed 3) 3 (small_moments 1).section (Some 2)
+        (small_moments 2).section }
+    ensures searched { IsSearched (bucket_of 2 small_plan.seed 6) 6 (small_moments 1).section
+        (Some 3) (small_moments 9).section }
+    ensures held { IsHeld (small_moments 9).section 3 (6 ∷ 60 ∷ []) }
+    ensures got { IsGot small_holds small_decode 2 small_plan.seed 6 (small_moments 1).section
+        (Some 60) (small_moments 9).section }
+    ensures got_none { IsGot small_holds small_decode 2 small_plan.seed 5 (small_moments 0).section
+        None (small_moments 1).section }
+    ensures not_none { IsGot small_holds small_decode 2 small_plan.seed 6
+        (small_moments 1).section None (small_moments 9).section → ⊥ }
+    ensures not_yet { IsSearched (bucket_of 2 small_plan.seed 6) 6 (small_moments 1).section
+        (Some 3) (small_moments 2).section → ⊥ }
+{}
+
+/// The section lists both entries, by calls of `next` up to the end, and by steps from a key to the
+/// next one. No iterator is at its end if it passed over an entry, or before the end of the last
+/// bucket, and none goes on to the second entry over the first one.
+pub fn a_section_lists_entries()
+    ensures lists { GoOn 2 small_plan.seed (at_root 0) (small_hops 4) (at_root 2) }
+    ensures first { small_first.known ≡ (small_moments 0).section }
+    ensures nexts { AreNexts small_holds small_decode 2 small_plan.seed small_first small_calls }
+    ensures ended { IsAtEnd 2 small_plan.seed (after_nexts small_first small_calls).known
+        (after_nexts small_first small_calls).at (small_moments 10).section (at_root 2) }
+    ensures next_after { IsNextAfter small_holds small_decode 2 small_plan.seed 3
+        (small_moments 1).section (Some 60) (small_moments 9).section }
+    ensures in_next_bucket { IsNextAfter small_holds small_decode 2 small_plan.seed 5
+        (small_moments 0).section (Some 30) (small_moments 2).section }
+    ensures not_at_end { (at : Cursor) → IsAtEnd 2 small_plan.seed (small_moments 0).section
+        (at_root 0) (small_moments 9).section at → ⊥ }
+    ensures not_ended { IsAtEnd 2 small_plan.seed (small_moments 0).section (at_root 0)
+        (small_moments 1).section (at_root 1) → ⊥ }
+    ensures not_passed { (entry : ℕ) (at : Cursor) → IsNextEntry small_holds small_decode 2
+        small_plan.seed (small_moments 1).section (at_root 1) (small_moments 9).section at entry →
+        ⊥ }
 {}
