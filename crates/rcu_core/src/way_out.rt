@@ -71,12 +71,12 @@ impl<A: Awaited> Core<A, u64> {
     }
 
     /// Returns the next event on the way to the end of the running grace period, or `None` if none
-    /// runs. It is of the first awaited processor: an exit while a section of it is open, then a step to
-    /// idle, and once it is idle a scan. If no processor is awaited, it is the end.
+    /// runs. It is of the first awaited processor: an exit while a section of it is open, then a
+    /// step to idle, and once it is idle a scan. If no processor is awaited, it is the end.
     ///
-    /// [`Core::step`] does not refuse it, not even for lack of memory. If the caller takes each next
-    /// event, [`Core::steps_left`] of them end the grace period, and no other way is shorter. It
-    /// costs a step a processor at most, and no memory.
+    /// [`Core::step`] does not refuse it, not even for lack of memory. If the caller takes each
+    /// next event, [`Core::steps_left`] of them end the grace period, and no other way is shorter.
+    /// It costs a step a processor at most, and no memory.
     pub fn next_retiring_event(&self) -> Option<Event>
         ensures next { (h : History) → Represents self.now h
             → result ≡ next_retiring_event (size_at self.now) (situation h) }
