@@ -315,8 +315,8 @@ static inline uint32_t rcu_end(rcu_t *rcu, uint64_t *number) {
     return result;
 }
 
-/* Ends the grace period if nobody is awaited; begins one if none runs and a tended callback waits
- * for it. Writes what it did.
+/* Ends the grace period if no processor is awaited; begins one if none runs and a tended callback
+ * waits for it. Writes what it did.
  * It orders what rcu_begin or rcu_end orders.
  * Fault 11: one would begin, and the number is the last one.
  * Fence: behind.
@@ -716,8 +716,8 @@ uint32_t rcu_defer_shrink(rcu_seat_t *seat, uint64_t *room);
 
 /* One step of driving. While a grace period runs it collects from each processor that is awaited;
  * if none runs it begins one if a tended callback or an rcu_start_poll waits for it. Then it ends
- * one that awaits nobody. Writes what it did. It costs a load for each processor that is awaited,
- * and at a begin a load a processor.
+ * one that awaits no processor. Writes what it did. It costs a load for each processor that is
+ * awaited, and at a begin a load a processor.
  * The driver calls this again and again, and lets other threads run in between while it awaits
  * someone. It orders what rcu_begin, rcu_collect and rcu_end order.
  * Fault 11: one would begin, and the number is the last one.

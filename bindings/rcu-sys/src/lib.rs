@@ -273,8 +273,8 @@ extern "C" {
     ///
     /// Fence: behind.
     pub fn rcu_end_unfenced(rcu: *mut rcu_t, number: *mut u64) -> u32;
-    /// Ends the grace period if nobody is awaited; begins one if none runs and a tended callback
-    /// waits for it. Writes what it did.
+    /// Ends the grace period if no processor is awaited; begins one if none runs and a tended
+    /// callback waits for it. Writes what it did.
     ///
     /// It orders what `rcu_begin` or `rcu_end` orders.
     ///
@@ -548,7 +548,7 @@ extern "C" {
     pub fn rcu_defer_shrink(seat: *mut rcu_seat_t, room: *mut u64) -> u32;
     /// One step of driving. While a grace period runs it collects from each processor that is
     /// awaited; if none runs it begins one if a tended callback or an `rcu_start_poll` waits for
-    /// it. Then it ends one that awaits nobody. Writes what it did. It costs a load for each
+    /// it. Then it ends one that awaits no processor. Writes what it did. It costs a load for each
     /// processor that is awaited, and at a begin a load a processor.
     ///
     /// The driver calls this again and again, and lets other threads run in between while it awaits
@@ -883,8 +883,8 @@ pub unsafe fn rcu_end(rcu: *mut rcu_t, number: *mut u64) -> u32 {
     result
 }
 
-/// Ends the grace period if nobody is awaited; begins one if none runs and a tended callback waits
-/// for it. Writes what it did.
+/// Ends the grace period if no processor is awaited; begins one if none runs and a tended callback
+/// waits for it. Writes what it did.
 ///
 /// It orders what `rcu_begin` or `rcu_end` orders.
 ///
@@ -1097,8 +1097,8 @@ pub unsafe fn rcu_defer_run(
 
 /// One step of driving. While a grace period runs it collects from each processor that is awaited;
 /// if none runs it begins one if a tended callback or an `rcu_start_poll` waits for it. Then it
-/// ends one that awaits nobody. Writes what it did. It costs a load for each processor that is
-/// awaited, and at a begin a load a processor.
+/// ends one that awaits no processor. Writes what it did. It costs a load for each processor that
+/// is awaited, and at a begin a load a processor.
 ///
 /// The driver calls this again and again, and lets other threads run in between while it awaits
 /// someone. It orders what `rcu_begin`, `rcu_collect` and `rcu_end` order.

@@ -26,8 +26,7 @@ pub record AllLists (X : Type 0) : Type 0 where
   pub queued : ℕ
   pub most : ℕ
 
--- what contracts see of all lists: their value, and for how many items each list has room before it
--- grows
+-- the view of all lists in contracts:
 pub record ListsWithRooms (X : Type 0) : Type 0 where
   pub all : AllLists X
   pub rooms : List ℕ

@@ -63,7 +63,7 @@ pub struct Lists<T: Drop> {
     lists: Vec<SegList<T>>,
     /// Which processors the barrier visited.
     visits: Visits,
-    /// Whether a barrier runs.
+    /// True if a barrier runs.
     running: bool,
     /// How many callbacks were queued.
     queued: u64,

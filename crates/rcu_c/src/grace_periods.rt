@@ -108,8 +108,8 @@ pub extern "C" fn rcu_end_unfenced(rcu: &mut Rcu, number: &mut u64) -> u32
     write_out(opened.inner.end(), number)
 }
 
-/// Ends the grace period if nobody is awaited; begins one if none runs and a tended callback waits
-/// for it. Writes what it did.
+/// Ends the grace period if no processor is awaited; begins one if none runs and a tended callback
+/// waits for it. Writes what it did.
 ///
 /// It orders what `rcu_begin` or `rcu_end` orders.
 ///

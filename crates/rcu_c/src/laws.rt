@@ -205,8 +205,8 @@ pub fn calls_are_steps_of_a_run()
         (engine_of (on_grace (λ g. grace.after_barrier_test g) rcu)) }
 {}
 
-/// Calls after a run go on with it: a run from the engine that it left is with it one run, which
-/// leaves what the second one leaves.
+/// Calls after a run continue it: a run from the engine that another run left forms one run with
+/// that, and leaves the engine that the second one leaves.
 pub fn a_run_goes_on_from_the_end_of_another()
     ensures run { (first : Locked Planned ℕ) (calls more : List (Call ℕ)) → IsRun first calls →
         IsRun (engine_after first calls) more → IsRun first (more ++ calls) }

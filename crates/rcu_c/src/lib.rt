@@ -3,8 +3,8 @@
 //! makes a fence: round those whose names end in `_unfenced` the header does, by functions of the
 //! names without that.
 //!
-//! Of a handle that is closed (fault 27), or of the other kind (28), a call says so before all
-//! else, and changes nothing. One that returns no fault says what it says of no processor.
+//! A call refuses a handle that is closed (fault 27), or of the other kind (28), before all else,
+//! and changes nothing. A call that returns no fault returns what it would for no processor.
 #![tactic(auto)]
 
 pub mod barrier_steps;

@@ -41,8 +41,8 @@ use rcu_live::progress::{
 
 /// `rcu_drive` ends a running grace period if the own word of each awaited processor, as the call
 /// finds it, says that it is quiescent. The call is accepted, and writes that it ended one, and the
-/// number. Nobody is awaited then. The number is the one that the running grace period ends at, and
-/// a cookie that waited for it is done.
+/// number. Then no processor is awaited. The number is the one that the running grace period ends
+/// at, and a cookie that waited for it is done.
 pub fn a_drive_ends_a_quiet_grace_period()
     ensures accepted { (rcu : Option Contents) → (grace_of rcu).seq.running ≡ true →
         engine_number rcu

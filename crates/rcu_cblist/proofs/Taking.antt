@@ -379,7 +379,7 @@ module _ {X : Type 0} where
   pub some_is : (xs : List (Item X)) → is_empty xs ≡ false → xs ≡ [] → ⊥
   some_is xs some none = let is : false ≡ true = sym some ∙ ap is_empty none in absurd cc
 
-  -- a list that leaves has a marker more if one is wanted and it is not empty
+  -- a list that leaves has one more marker if one is requested and it is not empty
   pub leaving_length : (xs : List (Item X)) (wanted : Bool) → is_empty xs ≡ false →
       length (as_it_leaves xs wanted) ≡ length xs + bool_byte wanted
   leaving_length xs false some = omega arith

@@ -20,7 +20,7 @@ module _ {X : Type 0} where
   unmarked xs = marked Unmarked xs
 
   -- the entries that go in front of a target, if this number of items moves in front of it and the
-  -- others behind it, with a marker behind the last one if one is wanted
+  -- others behind it, with a marker behind the last one if one is requested
   abbrev pub moved_in_front : List (Entry X) → ℕ → Bool → List (Entry X)
   moved_in_front xs ahead wanted =
       take ahead xs

@@ -22,7 +22,7 @@ pub data Item (X : Type 0) : Type 0 where
   Of : Queued X → Mark → Item X
   Marker : Item X
 
--- what contracts see of a list: its items, and how many of them it has room for before it grows
+-- the view of a list in contracts:
 pub record Segmented (X : Type 0) : Type 0 where
   pub items : List (Item X)
   pub room : ℕ
@@ -126,7 +126,7 @@ module _ {X : Type 0} where
   abbrev pub after_entrain : List (Item X) → List (Item X)
   after_entrain xs = if is_empty xs then xs else xs ++ Marker ∷ []
 
-  -- the list as it leaves, with a marker put behind it first if one is wanted
+  -- the list as it leaves, with a marker put behind it first if one is requested
   abbrev pub as_it_leaves : List (Item X) → Bool → List (Item X)
   as_it_leaves xs wanted = if wanted then after_entrain xs else xs
 
@@ -239,7 +239,7 @@ module _ {X : Type 0} where
   take_refusal xs most = first_fault ((nat_lt 0 (length (take_answer xs most)), NoMemory) ∷ [])
 
   -- why a list may not move: it has items, and the target has no room for them and for the marker,
-  -- if one is wanted
+  -- if one is requested
   abbrev pub move_refusal : Segmented X → Bool → Segmented X → Option Fault
   move_refusal list marked target =
       first_fault ((

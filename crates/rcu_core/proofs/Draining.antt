@@ -136,7 +136,7 @@ drained_accepted s (suc n) h l p =
       ((tend_accepts s g n k).accepted, drained_accepted s n h (omega (arith, l)) p),
     )
 
--- where they are
+-- the history after these tends extends the one before
 tended_on : (n : ℕ) (h : History) → Behind drains h (tended n h)
 tended_on zero h = record { later = []; is = refl; each = refl }
 tended_on (suc n) h = let o = tended_on n h in record {

@@ -29,7 +29,7 @@ use Rattle.rcu_core.specs.declared.event.Event.TheVariants.{Visit, BarTest, Renu
 use Rattle.rcu_core.specs.declared.reply.Reply.{Reply}
 use Rattle.rcu_core.specs.declared.reply.Reply.TheVariants as reply
 
--- memory is wanted
+-- memory is refused
 abbrev is_want : Reply → Bool
 is_want (reply.Fault fault.NoMemory) = true
 is_want _ = false

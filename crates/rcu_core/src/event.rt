@@ -60,7 +60,7 @@ pub enum Event {
     Idle(u32),
     /// The processor wakes. Faults: `BadCpu` (1), `Offline` (2), `NotIdle` (24).
     Wake(u32),
-    /// The processor is scanned, and found idle. That counts as a report of it with the tag of now.
+    /// The processor is scanned, and found idle. This counts as a report of it with the tag of now.
     /// Faults: `BadCpu` (1), `Offline` (2), `NotIdle` (24).
     Scan(u32),
 }

@@ -34,7 +34,7 @@ pub enum Reply {
     Awaits(CpuList),
     /// The cookie that was taken.
     Cookie(Cookie),
-    /// Whether the cookie is done.
+    /// True if the cookie is done.
     Polled(bool),
     /// How many callbacks were queued so far, which is the place of this one among them.
     Queued(u64),

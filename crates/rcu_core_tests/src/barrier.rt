@@ -1,5 +1,5 @@
-//! The barrier over empty lists and during a departure, migrated callbacks, what a refused growth
-//! leaves, and a million callbacks.
+//! The barrier over empty lists and during a departure, migrated callbacks, the state after a
+//! refused growth, and a million callbacks.
 ghost use Rattle.std.specs.Prelude.{◌≤◌, ◌%◌, ◌^◌};
 
 mod most;
@@ -61,7 +61,7 @@ fn refused(rt: &impl Abort, row: usize, fault: Fault, lists: &Lists<u64>, before
     compare(rt, row, (fault, ask(rt, lists)), (Fault::NoMemory, before));
 }
 
-/// Lists for so many processors, made by a second call where the first is refused a growth.
+/// Lists for this many processors, made by a second call if the first is refused memory.
 fn lists_of(rt: &impl Abort, alloc: Global, cpus: u32) -> Lists<u64>
     requires some { 1 ≤ cpus }
     requires few { cpus ≤ 4096 }
@@ -94,8 +94,8 @@ fn queue_again(
     compare(rt, row, queued.map_err(|back| back.fault), Ok(wanted));
 }
 
-/// Queues a row's callback, by a second call where the first is refused a growth, and compares how
-/// many were queued.
+/// Queues a row's callback, by a second call if the first is refused memory, and compares how many
+/// were queued.
 fn queue(rt: &impl Abort, row: usize, lists: &mut Lists<u64>, cpu: u32, value: u64, wanted: u64) {
     let before = ask(rt, lists);
     assert!(rt; cpu < lists.cpus());
@@ -144,8 +144,8 @@ fn tend(
     compare(rt, row, tended(rt, row, lists, cpu, number), wanted);
 }
 
-/// Takes a row's callbacks, by a second call where the first is refused a growth, and compares
-/// their values.
+/// Takes a row's callbacks, by a second call if the first is refused memory, and compares their
+/// values.
 fn run(rt: &impl Abort, row: usize, lists: &mut Lists<u64>, cpu: u32, max: u64, wanted: &[u64]) {
     have_values(rt, row, &take(rt, row, lists, cpu, max), wanted);
 }
@@ -158,7 +158,7 @@ fn have_values(rt: &impl Abort, row: usize, calls: &[Queued<u64>], wanted: &[u64
     }
 }
 
-/// Takes a row's callbacks, by a second call where the first is refused a growth.
+/// Takes a row's callbacks, by a second call if the first is refused memory.
 fn take(
     rt: &impl Abort,
     row: usize,
@@ -178,8 +178,8 @@ fn take(
     }
 }
 
-/// Moves processor 1's list, by a second call where the first is refused a growth, and compares how
-/// many moved.
+/// Moves processor 1's list, by a second call if the first is refused memory, and compares how many
+/// moved.
 fn migrate(rt: &impl Abort, row: usize, lists: &mut Lists<u64>, wanted: u64) {
     let before = ask(rt, lists);
     let mut moved = migrate_once(rt, row, lists);
@@ -199,8 +199,7 @@ fn migrate_once(rt: &impl Abort, row: usize, lists: &mut Lists<u64>) -> Result<u
     Ok(moved)
 }
 
-/// Visits a processor, by a second call where the first is refused a growth, and compares what it
-/// did.
+/// Visits a processor, by a second call if the first is refused memory, and compares the result.
 fn visit(rt: &impl Abort, row: usize, lists: &mut Lists<u64>, cpu: u32, wanted: Visit) {
     let before = ask(rt, lists);
     let mut visit = visit_once(rt, row, lists, cpu);
@@ -211,7 +210,7 @@ fn visit(rt: &impl Abort, row: usize, lists: &mut Lists<u64>, cpu: u32, wanted: 
     compare(rt, row, visit, Ok(wanted));
 }
 
-/// Visits a processor, which is visited then, unless that is refused: what it did.
+/// Visits a processor, which is then visited unless that is refused, and returns the result.
 fn visit_once(
     rt: &impl Abort,
     row: usize,
@@ -225,7 +224,7 @@ fn visit_once(
     Ok(visit)
 }
 
-/// A visit of processor 0 where no barrier runs.
+/// A visit of processor 0 while no barrier runs.
 fn no_visit(rt: &impl Abort, row: usize, lists: &mut Lists<u64>) {
     assert!(rt; 0 < lists.cpus());
     compare(rt, row, lists.visit(0), Err(Fault::NoBarrier));
@@ -237,7 +236,7 @@ fn carries(rt: &impl Abort, row: usize, lists: &Lists<u64>, cpu: u32, wanted: Op
     compare(rt, row, lists.greatest_waiting(cpu), wanted);
 }
 
-/// A call on the lists of two processors, with what it has to answer, or a look.
+/// A call on the lists of two processors, with its expected answer, or a query.
 #[derive(Drop)]
 enum Step<'a> {
     /// Queues a callback on a processor: its value, and how many were queued then.
@@ -248,7 +247,7 @@ enum Step<'a> {
     Renumber,
     /// The greatest number that a callback of a processor carries.
     Greatest(u32, Option<u64>),
-    /// Takes at most so many callbacks of a processor: their values.
+    /// Takes at most this many callbacks of a processor: their values.
     Run(u32, u64, &'a [u64]),
     /// Moves processor 1's list: how many moved.
     Migrate(u64),
@@ -256,11 +255,11 @@ enum Step<'a> {
     Begin(Result<(), Fault>),
     /// Visits a processor.
     Visit(u32, Visit),
-    /// A visit of processor 0 where no barrier runs.
+    /// A visit of processor 0 while no barrier runs.
     NoVisit,
     /// Tests the barrier.
     Test(Result<BarrierState, Fault>),
-    /// Whether a barrier runs.
+    /// True if a barrier runs.
     IsRunning(bool),
     /// No more callback is queued on either processor.
     Full,
@@ -386,7 +385,7 @@ fn barrier_behind_callbacks(rt: HostRuntime) {
     );
 }
 
-/// What waits loses its numbers on both processors; what is done stays, and so do the counts. A
+/// Waiting callbacks lose their numbers on both processors; done ones stay, and so do the counts. A
 /// barrier goes on.
 #[test]
 fn renumbering_during_a_barrier(rt: HostRuntime) {

@@ -1,5 +1,5 @@
-//! Each public call once, the values of three marks in a list, what a refused growth leaves, and
-//! calls drawn at random.
+//! Each public call once, the values of three marks in a list, the state after a refused growth,
+//! and calls drawn at random.
 
 mod plain;
 mod random;
@@ -48,8 +48,8 @@ fn call(ord: u64, number: u64, value: u64) -> Queued<u64> {
     }
 }
 
-/// Queues a row's callback, by a second call where the first is refused a growth, and compares what
-/// that one hands back.
+/// Queues a row's callback, by a second call if the first is refused memory, and compares the value
+/// that is handed back.
 fn queue(rt: &impl Abort, row: usize, list: &mut SegList<u64>, call: Queued<u64>) {
     let before = ask(list);
     let (ord, at, value) = (call.ord, call.at, call.value);
@@ -82,8 +82,7 @@ fn compare_taken(rt: &impl Abort, row: usize, taken: &Taken<u64>, wanted: &[u64]
     }
 }
 
-/// Takes a row's callbacks, by a second call where the first is refused a growth, and compares
-/// them.
+/// Takes a row's callbacks, by a second call if the first is refused memory, and compares them.
 fn take(
     rt: &impl Abort,
     row: usize,
@@ -103,7 +102,7 @@ fn take(
     compare_taken(rt, row, &taken, wanted, markers);
 }
 
-/// Moves a row's list, by a second call where the first is refused a growth.
+/// Moves a row's list, by a second call if the first is refused memory.
 fn migrate(rt: &impl Abort, row: usize, list: &mut SegList<u64>, target: &mut SegList<u64>) {
     let (before, there) = (ask(list), ask(target));
     if let Err(fault) = list.migrate_into(target) {
@@ -113,8 +112,7 @@ fn migrate(rt: &impl Abort, row: usize, list: &mut SegList<u64>, target: &mut Se
     }
 }
 
-/// Moves a row's list with a marker behind it, by a second call where the first is refused a
-/// growth.
+/// Moves a row's list with a marker behind it, by a second call if the first is refused memory.
 fn migrate_marked(rt: &impl Abort, row: usize, list: &mut SegList<u64>, target: &mut SegList<u64>) {
     let (before, there) = (ask(list), ask(target));
     if let Err(fault) = list.move_into(target, true) {
@@ -124,8 +122,8 @@ fn migrate_marked(rt: &impl Abort, row: usize, list: &mut SegList<u64>, target: 
     }
 }
 
-/// Puts a marker behind a row's list, by a second call where the first is refused a growth, and
-/// compares whether it did.
+/// Puts a marker behind a row's list, by a second call if the first is refused memory, and compares
+/// whether it did.
 fn entrain(rt: &impl Abort, row: usize, list: &mut SegList<u64>, wanted: bool) {
     let before = ask(list);
     let mut marked = list.entrain();
@@ -155,7 +153,7 @@ fn counts(
     compare(rt, row, list.count().checked_sub(done), Some(waiting));
 }
 
-/// A call on a list, with what it has to answer, or a look at the list.
+/// A call on a list, with its expected answer, or a query of the list.
 enum Step<'a> {
     /// Queues a callback of this order number, number of epoch 0 at queueing, and value.
     Queue(u64, u64, u64),
@@ -165,7 +163,7 @@ enum Step<'a> {
     Advance(u64),
     /// Takes the numbers from what waits.
     Renumber,
-    /// Takes at most so many: which values, and how many markers were passed.
+    /// Takes at most this many: the values, and how many markers were dropped.
     Take(u64, &'a [u64], u64),
     /// Puts a marker behind: whether it did.
     Entrain(bool),
@@ -179,7 +177,7 @@ enum Step<'a> {
     Counts(u64, u64, Option<u64>),
     /// The sizes of the segments.
     Segments([u64; 4]),
-    /// Whether nothing is in the list.
+    /// True if the list is empty.
     IsEmpty(bool),
 }
 
@@ -386,7 +384,7 @@ fn migration_with_a_marker(rt: HostRuntime) {
     );
 }
 
-/// What waits loses its numbers in its order; what is done and the markers stay.
+/// Waiting callbacks lose their numbers, in the same order; done ones and markers stay.
 #[test]
 fn renumbering_a_list(rt: HostRuntime) {
     make_all(

@@ -1,4 +1,4 @@
-//! A caller of the event core: what it knows of the replies by the laws of runs alone.
+//! A caller of the event core, and its knowledge about the replies by the laws of runs alone.
 ghost use Rattle.std.specs.Prelude.{◌≡◌, ◌≤◌, ℕ, [], false, length, replicate, IfOk, true};
 ghost use Rattle.rcu_seq.specs.Tags.{first_tag};
 ghost use Rattle.rcu_core.specs.Callbacks.{times_handed_out};

@@ -5,7 +5,7 @@ use rcu_report::Report;
 use rcu_seq::{Fault, Tag};
 use std::process::Abort;
 
-/// A call, with what it has to answer, or a look.
+/// A call, with its expected answer, or a query.
 enum Step {
     Enter(Result<u32, Fault>),
     Exit(Result<u32, Fault>),
@@ -20,10 +20,10 @@ enum Step {
     Depart(Result<(), Fault>),
     Idle(Result<(), Fault>),
     Wake(Result<(), Fault>),
-    /// Whether the processor is idle.
+    /// True if the processor is idle.
     IsIdle(bool),
-    /// Whether the processor is online, the depth of its section, and the number and the epoch
-    /// noted.
+    /// The processor's state: whether it is online, the depth of its section, and the number and
+    /// the epoch noted.
     Is(bool, u32, u64, u64),
 }
 

@@ -10,7 +10,7 @@ fn geometry<const LEAF: u32, const FAN: u32>(rt: &impl Abort, cpus: u32) -> Geom
     Geometry::new(cpus).expect(rt, "there is such a tree")
 }
 
-/// Compares where each level begins and how many nodes it has, and how many nodes there are.
+/// Compares the first node of each level, how many nodes it has, and the number of all nodes.
 fn has_levels<const LEAF: u32, const FAN: u32>(
     rt: &impl Abort,
     cpus: u32,
@@ -36,7 +36,7 @@ fn has_levels<const LEAF: u32, const FAN: u32>(
     }
 }
 
-/// Compares why there is no such tree.
+/// Compares the fault for a tree of this shape.
 fn refuses<const LEAF: u32, const FAN: u32>(rt: &impl Abort, cpus: u32, wanted: Fault) {
     match Geometry::<LEAF, FAN>::new(cpus) {
         Ok(_) => panic!(rt; "there is such a tree"),
@@ -72,7 +72,7 @@ fn shape_limits(rt: HostRuntime) {
     refuses_cpus(&rt, 4097);
 }
 
-/// There is no tree of fanouts below 2 or above 64.
+/// Compares the fault for fanouts below 2 or above 64.
 fn refuses_fanouts(rt: &impl Abort, cpus: u32) {
     refuses::<1, 2>(rt, cpus, Fault::BadFanout);
     refuses::<65, 2>(rt, cpus, Fault::BadFanout);
@@ -80,7 +80,7 @@ fn refuses_fanouts(rt: &impl Abort, cpus: u32) {
     refuses::<2, 65>(rt, cpus, Fault::BadFanout);
 }
 
-/// There is no tree of so many processors.
+/// Compares the fault for a tree of this many processors.
 fn refuses_cpus(rt: &impl Abort, cpus: u32) {
     refuses::<2, 2>(rt, cpus, Fault::TooManyCpus);
     refuses::<64, 64>(rt, cpus, Fault::TooManyCpus);

@@ -7,7 +7,7 @@ use rcu_seq::{Fault, Tag};
 use std::alloc::Global;
 use std::process::Abort;
 
-/// So many processors over a flat set, made by a second call where the first is refused a growth.
+/// This many processors over a flat set, made by a second call if the first is refused memory.
 fn over_flat(rt: &impl Abort, alloc: Global, cpus: u32) -> Hotplug<Flat> {
     match Hotplug::new(alloc, flat(rt, alloc, cpus)) {
         Ok(hotplug) => hotplug,
@@ -18,7 +18,7 @@ fn over_flat(rt: &impl Abort, alloc: Global, cpus: u32) -> Hotplug<Flat> {
     }
 }
 
-/// The processors over a tree, made by a second call where the first is refused a growth.
+/// The processors over a tree, made by a second call if the first is refused memory.
 fn over_tree(rt: &impl Abort, alloc: Global) -> Hotplug<Tree<2, 2>> {
     match Hotplug::new(alloc, tree(rt, alloc, 5)) {
         Ok(hotplug) => hotplug,
@@ -172,7 +172,7 @@ fn come_and_go_over_tree(rt: HostRuntime) {
     come_and_go(&rt, over_tree(&rt, rt.alloc()));
 }
 
-/// So many processors are made, and no more.
+/// This many processors are made, and no more.
 fn has_size(rt: &impl Abort, alloc: Global, cpus: u32) {
     let mut hotplug = over_flat(rt, alloc, cpus);
     compare(rt, "cpus", hotplug.awaited().cpus(), cpus);

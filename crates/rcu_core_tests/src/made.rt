@@ -1,4 +1,4 @@
-//! Sets and trees, each made by a second call where the first is refused a growth.
+//! Sets and trees, each made by a second call if the first is refused memory.
 ghost use Rattle.std.specs.Prelude.{◌≡◌, false, replicate};
 ghost use Rattle.rcu_seq.specs.Tags.{first_tag};
 
@@ -9,7 +9,7 @@ use std::alloc::Global;
 use std::fmt::Debug;
 use std::process::Abort;
 
-/// Compares what came of a row with what was wanted: a test that fails says its row.
+/// Compares the outcome of a row with the expected one: a test that fails says its row.
 pub fn compare<R: Debug + Drop, T: Debug + Drop + PartialEq>(
     rt: &impl Abort,
     row: R,

@@ -64,12 +64,12 @@ fn awaits<A: Awaited>(rt: &impl Abort, awaited: &A, cpus: &[(u32, bool, bool)]) 
     }
 }
 
-/// Begins a grace period of epoch 0, and compares what the counts say.
+/// Begins a grace period of epoch 0, and compares the counts.
 fn begin<A: Awaited>(rt: &impl Abort, awaited: &mut A, number: u64, set: &CpuSet) {
     begin_at(rt, awaited, Tag::of_first_epoch(number), set);
 }
 
-/// Begins a grace period, and compares what the counts say.
+/// Begins a grace period, and compares the counts.
 fn begin_at<A: Awaited>(rt: &impl Abort, awaited: &mut A, now: Tag, set: &CpuSet) {
     assert_eq!(rt; set.cpus(), awaited.cpus());
     assert_eq!(rt; now.number % 4, 1);
@@ -222,10 +222,10 @@ fn has_bits(rt: &impl Abort, set: &CpuSet, words: &[(u32, u32, u64)]) {
 /// Processors in the order in which they are put in, and whether each is new.
 static PUT: [(u32, bool); 5] = [(0, true), (63, true), (64, true), (129, true), (64, false)];
 
-/// Whether these are in the set once one was taken out.
+/// The processors of the set after one was removed, and those not in it.
 static LEFT: [(u32, bool); 5] = [(0, true), (63, false), (64, true), (65, false), (129, true)];
 
-/// Whether they are in a copy of it from before.
+/// The same for an earlier copy of it.
 static COPIED: [(u32, bool); 5] = [(0, true), (63, true), (64, true), (65, false), (129, true)];
 
 /// The flags then, as words of a first processor and a number of processors.
@@ -256,7 +256,7 @@ fn set_of_three_words(rt: HostRuntime) {
     fill_and_copy(&rt, &mut set, &mut copy);
 }
 
-/// Whether these processors are in a union.
+/// The processors of a union, and those not in it.
 static UNION: [(u32, bool); 6] = [
     (0, true),
     (1, false),
@@ -283,14 +283,14 @@ fn union_of_three_words(rt: HostRuntime) {
     unite(&rt, &mut set, &mut other);
 }
 
-/// No set of so many processors is made.
+/// No set of this many processors is made.
 fn no_set(rt: &impl Abort, alloc: Global, cpus: u32) {
     let found = (CpuSet::new(alloc, cpus).err(), Flat::new(alloc, cpus).err());
     let wanted = (Some(Fault::TooManyCpus), Some(Fault::TooManyCpus));
     compare(rt, cpus, found, wanted);
 }
 
-/// No tree of so many processors is made.
+/// No tree of this many processors is made.
 fn no_tree<const LEAF: u32, const FAN: u32>(
     rt: &impl Abort,
     alloc: Global,
@@ -301,7 +301,7 @@ fn no_tree<const LEAF: u32, const FAN: u32>(
     compare(rt, (LEAF, FAN, cpus), found, Some(wanted));
 }
 
-/// Neither a set nor a tree of so many processors is made.
+/// Neither a set nor a tree of this many processors is made.
 fn makes_none(rt: &impl Abort, alloc: Global, cpus: u32) {
     no_set(rt, alloc, cpus);
     no_tree::<64, 64>(rt, alloc, cpus, Fault::TooManyCpus);
@@ -309,7 +309,7 @@ fn makes_none(rt: &impl Abort, alloc: Global, cpus: u32) {
     no_tree::<64, 65>(rt, alloc, cpus, Fault::BadFanout);
 }
 
-/// Sets of so many processors are made.
+/// Sets of this many processors are made.
 fn makes(rt: &impl Abort, alloc: Global, cpus: u32) {
     assert_eq!(rt; empty_set(rt, alloc, cpus).cpus(), cpus);
     assert_eq!(rt; flat(rt, alloc, cpus).cpus(), cpus);

@@ -1,4 +1,4 @@
-//! A path of grace periods through epochs, and what it says of a cookie that is taken on it.
+//! A path of grace periods through epochs, and the state of a cookie that is taken on it.
 ghost use Rattle.std.specs.Prelude.{◌≡◌, ◌+◌, ◌/◌};
 
 /// How many epochs a path goes through.
@@ -19,7 +19,7 @@ fn steps_in_epoch(last: u32) -> u32
     last / 2 + 1
 }
 
-/// How many steps the path has where this number is the last one, at most 1,000.
+/// How many steps the path has if this number is the last one, at most 1,000.
 pub fn steps(last: u32) -> u32 {
     steps_in_epoch(last.min(1_000)) * EPOCHS
 }
@@ -36,7 +36,7 @@ pub fn turn_at(last: u32, place: u32) -> Turn {
     }
 }
 
-/// What a path does from a taking on: how many grace periods begin, and how many of them end.
+/// The grace periods of a path since a snapshot: how many begin, and how many of them end.
 #[derive(Clone, Copy)]
 pub struct Since {
     begins: u32,
@@ -49,7 +49,7 @@ impl Since {
         Since { begins: 0, ends: 0 }
     }
 
-    /// The path goes on. An end counts where its begin does.
+    /// The path goes on. An end counts if its begin does.
     pub fn go(&mut self, turn: Turn) {
         match turn {
             Turn::Begin => self.begins = self.begins.saturating_add(1),
@@ -58,7 +58,7 @@ impl Since {
         }
     }
 
-    /// Whether a grace period began and ended.
+    /// Returns whether a grace period began and ended.
     pub fn has_full_period(&self) -> bool {
         self.ends > 0
     }

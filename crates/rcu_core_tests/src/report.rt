@@ -27,7 +27,7 @@ const IN_NEXT: Tag = Tag {
     number: 1,
 };
 
-/// An empty batch, made by a second call where the first is refused a growth.
+/// An empty batch, made by a second call if the first is refused memory.
 fn batch(rt: &impl Abort, alloc: Global, cpus: u32, tag: Tag) -> Batch {
     match Batch::new(alloc, cpus, tag) {
         Ok(batch) => batch,
@@ -134,7 +134,7 @@ fn batches_of_two_epochs(rt: HostRuntime) {
     apply_epochs(&rt, &old, &next, &mut awaited);
 }
 
-/// An empty batch of so many processors and this number is not joined.
+/// An empty batch of this many processors and this number is not joined.
 fn joins_no(rt: &impl Abort, alloc: Global, first: &mut Batch, cpus: u32, tag: Tag) {
     let second = batch(rt, alloc, cpus, tag);
     join(rt, first, &second, Err(Fault::NotAlike));
@@ -156,13 +156,13 @@ fn unlike_batches(rt: HostRuntime) {
     joins_none(&rt, rt.alloc(), &mut first);
 }
 
-/// No batch of so many processors is made.
+/// No batch of this many processors is made.
 fn no_batch(rt: &impl Abort, alloc: Global, cpus: u32) {
     let found = Batch::new(alloc, cpus, FIRST).err();
     compare(rt, cpus, found, Some(Fault::TooManyCpus));
 }
 
-/// A batch of so many processors is made.
+/// A batch of this many processors is made.
 fn has_size(rt: &impl Abort, alloc: Global, cpus: u32) {
     compare(rt, "cpus", batch(rt, alloc, cpus, FIRST).cpus(), cpus);
 }

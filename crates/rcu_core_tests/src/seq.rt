@@ -1,18 +1,18 @@
-//! A counter from its making to its last number, its cookies, and the numbers of faults.
+//! A counter from its first to its last number, its cookies, and the numbers of faults.
 use crate::made::compare;
 use crate::path::{Since, Turn, steps, turn_at};
 use rcu_seq::{Cookie, Fault, Seq, Tag};
 use std::process::Abort;
 
-/// A call on a counter, with what it has to answer, or a look.
+/// A call on a counter, with its expected answer, or a query.
 enum Step {
     Start(Result<u64, Fault>),
     End(Result<u64, Fault>),
     /// Its number, the last one, and whether a grace period runs.
     Is(u64, u64, bool),
-    /// The number and the epoch of a taking's cookie.
+    /// The number and the epoch of a snapshot's cookie.
     Snap(u64, u64),
-    /// Whether the cookie of this number and this epoch is done.
+    /// The number and the epoch of a cookie, and true if it is done.
     Done(u64, u64, bool),
     /// Renumbers: the next epoch.
     Renumber(Result<u64, Fault>),
@@ -48,7 +48,7 @@ fn has_tag(rt: &impl Abort, row: usize, seq: &Seq, number: u64, epoch: u64) {
     );
 }
 
-/// Compares the cookie of a taking.
+/// Compares the cookie of a snapshot.
 fn has_cookie(rt: &impl Abort, row: usize, seq: &Seq, number: u64, epoch: u64) {
     compare(rt, row, seq.snap(), Cookie { epoch, number });
 }
@@ -213,7 +213,7 @@ fn poll_all(rt: &impl Abort, last: u32) {
 }
 
 /// At every two places of a path through five epochs, a cookie that was taken at the first is done
-/// at the second where a full grace period lies between.
+/// at the second if a full grace period lies between.
 #[test]
 fn every_two_places_of_five_epochs(rt: HostRuntime) {
     poll_all(&rt, 4);

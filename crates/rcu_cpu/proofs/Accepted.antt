@@ -1,4 +1,4 @@
--- What an accepted call implies for its processor.
+-- The consequences of an accepted call for its processor.
 use Rattle.std.proofs.Common.{◌≡◌, ◌≢◌, ◌<◌, true, false, arith}
 use Rattle.std.proofs.lemmas.Bool.Decides.{nat_tests}
 use Rattle.rcu_seq.specs.declared.tag.Tag.{Tag}

@@ -6,8 +6,7 @@ use Rattle.rcu_seq.specs.declared.fault.Fault.TheVariants.{NoMemory}
 use Rattle.rcu_defer.specs.Marks.{Marking, after_defer, after_take, after_tend, at_first}
 use Rattle.rcu_defer.specs.Marks.{defer_refusal, ready_of}
 
--- what contracts see of a list: the values that were not taken out, the oldest first; the marks;
--- and for how many values the list has room before it grows
+-- the view of a list in contracts:
 pub record Deferring (X : Type 0) : Type 0 where
   pub values : List X
   pub marks : Marking

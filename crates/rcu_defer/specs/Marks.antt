@@ -8,9 +8,7 @@ use Rattle.rcu_seq.specs.declared.fault.Fault.{Fault}
 use Rattle.rcu_seq.specs.declared.fault.Fault.TheVariants.{CallbacksFull}
 use Rattle.rcu_defer.specs.declared.marks.Batch.{Batch}
 
--- what contracts see of them: how many were taken out; how many are done, with those; the number
--- that each later one waits for, in order; how many came since the last tend; and the number of
--- that tend
+-- the view of them in contracts:
 pub record Marking : Type 0 where
   pub taken : ℕ
   pub done : ℕ

@@ -1,4 +1,4 @@
--- The levels of a tree: how many nodes each has, where it begins, and which level a node is in.
+-- The levels of a tree: the number of nodes of each, its first node, and the level of a node.
 use Rattle.std.proofs.Common.{◌≡◌, ℕ, zero, suc, ◌+◌, ◌-◌, ◌*◌, ◌/◌, ◌^◌, ◌<◌, ◌≤◌, List, [], ◌∷◌}
 use Rattle.std.proofs.Common.{◌++◌, length, slice_index, refl, sym, ap, subst, ◌∙◌, arith, inl, inr}
 use Rattle.std.proofs.Common.{add-one}

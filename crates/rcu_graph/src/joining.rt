@@ -17,8 +17,8 @@ use std::sync::Arc;
 
 impl<F: Shape, P: Within<GraphRule<F>>> Graph<F, P> {
     /// Returns the graph at this place of an engine that was opened by this plan, and the writer's
-    /// watcher of its nodes. That watcher gets the knowledge of the engine's own watcher about the
-    /// graph; the engine's own watcher keeps the rest.
+    /// watcher of its nodes. The writer's watcher gets the knowledge of the engine's own watcher
+    /// about the graph; the engine's own watcher keeps the rest.
     pub fn join(
         board: &Arc<Board<P::Whole>, Global>,
         own: &mut GraphWatcher<F, P>,

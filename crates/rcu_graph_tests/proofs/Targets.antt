@@ -1,4 +1,4 @@
--- What a writer's tests of a node say of a link that leads to it.
+-- The consequences of a writer's tests of a node for a link that leads to it.
 use Rattle.std.proofs.Common.{◌≡◌, ◌<◌, ℕ, suc, true, List, length, arith, subst}
 use Rattle.std.specs.Prelude.{slice_index}
 use mathlib.Core.Option.{some}

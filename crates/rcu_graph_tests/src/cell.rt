@@ -38,8 +38,8 @@ type Pairs = Cell<Any, 2>;
 
 type Engine = Live<4, 4, u64, CellRule<Any, 2>>;
 
-/// One grace period, which a callback needs. Where its queueing is refused memory, the same call
-/// is made again.
+/// One grace period, which a callback needs. If its queue call is refused memory, the same call is
+/// made again.
 fn pass_a_period<R: Abort + Wait>(rt: &R, live: &Engine, seat: &mut CellSeat<Any, 2>)
     requires seat { IsOutside live.now seat.old }
     ensures seat { IsOutside live.now seat.new }

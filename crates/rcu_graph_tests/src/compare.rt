@@ -2,7 +2,7 @@
 use std::fmt::Debug;
 use std::process::Abort;
 
-/// Compares what came of a row with what was wanted: a test that fails says its row. A call that
+/// Compares the outcome of a row with the expected one: a test that fails says its row. A call that
 /// has no row is named.
 pub(crate) fn compare<R: Debug + Drop, T: Debug + Drop + PartialEq>(
     rt: &impl Abort,

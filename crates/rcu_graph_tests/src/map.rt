@@ -40,14 +40,14 @@ pub(crate) type Control = Updater<Route, 2>;
 /// The entries of a map that a section goes over.
 pub(crate) type Listing<'a> = Entries<'a, Route, 2>;
 
-/// The bucket of a network, of so many, in a map of the seed 0: 2^64 over the golden ratio, times
-/// the network, without what runs over, as a share of 2^64.
+/// The bucket of a network, out of this many, in a map of the seed 0: 2^64 over the golden ratio,
+/// times the network, without the overflow, as a share of 2^64.
 pub(crate) fn bucket_of(network: u64, buckets: u64) -> u64 {
     let mixed = network.wrapping_mul(11_400_714_819_323_198_485);
     ((u128::from(mixed) * u128::from(buckets)) >> 64) as u64
 }
 
-/// Looks a route up, and goes over all of them: there is none.
+/// Looks a route up, and goes over all of them: the map has none.
 fn finds_none<R: Abort>(rt: &R, live: &Engine, map: &Routes, seat: &mut Seat)
     requires engine { live.now ≡ map.now }
     requires seat { IsSeatOf map.now seat.old }
@@ -73,8 +73,8 @@ fn map_opens_with_no_entry(rt: HostRuntime) {
     finds_none(&rt, &opened.live, &opened.map, &mut seat);
 }
 
-/// Opens a map of so many processors, buckets and entries. Returns for how many processors it deals
-/// seats, by a second call where the first is refused a growth.
+/// Opens a map of this many processors, buckets and entries. Returns for how many processors it
+/// deals seats, by a second call if the first is refused memory.
 fn opens(alloc: Global, engine: (u32, u64), sizes: (usize, usize)) -> Result<usize, NotOpened> {
     let ((cpus, last), (buckets, entries)) = (engine, sizes);
     let mut opened = Routes::open::<64, 64, u64>(alloc, cpus, last, buckets, entries, 0);

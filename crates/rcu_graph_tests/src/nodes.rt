@@ -1,5 +1,5 @@
-//! Two readers search a chain beside who keeps it, each on a thread of its own: a node that they
-//! find is whole, whatever is linked meanwhile.
+//! Two readers search a chain beside its writer, each on a thread of its own: a node that they find
+//! is whole, whatever is linked meanwhile.
 ghost use Rattle.std.specs.Prelude.{◌≡◌, replicate};
 ghost use Rattle.std.specs.Thread.{IsSync};
 ghost use Rattle.rcu_live.specs.CpuSeat.{IsSeatOf, after_word_step};

@@ -35,7 +35,7 @@ pub(crate) fn next_online<R: Abort + Wait, S: Shape>(
     seat
 }
 
-/// Opens a section where none is open, and compares the depth.
+/// Opens a section if none is open, and compares the depth.
 pub(crate) fn enters<R: Abort, S: Shape>(
     rt: &R,
     live: &GraphEngine<4, 4, u64, S>,

@@ -40,7 +40,7 @@ type Routes = Map<Route, 2, First<Alone, Rule>>;
 /// The second one.
 type Exits = Map<Route, 2, Second<Rule, Alone>>;
 
-/// Joins a map. Where it is refused memory, the same call is made again.
+/// Joins a map. If it is refused memory, the same call is made again.
 fn joins<R: Abort, P: Within<Rule>>(
     rt: &R,
     board: &Arc<Board<P::Whole>, Global>,
@@ -65,8 +65,8 @@ fn joins<R: Abort, P: Within<Rule>>(
     Map::join(board, own, plan).expect(rt, "a map joins")
 }
 
-/// Opens an engine of one processor for these maps. Where it is refused memory, the same call is
-/// made again.
+/// Opens an engine of one processor for these maps. If it is refused memory, the same call is made
+/// again.
 fn opens<R: Abort>(
     rt: &R,
     alloc: Global,

@@ -1,5 +1,5 @@
--- What the rule gives a client: each open section may be open at the number, and a processor has
--- one seat.
+-- The consequences of the rule for a client: each open section may be open at the number, and a
+-- processor has one seat.
 use Rattle.std.proofs.Common.{◌≡◌, ℕ, zero, suc, ◌≤◌, List, [], ◌∷◌, Option, Some, get_or, map}
 use Rattle.std.proofs.Common.{true, false, refl, sym, ap, ◌∙◌, arith}
 use Rattle.std.proofs.lemmas.Bool.Decides.{nat_tests}

@@ -4,8 +4,8 @@ use Rattle.atomic_table.specs.Seated.{TableId}
 use Rattle.rcu_seq.specs.Numbers.{Number}
 use Rattle.rcu_live.specs.Words.{base_of}
 
--- which object it is, its client's plan, how many processors it has, where the client's words
--- begin, its last number, and how many callbacks may be queued
+-- which object it is, its client's plan, how many processors it has, the start of the client's
+-- words, its last number, and how many callbacks may be queued
 pub record Object (P : Type 0) : Type 0 where
   pub table : TableId
   pub plan : P

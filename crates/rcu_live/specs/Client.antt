@@ -1,4 +1,5 @@
--- What the engine shows a client of the seats, and what the client's rule has to keep.
+-- The parts of the seats that the engine shows to a client, and the invariant that the client's
+-- rule has to keep.
 use Rattle.std.specs.Prelude.{◌≡◌, ℕ, ◌+◌, true, List, [], ◌∷◌, ◌++◌, Option, Some, None, length}
 use Rattle.std.specs.Prelude.{slice_index, slice_set}
 use mathlib.Core.Option.{some}

@@ -80,7 +80,7 @@ impl Stored {
         sleepers.wake_for(board, cpu);
     }
 
-    /// Wakes nobody: with the words alone, no waiter sleeps.
+    /// Wakes no thread: with the words alone, no waiter sleeps.
     pub(crate) fn wakes_nobody(self) {
         let Stored { cpu: _ } = self;
     }

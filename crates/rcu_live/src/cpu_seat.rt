@@ -32,8 +32,9 @@ const IDLE_WORD: u64 = 1 << 63;
 /// costs.
 #[derive(Drop)]
 pub struct CpuSeat<P: Client = NoClient> {
-    /// Whether the processor is online and whether it is idle, the depth of its sections, and the
-    /// number of its latest quiescent state, wake or arrival: its own word less one.
+    /// The state of the processor: whether it is online and whether it is idle, the depth of its
+    /// sections, and the number of its latest quiescent state, wake or arrival: its own word less
+    /// one.
     data: CpuData,
     /// The number at which the open section began.
     opened: Option<u64>,

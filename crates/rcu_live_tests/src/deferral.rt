@@ -22,7 +22,7 @@ const MANY: u64 = 2_000;
 /// The last number of the tests' engines.
 const LAST: u64 = 1 << 40;
 
-/// Defers a value, by a second call where the first is refused a growth.
+/// Defers a value, by a second call if the first is refused memory.
 fn defers<R: Abort>(rt: &R, deferrer: &mut Deferrer<u64>, value: u64)
     ensures { deferrer.new.watcher ≡ deferrer.old.watcher }
 {
@@ -112,8 +112,8 @@ fn values_come_after_a_grace_period(rt: HostRuntime) {
     defer_beside(&rt, &Script::new(&rt, &live), &mut seat, &mut deferrer);
 }
 
-/// Takes all that are done, which come in the order of their deferral. Returns how many came so
-/// far.
+/// Takes all done values, which come in the order in which they were deferred. Returns how many
+/// came so far.
 fn take_all<R: Abort>(rt: &R, deferrer: &mut Deferrer<u64>, taken: u64) -> u64
     ensures { deferrer.new.watcher ≡ deferrer.old.watcher }
 {
@@ -125,7 +125,7 @@ fn take_all<R: Abort>(rt: &R, deferrer: &mut Deferrer<u64>, taken: u64) -> u64
     next
 }
 
-/// Defers so many values, and drives until all are taken.
+/// Defers this many values, and drives until all are taken.
 fn defer_all<R: Abort + Wait>(rt: &R, live: &Four, mut deferrer: Deferrer<u64>)
     requires { deferrer.watcher.table ≡ live.now.table }
 {

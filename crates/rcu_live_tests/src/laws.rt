@@ -1,4 +1,5 @@
-//! Callers of the running engine: what they know of its callbacks by the laws of runs alone.
+//! Callers of the running engine, and their knowledge about its callbacks by the laws of runs
+//! alone.
 
 mod engine;
 mod runs;

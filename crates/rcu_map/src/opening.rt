@@ -127,7 +127,7 @@ impl<E: Entry<W>, const W: usize> Map<E, W> {
     /// processor 0 alone online. The map has room for `entries`; a replaced or removed one keeps
     /// its room until a grace period ends. A full map can replace entries: it has one node more
     /// than its buckets and entries need. The seed determines the bucket of each key: draw it at
-    /// random, so that nobody can choose keys that share a bucket.
+    /// random, so that keys that share a bucket cannot be chosen on purpose.
     ///
     /// Faults: `BadSizes` for no bucket, or more than 2^32 words in all, an entry's and one more
     /// for each node; `TooManyCpus` (17) for no processor, more than 4,096, or more than four

@@ -55,15 +55,15 @@ impl<R: Clock + Sync> Gate for Alternation<'_, R> {
     }
 }
 
-/// Whether worker 1 handed out callbacks of its own, and of worker 0.
+/// Returns whether worker 1 handed out callbacks of its own, and of worker 0.
 #[derive(Clone, Copy, Debug, PartialEq, Eq)]
 struct SecondShare {
     own: bool,
     others: bool,
 }
 
-/// What worker 1 handed out in a run by this seed. None where a growth was refused to the run or to
-/// a thread of it.
+/// Returns what worker 1 handed out in a run with this seed, none if a growth was refused to the
+/// run or to a thread of it.
 fn second_share<R: Threads + Wait + Clock + Sync>(
     rt: &R,
     alloc: Global,
@@ -94,8 +94,8 @@ fn hands_out<R: Threads + Wait + Clock + Sync + Abort>(
     assert_eq!(rt; found, Some(wanted));
 }
 
-/// A worker runs its own processor's list, and draws its words by the seed: where it goes offline
-/// in each round, its callbacks are left to worker 0.
+/// A worker runs its own processor's list, and draws its words by the seed: if it goes offline in
+/// each round, its callbacks are left to worker 0.
 #[test]
 fn a_worker_hands_out_as_its_seed_says(rt: HostRuntime) {
     let own = SecondShare {

@@ -6,7 +6,7 @@ use rcu_script::Setup;
 use std::alloc::Global;
 use std::process::Abort;
 
-/// What the words are read as. Where a growth was refused they are read again.
+/// Returns the order that the words are read as. If a growth was refused they are read again.
 fn read(alloc: Global, words: &[&str]) -> Result<Order, ErrorKind> {
     match read_once(alloc, words) {
         Err(ErrorKind::OutOfMemory) => read_once(alloc, words),

@@ -1,4 +1,4 @@
-//! What standard error says of a run that stopped.
+//! The messages on standard error for a run that stopped.
 
 use rcu_command::{Order, Reason};
 use rcu_script::{RunFault, Setup};

@@ -18,7 +18,7 @@ use std::time::Duration;
 /// How often a worker looks for another one before the test fails.
 const MOST_LOOKS: u32 = 200_000;
 
-/// What was queued, handed out, early and twice.
+/// The totals: callbacks queued, handed out, early and twice.
 #[derive(Clone, Copy, Debug, PartialEq, Eq)]
 struct Totals {
     queued: u64,
@@ -27,7 +27,8 @@ struct Totals {
     twice: u64,
 }
 
-/// Each of so many that were queued was handed out, and nothing came early or twice.
+/// Returns the totals if each of this many queued callbacks was handed out, and none came early or
+/// twice.
 fn whole(queued: u64) -> Totals {
     Totals {
         queued,
@@ -37,12 +38,12 @@ fn whole(queued: u64) -> Totals {
     }
 }
 
-/// Compares the totals of a run, of which there are none where it was refused a growth.
+/// Compares the totals of a run, of which there are none if it was refused a growth.
 fn is_whole(rt: &impl Abort, found: Option<Totals>, queued: u64) {
     assert_eq!(rt; found, Some(whole(queued)));
 }
 
-/// The totals of a run, or none where it was refused a growth.
+/// The totals of a run, or none if it was refused a growth.
 fn try_totals<R: Threads + Wait + Sync + Abort + Print, G: Gate>(
     rt: &R,
     alloc: Global,
@@ -70,7 +71,7 @@ fn try_totals<R: Threads + Wait + Sync + Abort + Print, G: Gate>(
 }
 
 /// Compares the totals of a run with no gate: each worker queues one callback a round, and each is
-/// handed out. Where the run was refused a growth, those of a second one.
+/// handed out. If the run was refused a growth, those of a second one.
 fn all_are_handed_out<R: Threads + Wait + Sync + Abort + Print>(
     rt: &R,
     alloc: Global,
@@ -107,7 +108,8 @@ impl<'a, R: Clock + Sync> Overlap<'a, R> {
     }
 }
 
-/// Whether the count comes to so many within so many looks, with a microsecond's sleep between two.
+/// Returns whether the count reaches this many within this many looks, with a microsecond's sleep
+/// between two.
 pub(crate) fn reaches_in_time(
     clock: &impl Clock,
     count: &AtomicU64,
@@ -143,7 +145,7 @@ impl<R: Clock + Sync> Gate for Overlap<'_, R> {
 #[test]
 fn workers_overlap_at_the_gate(rt: HostRuntime) {
     let alloc = rt.alloc();
-    // Where the growth was refused to the thread there was none: worker 1 ran after worker 0, which
+    // If the growth was refused to the thread there was none: worker 1 ran after worker 0, which
     // waited for it in vain, and queued the one callback.
     let found = match try_totals(&rt, alloc, 2, 1, 1, &Overlap::new(&rt)) {
         None
@@ -239,8 +241,8 @@ impl<R: Clock + Sync> Gate for LockStep<'_, R> {
     }
 }
 
-/// Whether other workers than the first handed out callbacks in a run in lock step, so that not all
-/// were left to the program in the end. A run that was refused a growth tells nothing.
+/// Returns whether other workers than the first handed out callbacks in a run in lock step, so that
+/// not all were left to the program in the end. A run that was refused a growth shows nothing.
 fn workers_hand_out<R: Threads + Wait + Clock + Sync>(
     rt: &R,
     alloc: Global,
@@ -265,8 +267,8 @@ fn workers_hand_out<R: Threads + Wait + Clock + Sync>(
     ledger.own().ran() < ledger.ran() && others.map(LedgerShare::ran).any(|ran| ran > 0)
 }
 
-/// Grace periods end beside the readers. Where the growth was refused to the run or to a thread of
-/// it, a second run is looked at.
+/// Grace periods end beside the readers. If the growth was refused to the run or to a thread of it,
+/// a second run is looked at.
 #[test]
 fn workers_hand_out_callbacks(rt: HostRuntime) {
     let found = workers_hand_out(&rt, rt.alloc(), 4, 64, 1)
@@ -275,7 +277,7 @@ fn workers_hand_out_callbacks(rt: HostRuntime) {
 }
 
 /// By this seed worker 1 goes offline in none of the 16 rounds, and sleeps in none. So it hands out
-/// callbacks only where it tends its own list, and where somebody collects from its processor.
+/// callbacks only if it tends its own list, and if another worker collects from its processor.
 #[test]
 fn a_worker_that_stays_hands_out_its_own(rt: HostRuntime) {
     let found = workers_hand_out(&rt, rt.alloc(), 2, 16, 39)

@@ -62,7 +62,7 @@ pub only_right : (size : Size) (lines : List (List ℕ)) (text : List ℕ) (end 
     → Answers size [] lines text end → wants_memory text ≡ false → text ≡ replies size [] lines
 only_right size lines text end a none = exact_text size [] lines text end a (ended_of_all text none)
 
--- ---- memory is not wanted in it
+-- ---- memory is not refused in it
 
 abbrev is_memory : Fault → Bool
 is_memory fault.NoMemory = true

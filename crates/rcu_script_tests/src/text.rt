@@ -1,4 +1,4 @@
-//! Tests of what no clause says.
+//! Tests of behaviour that no clause covers.
 
 mod blocks;
 mod streams;

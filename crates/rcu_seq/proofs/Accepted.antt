@@ -1,4 +1,4 @@
--- What an accepted turn implies for its counter, for all callers of a turn.
+-- The consequences of an accepted turn for its counter, for all callers of a turn.
 use Rattle.std.proofs.Common.{◌≡◌, ◌≢◌, None, true, false, arith}
 use Rattle.std.proofs.lemmas.Bool.Decides.{nat_tests}
 use Rattle.rcu_seq.specs.Numbers.{Number, is_last}

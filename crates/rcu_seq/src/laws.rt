@@ -42,7 +42,7 @@ pub fn done_in_the_first_epoch()
 {}
 
 /// So a cookie tests done exactly if the count over all epochs is at least the snapshot of the
-/// count at its taking.
+/// count when it was taken.
 pub fn done_is_told_by_the_clock()
     ensures { (last : ℕ) (taking now : Tag) → is_last last ≡ true → taking.number ≤ last
         → now.number ≤ last → is_done_at last (cookie_at taking) now

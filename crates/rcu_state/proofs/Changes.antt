@@ -31,7 +31,7 @@ pub idle_kept : {X : Type 0} (g : Grace X) (seq : Periods) → IsSound g → seq
     → IsSound (record g { seq = seq })
 idle_kept g seq k is = record { tag = rw is k.tag; sized = k.sized; timely = rw is k.timely }
 
--- a fact that follows from what either result says
+-- a fact that follows from either result
 pub on_either : {A E : Type 0} {R : Type 0} (r : Result A E) (P : A → Type 0) (Q : E → Type 0)
     → IfOk r P → IfErr r Q → ((a : A) → P a → R) → ((e : E) → Q e → R) → R
 on_either (Ok a) P Q ok err f h = f a ok

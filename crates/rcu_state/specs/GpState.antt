@@ -1,4 +1,4 @@
--- The state of the grace periods and the callbacks: what each call leaves, and when it is refused.
+-- The state of the grace periods and the callbacks, after each call, and why a call is refused.
 use Rattle.std.specs.Prelude.{ℕ, ◌+◌, ◌≤◌, ◌≡◌, ◌==◌, ◌&&◌, Bool, true, false, not, max, nat_lt}
 use Rattle.std.specs.Prelude.{if◌then◌else◌, List, [], ◌∷◌, All, Option, filter, slice_set}
 use Rattle.std.specs.List.{range_with_len}
@@ -33,8 +33,7 @@ pub record Grace (X : Type 0) : Type 0 where
   pub processors : Processors
   pub lists : AllLists X
 
--- what contracts see of the state: its value, and for how many items each list has room before it
--- grows
+-- the view of the state in contracts:
 pub record GraceWithRooms (X : Type 0) : Type 0 where
   pub grace : Grace X
   pub rooms : List ℕ
@@ -174,8 +173,7 @@ module _ {X : Type 0} where
       )
       ∷ [])
 
-  -- what a turn does: a running grace period ends if no processor is awaited; if none runs, one
-  -- begins if it is needed
+  -- the answer of a turn:
   abbrev pub turn_answer : Grace X → Turned
   turn_answer g =
       if g.seq.running

@@ -1,4 +1,4 @@
-//! How many callbacks may be queued, where an opening says it.
+//! The limit of queued callbacks, if an opening sets one.
 ghost use Rattle.std.specs.Prelude.{◌≤◌, ◌^◌};
 
 use super::{Step, make_each, queue_again};
@@ -8,8 +8,8 @@ use rcu_seq::{Fault, Tag};
 use std::alloc::Global;
 use std::process::Abort;
 
-/// Lists for two processors in which so many callbacks may be queued, made by a second call where
-/// the first is refused a growth.
+/// Lists for two processors in which this many callbacks may be queued, made by a second call if
+/// the first is refused memory.
 fn lists_with_most(rt: &impl Abort, alloc: Global, most: u64) -> Lists<u64>
     requires some { 1 ≤ most }
     requires few { most ≤ 2 ^ 62 }

@@ -1,4 +1,4 @@
-//! What room the lists of two processors keep, and how one gives room back.
+//! The room that the lists of two processors keep, and how one frees room.
 
 use super::{Step, lists, make_each};
 use crate::made::compare;

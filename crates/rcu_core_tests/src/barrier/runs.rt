@@ -1,5 +1,5 @@
-//! Runs of calls on the lists of three processors, drawn at random. What comes out tells how often
-//! each callback was handed out, and at the end how often it lies in the lists still.
+//! Runs of calls on the lists of three processors, drawn at random. The outcome shows how often
+//! each callback was handed out, and at the end how often it still is in the lists.
 
 use super::{lists_of, take, tended, visit_once};
 use crate::draw::Draw;
@@ -18,7 +18,7 @@ const CALLS: usize = 120;
 /// A number at which each callback is done.
 const LAST: u64 = 1 << 62;
 
-/// What came out of a run.
+/// The outcome of a run.
 #[derive(Drop)]
 struct Told {
     /// How often the callback of each place did.
@@ -47,8 +47,8 @@ impl Told {
         }
     }
 
-    /// Whether each of the first callbacks was handed out just once, and each other one at most
-    /// once.
+    /// Returns whether each of the first callbacks was handed out just once, and each other one at
+    /// most once.
     fn is_once(&self, first: u64) -> bool {
         let mut is_once = true;
         for (place, times) in self.times.iter().enumerate() {
@@ -58,7 +58,7 @@ impl Told {
     }
 }
 
-/// Queues a callback, whose value tells its place.
+/// Queues a callback, whose value is its place.
 fn queue(rt: &impl Abort, lists: &mut Lists<u64>, told: &mut Told, cpu: u32) {
     assert!(rt; cpu < lists.cpus());
     let place = told.queued.saturating_add(1);
@@ -94,7 +94,7 @@ fn migrate(rt: &impl Abort, lists: &mut Lists<u64>, cpu: u32) {
     }
 }
 
-/// Tests the barrier: where it is done, what was queued before it was handed out.
+/// Tests the barrier: if it is done, the callbacks queued before it were handed out.
 fn test(rt: &impl Abort, row: usize, lists: &mut Lists<u64>, told: &Told) {
     if lists.barrier_test() == Ok(BarrierState::Done) {
         assert!(rt; told.is_once(told.before), "row {row}");

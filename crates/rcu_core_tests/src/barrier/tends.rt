@@ -12,9 +12,9 @@ const CALLS: usize = 400;
 /// How many callbacks a plain list holds.
 const ROOM: usize = 400;
 
-/// What the list of processor 0 is to hold: of each callback that was queued, in order, the number
-/// that it waits for, counted on over the epochs, and 0 before a tend in the running epoch. A
-/// callback's value is its place.
+/// The expected list of processor 0: for each callback that was queued, in order, the number that
+/// it waits for, counted on over the epochs, and 0 before a tend in the running epoch. A callback's
+/// value is its place.
 #[derive(Drop)]
 struct Plain {
     until: [u64; ROOM],

@@ -3,7 +3,7 @@
 /// How many items a list has at most.
 pub const ROOM: usize = 48;
 
-/// What a callback waits for.
+/// The number that a callback waits for.
 #[derive(Clone, Copy, Debug, PartialEq, Eq)]
 pub enum Mark {
     Unmarked,
@@ -68,7 +68,7 @@ impl Plain {
         }
     }
 
-    /// Whether two numbers below this one are in the list.
+    /// Returns whether two numbers below this one are in the list.
     fn has_two_below(&self, snap: u64) -> bool {
         let mut found = None;
         for item in self.items() {
@@ -105,7 +105,7 @@ impl Plain {
         self.len
     }
 
-    /// Takes the first item where a take goes on that has so many callbacks left to hand out.
+    /// Takes the first item if a take goes on that has this many callbacks left to hand out.
     pub fn take_next(&mut self, left: u64) -> Option<Item> {
         let before = *self;
         let (first, rest) = before.items().split_first()?;

@@ -11,7 +11,7 @@ use std::process::Abort;
 
 /// How many calls are drawn.
 const CALLS: u64 = 4_000;
-/// After so many calls a list is taken whole.
+/// After this many calls a list is taken whole.
 const DRAINS: u64 = 64;
 /// A number at which each callback is done.
 const LAST: u64 = 1 << 62;
@@ -34,7 +34,7 @@ fn compare_list(rt: &impl Abort, call: u64, list: &SegList<u64>, plain: &Plain) 
     compare(rt, call, list.is_empty(), plain.len == 0);
 }
 
-/// Queues a callback, by a second call where the first is refused a growth.
+/// Queues a callback, by a second call if the first is refused memory.
 fn queue(rt: &impl Abort, list: &mut SegList<u64>, plain: &mut Plain, value: u64) {
     if plain.len >= ROOM / 2 - 1 {
         return;
@@ -51,7 +51,7 @@ fn queue(rt: &impl Abort, list: &mut SegList<u64>, plain: &mut Plain, value: u64
     plain.push(Item::Call(value, Mark::Unmarked));
 }
 
-/// Puts a marker behind, by a second call where the first is refused a growth.
+/// Puts a marker behind, by a second call if the first is refused memory.
 fn entrain(rt: &impl Abort, call: u64, list: &mut SegList<u64>, plain: &mut Plain) {
     if plain.len >= ROOM / 2 - 1 {
         return;
@@ -66,7 +66,7 @@ fn entrain(rt: &impl Abort, call: u64, list: &mut SegList<u64>, plain: &mut Plai
     }
 }
 
-/// Takes callbacks, by a second call where the first is refused a growth.
+/// Takes callbacks, by a second call if the first is refused memory.
 fn take(rt: &impl Abort, call: u64, list: &mut SegList<u64>, plain: &mut Plain, max: u64) {
     let taken = match list.take_done(max) {
         Ok(taken) => taken,
@@ -108,7 +108,7 @@ fn pop(rt: &impl Abort, call: u64, list: &mut SegList<u64>, plain: &mut Plain) {
     compare(rt, call, popped, wanted);
 }
 
-/// Moves a list to another, by a second call where the first is refused a growth.
+/// Moves a list to another, by a second call if the first is refused memory.
 fn migrate(
     rt: &impl Abort,
     list: &mut SegList<u64>,
@@ -145,7 +145,7 @@ fn advance(list: &mut SegList<u64>, plain: &mut Plain, number: u64) {
     plain.advance(number);
 }
 
-/// The numbers start anew, in both.
+/// Renumbers both.
 fn renumber(list: &mut SegList<u64>, plain: &mut Plain) {
     list.renumber();
     plain.renumber();

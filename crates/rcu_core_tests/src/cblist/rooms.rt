@@ -1,4 +1,4 @@
-//! What room a list keeps, and how it gives room back.
+//! The room that a list keeps, and how it frees room.
 
 use super::{Step, call, make, queue};
 use crate::made::compare;

@@ -73,8 +73,8 @@ static TURNS_REPLIES: [&str; 13] = [
     "Waiting(1)",
 ];
 
-/// What a tended callback waits for is needed: turns end the running grace period and begin the
-/// next.
+/// The number that a tended callback waits for is needed: turns end the running grace period and
+/// begin the next.
 #[test]
 fn turn_drives_two_periods(rt: HostRuntime) {
     both(&rt, rt.alloc(), 8, &TURNS, &TURNS_REPLIES);

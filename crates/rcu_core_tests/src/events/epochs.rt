@@ -162,7 +162,7 @@ fn go(rt: &impl Abort, core: &mut Core<Flat, u64>, turn: Turn) {
     );
 }
 
-/// The cookie of a taking.
+/// The cookie of a snapshot.
 fn take(rt: &impl Abort, core: &mut Core<Flat, u64>) -> Cookie {
     match core.step(Event::Take) {
         Reply::Cookie(cookie) => cookie,
@@ -202,7 +202,7 @@ fn poll_all(rt: &impl Abort, alloc: Global, last: u32) {
 }
 
 /// At every two places of a path through five epochs, a cookie that was taken at the first is done
-/// at the second where a full grace period lies between.
+/// at the second if a full grace period lies between.
 #[test]
 fn every_two_places_of_five_epochs(rt: HostRuntime) {
     poll_all(&rt, rt.alloc(), 4);

@@ -1,4 +1,4 @@
-//! Events of idle processors: what a scan does, what ends the idleness, and each fault.
+//! Events of idle processors: scans, the ends of the idleness, and each fault.
 use crate::events::machine::{both, core, run, takes, told_all};
 use rcu_core::Event;
 
@@ -209,7 +209,7 @@ static SCANNED: [(Event, &str); 4] = [
     (Event::Scan(1), "Answer(Taken)"),
 ];
 
-/// What is said then, and on to the end of the grace period.
+/// The replies then, up to the end of the grace period.
 static HEARD: [(Event, &str); 9] = [
     (Event::Awaits, "Awaits(CpuList { cpus: [0] })"),
     (Event::Note(1), "Noted(1, false)"),

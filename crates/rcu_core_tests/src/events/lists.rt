@@ -7,7 +7,7 @@ use rcu_seq::Tag;
 use std::alloc::Global;
 use std::process::Abort;
 
-/// These three processors, in room made by a second call where the first is refused it.
+/// These three processors, in room made by a second call if the first is refused memory.
 fn three(rt: &impl Abort, alloc: Global) -> Vec<u32> {
     match Vec::from_slice(alloc, &[3, 0, 4095]) {
         Ok(cpus) => cpus,
@@ -23,7 +23,7 @@ fn processors_stay_in_order(rt: HostRuntime) {
     compare(&rt, "list", list.as_slice(), [3, 0, 4095].as_slice());
 }
 
-/// Callbacks of the values 1 and 5, in room made by a second call where the first is refused it.
+/// Callbacks of the values 1 and 5, in room made by a second call if the first is refused memory.
 fn calls(rt: &impl Abort, alloc: Global) -> Vec<Queued<u64>> {
     let mut calls = match Vec::with_capacity(alloc, 2) {
         Ok(calls) => calls,

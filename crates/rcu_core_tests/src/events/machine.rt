@@ -6,8 +6,8 @@ use rcu_seq::{Cookie, Fault};
 use std::alloc::Global;
 use std::process::Abort;
 
-/// A machine of so many processors with this last number, made by a second call where the first is
-/// refused a growth.
+/// A machine of this many processors with this last number, made by a second call if the first is
+/// refused memory.
 pub fn core_of(rt: &impl Abort, alloc: Global, cpus: u32, last: u64) -> Core<Flat, u64> {
     match Core::new(alloc, flat(rt, alloc, cpus), last) {
         Ok(core) => core,
@@ -23,7 +23,8 @@ pub fn core(rt: &impl Abort, alloc: Global, last: u64) -> Core<Flat, u64> {
     core_of(rt, alloc, 2, last)
 }
 
-/// What events tell that change nothing: the cookie of a taking, and whether two cookies are done.
+/// The replies to events that change nothing: the cookie of a snapshot, and whether two cookies are
+/// done.
 #[derive(Clone, Copy, Debug, PartialEq)]
 struct Asked {
     cookie: Option<Cookie>,
@@ -40,7 +41,7 @@ fn ask(core: &mut Core<Flat, u64>) -> Asked {
     }
 }
 
-/// The cookie of a taking.
+/// The cookie of a snapshot.
 fn cookie(core: &mut Core<Flat, u64>) -> Option<Cookie> {
     match core.step(Event::Take) {
         Reply::Cookie(cookie) => Some(cookie),
@@ -48,13 +49,13 @@ fn cookie(core: &mut Core<Flat, u64>) -> Option<Cookie> {
     }
 }
 
-/// Whether the cookie of this number of epoch 0 is done.
+/// Returns whether the cookie of this number of epoch 0 is done.
 fn is_done(core: &mut Core<Flat, u64>, number: u64) -> bool {
     matches!(core.step(Event::Poll(number, 0)), Reply::Polled(true))
 }
 
-/// The reply to an event. Where its growth is refused, all that can be asked is as before, and it
-/// is taken again.
+/// The reply to an event. If its growth is refused, all replies to queries are as before, and it is
+/// taken again.
 pub fn step(rt: &impl Abort, core: &mut Core<Flat, u64>, event: Event) -> Reply {
     let before = ask(core);
     match core.step(event) {
@@ -66,7 +67,7 @@ pub fn step(rt: &impl Abort, core: &mut Core<Flat, u64>, event: Event) -> Reply 
     }
 }
 
-/// The replies to a list of events, which is taken again where its growth is refused.
+/// The replies to a list of events, which is taken again if its growth is refused.
 pub fn run(rt: &impl Abort, core: &mut Core<Flat, u64>, events: &[Event]) -> Vec<Reply> {
     match core.run(events) {
         Ok(replies) => replies,
@@ -77,7 +78,7 @@ pub fn run(rt: &impl Abort, core: &mut Core<Flat, u64>, events: &[Event]) -> Vec
     }
 }
 
-/// Whether the growth of an event in a list was refused.
+/// Returns whether the growth of an event in a list was refused.
 pub fn lacks_memory(replies: &[Reply]) -> bool {
     for reply in replies {
         if matches!(reply, Reply::Fault(Fault::NoMemory)) {
@@ -129,7 +130,7 @@ fn stepped(rt: &impl Abort, alloc: Global, last: u64, events: &[Event]) -> Vec<R
 }
 
 /// The replies of a new machine with this last number to these events as one list, by a second
-/// machine where an event is refused its growth.
+/// machine if an event is refused its growth.
 fn ran(rt: &impl Abort, alloc: Global, last: u64, events: &[Event]) -> Vec<Reply> {
     let mut first = core(rt, alloc, last);
     let replies = run(rt, &mut first, events);

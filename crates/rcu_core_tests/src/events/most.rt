@@ -12,8 +12,8 @@ use std::process::Abort;
 const RAN_THE_ONE: &str =
     "Ran(ValueList { calls: [Queued { ord: 1, at: Tag { epoch: 0, number: 0 }, value: 5 }] })";
 
-/// A machine of two processors in which so many callbacks may be queued, made by a second call
-/// where the first is refused a growth.
+/// A machine of two processors in which this many callbacks may be queued, made by a second call if
+/// the first is refused memory.
 fn core_with_most(rt: &impl Abort, alloc: Global, most: u64) -> Core<Flat, u64>
     requires some { 1 ≤ most }
     requires few { most ≤ 2 ^ 62 }

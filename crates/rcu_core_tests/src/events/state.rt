@@ -32,8 +32,8 @@ struct Asked {
     second: AskedOf,
 }
 
-/// A state of two processors with this last number, made by a second call where the first is
-/// refused a growth.
+/// A state of two processors with this last number, made by a second call if the first is refused
+/// memory.
 fn state(rt: &impl Abort, alloc: Global, last: u64) -> State {
     match GpState::new(alloc, flat(rt, alloc, 2), last) {
         Ok(state) => state,
@@ -74,7 +74,7 @@ fn left(rt: &impl Abort, fault: Fault, state: &State, before: Asked) {
     compare(rt, "what it left", ask(rt, state), before);
 }
 
-/// Queues a callback, by a second call where the first is refused a growth.
+/// Queues a callback, by a second call if the first is refused memory.
 fn queue(rt: &impl Abort, state: &mut State, cpu: u32, value: u64, wanted: u64) {
     let before = ask(rt, state);
     assert!(rt; cpu < state.cpus());
@@ -90,7 +90,7 @@ fn queue(rt: &impl Abort, state: &mut State, cpu: u32, value: u64, wanted: u64) 
     }
 }
 
-/// Visits a processor, by a second call where the first is refused a growth.
+/// Visits a processor, by a second call if the first is refused memory.
 fn visit(rt: &impl Abort, state: &mut State, cpu: u32) {
     let before = ask(rt, state);
     assert!(rt; cpu < state.cpus());
@@ -104,7 +104,7 @@ fn visit(rt: &impl Abort, state: &mut State, cpu: u32) {
     }
 }
 
-/// Moves processor 1's list, by a second call where the first is refused a growth.
+/// Moves processor 1's list, by a second call if the first is refused memory.
 fn migrate(rt: &impl Abort, state: &mut State, wanted: u64) {
     let before = ask(rt, state);
     assert!(rt; 1 < state.cpus());
@@ -118,7 +118,7 @@ fn migrate(rt: &impl Abort, state: &mut State, wanted: u64) {
     }
 }
 
-/// Runs processor 0's callbacks, by a second call where the first is refused a growth.
+/// Runs processor 0's callbacks, by a second call if the first is refused memory.
 fn run(rt: &impl Abort, state: &mut State, wanted: usize) {
     let before = ask(rt, state);
     assert!(rt; 0 < state.cpus());
@@ -139,7 +139,7 @@ fn tend(rt: &impl Abort, state: &mut State, wanted: (u64, u64)) {
     compare(rt, "tend", state.tend(0), wanted);
 }
 
-/// Makes a turn, and compares what it did.
+/// Makes a turn, and compares the answer.
 fn turns(rt: &impl Abort, state: &mut State, wanted: Turned) {
     compare(rt, "turn", state.turn(), Ok(wanted));
 }
@@ -193,7 +193,7 @@ fn stays(rt: &impl Abort, state: &mut State, wanted: Fault) {
     compare(rt, "what it left", ask(rt, state), before);
 }
 
-/// The numbers start anew in this epoch, and a grace period is needed or not.
+/// Renumbers into this epoch; compares whether a grace period is needed.
 fn starts_anew(rt: &impl Abort, state: &mut State, epoch: u64, needed: bool) {
     compare(rt, "renumber", state.renumber(), Ok(epoch));
     let found = (state.tag(), state.value(), state.wants_begin());
@@ -230,7 +230,7 @@ fn needed_numbers_across_epochs(rt: HostRuntime) {
     turns(&rt, &mut state, Turned::Nothing);
 }
 
-/// What the first begin says, or why no state opens with this last number.
+/// Returns the answer of the first begin, or the fault of opening a state with this last number.
 fn first_begin(rt: &impl Abort, alloc: Global, last: u64) -> Result<(u64, u32), Fault> {
     GpState::<Flat, u64>::new(alloc, flat(rt, alloc, 2), last)?.begin()
 }
@@ -265,7 +265,7 @@ fn has_size(rt: &impl Abort, state: &mut State, cpus: u32) {
     compare(rt, "arrive", state.arrive(cpus), Err(Fault::BadCpu));
 }
 
-/// A state of so many processors opens.
+/// Opens a state of this many processors.
 fn opens_with(rt: &impl Abort, alloc: Global, cpus: u32) {
     match GpState::new(alloc, flat(rt, alloc, cpus), 8) {
         Ok(mut state) => has_size(rt, &mut state, cpus),

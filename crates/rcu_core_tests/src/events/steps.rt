@@ -63,7 +63,7 @@ static RUN: [&str; 7] = [
     "Fault(NotOpen)",
 ];
 
-/// The replies to the same run where the growth of a report is refused.
+/// The replies to the same run if the growth of a report is refused.
 static RUN_WITHOUT_MEMORY: [&str; 7] = [
     "Begun(1, 1)",
     "Online",
@@ -118,8 +118,8 @@ static STORING: [(Event, &str); 11] = [
     (Event::Awaits, "Awaits(CpuList { cpus: [0] })"),
 ];
 
-/// Each event that stores something; what follows one that was refused its growth, itself first, is
-/// answered as if the first had not been.
+/// Each event that stores something. After an event that was refused its growth, the later ones,
+/// itself first, are answered as if that refused event had not come.
 #[test]
 fn refused_events_change_nothing(rt: HostRuntime) {
     let mut core = core(&rt, rt.alloc(), 8);

@@ -14,9 +14,9 @@ use std::process::Abort;
 /// The most nodes of a tree that is drawn here: 64 leaves and a root.
 const MOST_NODES: usize = 65;
 
-/// What awaits processors, and may show masks.
+/// A set of awaited processors, which may show masks.
 trait Shown {
-    /// Compares the masks of each node with what the definition says of these sets.
+    /// Compares the masks of each node with those that the definition gives for these sets.
     fn compare_nodes<R: Abort>(&self, rt: &R, awaited: &CpuSet, start: &CpuSet);
 }
 
@@ -96,7 +96,7 @@ fn drawn_set<R: Abort>(rt: &R, alloc: Global, draw: &mut Draw, cpus: u32) -> Cpu
     set
 }
 
-/// Compares what both say of each processor.
+/// Compares both sets for each processor.
 fn compare_each<A: Awaited, R: Abort>(rt: &R, shown: &A, flat: &Flat) {
     for cpu in 0..flat.cpus() {
         assert!(rt; cpu < flat.cpus() && cpu < shown.cpus());
@@ -105,7 +105,7 @@ fn compare_each<A: Awaited, R: Abort>(rt: &R, shown: &A, flat: &Flat) {
     }
 }
 
-/// Puts a processor in, where that is wanted.
+/// Adds a processor, if `wanted`.
 fn put(set: &mut CpuSet, cpu: u32, wanted: bool) {
     if wanted && cpu < set.cpus() {
         set.insert(cpu);
@@ -125,7 +125,7 @@ fn sets_of<R: Abort>(rt: &R, alloc: Global, flat: &Flat) -> (CpuSet, CpuSet) {
     (awaited, start)
 }
 
-/// Compares all that is said of each processor with what the flat set says, and then the masks.
+/// Compares all answers for each processor with those of the flat set, and then the masks.
 fn compare_sets<A: Awaited + Shown, R: Abort>(rt: &R, alloc: Global, shown: &A, flat: &Flat) {
     compare(
         rt,
@@ -141,13 +141,13 @@ fn compare_sets<A: Awaited + Shown, R: Abort>(rt: &R, alloc: Global, shown: &A, 
     compare_masks(rt, alloc, shown, flat);
 }
 
-/// Compares the masks with what the flat set says.
+/// Compares the masks with those of the flat set.
 fn compare_masks<A: Shown, R: Abort>(rt: &R, alloc: Global, shown: &A, flat: &Flat) {
     let (awaited, start) = sets_of(rt, alloc, flat);
     shown.compare_nodes(rt, &awaited, &start);
 }
 
-/// Begins a grace period in both, where the set and the number are fit for it.
+/// Begins a grace period in both, if the set and the number are fit for it.
 fn begin_both<A: Awaited>(shown: &mut A, flat: &mut Flat, now: Tag, set: &CpuSet) -> bool {
     if set.cpus() != shown.cpus() || set.cpus() != flat.cpus() || now.number % 4 != 1 {
         return false;
@@ -220,7 +220,7 @@ fn beside_flat<A: Awaited + Shown, R: Abort>(rt: &R, alloc: Global, mut shown: A
     assert!(rt; shown.is_empty());
 }
 
-/// A grace period of a drawn set in both, with so many drawn reports.
+/// A grace period of a drawn set in both, with this many drawn reports.
 fn period_beside<A: Awaited + Shown, R: Abort>(
     rt: &R,
     alloc: Global,
@@ -319,7 +319,7 @@ fn flat_and_trees_beside_flat(rt: HostRuntime) {
     tree_beside_flat::<2, 3, _>(&rt, rt.alloc(), 54, 60);
 }
 
-/// A tree of so many processors, with so many reports in each grace period.
+/// A tree of this many processors, with this many reports in each grace period.
 fn tree_beside_flat<const LEAF: u32, const FAN: u32, R: Abort>(
     rt: &R,
     alloc: Global,

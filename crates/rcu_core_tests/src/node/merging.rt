@@ -26,7 +26,7 @@ static LEFT: [(u32, bool, bool); 5] = [
     (4, true, false),
 ];
 
-/// Each hears some of five processors; merged, they await whom neither heard.
+/// Each hears some of five processors; merged, they await those that neither heard.
 fn merge_two_replicas<A: Awaited, B: Awaited>(
     rt: &impl Abort,
     alloc: Global,
@@ -39,10 +39,10 @@ fn merge_two_replicas<A: Awaited, B: Awaited>(
     hear_and_merge(rt, &mut first, &mut second);
 }
 
-/// What the first one hears.
+/// The reports to the first one.
 static FIRST_HEARD: [(u32, u64, Answer); 2] = [(0, 1, Answer::Taken), (2, 1, Answer::Taken)];
 
-/// What the second one hears.
+/// The reports to the second one.
 static SECOND_HEARD: [(u32, u64, Answer); 2] = [(4, 1, Answer::Taken), (2, 1, Answer::Taken)];
 
 /// They hear these, and are merged.
@@ -70,7 +70,7 @@ fn hear_and_merge<A: Awaited, B: Awaited>(rt: &impl Abort, first: &mut A, second
     compare(rt, "first after", first.count(), 2);
 }
 
-/// Nothing changes where the tag, the start set or the number of processors differ.
+/// Nothing changes if the tag, the start set or the number of processors differ.
 fn merge_unlike<A: Awaited, B: Awaited>(
     rt: &impl Abort,
     alloc: Global,
@@ -85,7 +85,7 @@ fn merge_unlike<A: Awaited, B: Awaited>(
     merge_unlike_sets(rt, &mut first, &mut second, &mut set);
 }
 
-/// Nothing changes where only one has begun, or both with different tags.
+/// Nothing changes if only one has begun, or both with different tags.
 fn merge_unlike_tags<A: Awaited, B: Awaited>(
     rt: &impl Abort,
     first: &mut A,
@@ -108,7 +108,7 @@ fn merge_unlike_tags<A: Awaited, B: Awaited>(
     merges(rt, first, second, Err(Fault::NotAlike));
 }
 
-/// Nothing changes where both have begun with different sets.
+/// Nothing changes if both have begun with different sets.
 fn merge_unlike_sets<A: Awaited, B: Awaited>(
     rt: &impl Abort,
     first: &mut A,

@@ -112,13 +112,13 @@ fn merge_two<A: Awaited, B: Awaited>(
     merge_begun(rt, &mut a, &mut b);
 }
 
-/// What the first one hears.
+/// The reports to the first one.
 static FIRST_HEARD: [(u32, u64, Result<Answer, Fault>); 2] = [
     (0, 1, Ok(Answer::Taken)),
     (2, 1, Ok(Answer::Taken)),
 ];
 
-/// What the second one hears.
+/// The reports to the second one.
 static SECOND_HEARD: [(u32, u64, Result<Answer, Fault>); 2] = [
     (4, 1, Ok(Answer::Taken)),
     (2, 1, Ok(Answer::Taken)),
@@ -189,7 +189,7 @@ fn depart_and_end<A: Awaited, B: Awaited>(
     end_in_both(rt, a, b);
 }
 
-/// Two replicas of three processors up to where both await processor 0 alone.
+/// Two replicas of three processors, until both await only processor 0.
 fn depart_in_both<A: Awaited, B: Awaited>(
     rt: &impl Abort,
     a: &mut Replica<A>,
@@ -259,7 +259,7 @@ fn grace_period<A: Awaited>(rt: &impl Abort, replica: &mut Replica<A>, tag: u64)
     end(rt, replica, Ok(tag.saturating_add(3)));
 }
 
-/// A replica of two processors, up to where no grace period begins any more.
+/// A replica of two processors, until no further grace period can begin.
 fn up_to_the_last_number<A: Awaited>(rt: &impl Abort, replica: &mut Replica<A>, all: &CpuSet) {
     end(rt, replica, Err(Fault::Idle));
     report(rt, replica, &[(0, 0, Ok(Answer::Stale))]);
@@ -305,7 +305,7 @@ fn last_numbers(rt: HostRuntime) {
     refuses(&rt, rt.alloc(), (1 << 62) + 4);
 }
 
-/// A grace period of the last of so many processors, which it ends.
+/// A grace period of the last of this many processors, which it ends.
 fn awaits_last<A: Awaited>(rt: &impl Abort, replica: &mut Replica<A>, last: &CpuSet, cpus: u32) {
     begin(rt, replica, last, Ok(1));
     report(
@@ -318,7 +318,7 @@ fn awaits_last<A: Awaited>(rt: &impl Abort, replica: &mut Replica<A>, last: &Cpu
     );
 }
 
-/// A replica of so many processors awaits the last of them.
+/// A replica of this many processors awaits the last of them.
 fn has_size(rt: &impl Abort, alloc: Global, cpus: u32) {
     let mut one = over_flat(rt, alloc, cpus);
     let all = set_of(rt, alloc, cpus, &[cpus.saturating_sub(1)]);

@@ -1,12 +1,12 @@
-//! What moves the grace periods on, in tests with threads.
+//! The driver of the grace periods, in tests with threads.
 ghost use Rattle.rcu_live.specs.CpuSeat.{IsSeatOf};
 
 use rcu_cell::{CellRule, CellSeat, Version, Writer};
 use rcu_live::Live;
 use std::sync::Wait;
 
-/// Moves a grace period of so many processors on, from the processor 0, and looks which slots are
-/// free. A callback asks for the grace period; where its queueing is refused memory, a later call
+/// Moves a grace period of this many processors on, from the processor 0, and looks which slots are
+/// free. A callback asks for the grace period; if its queue call is refused memory, a later call
 /// does.
 pub(crate) fn drive<R: Wait, F: Version<W>, const W: usize>(
     rt: &R,

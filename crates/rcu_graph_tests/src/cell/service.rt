@@ -22,7 +22,7 @@ const REQUESTS: u32 = 100_000;
 /// How often the limits are replaced.
 const CHANGES: u32 = 1_000;
 
-/// Who answers requests, with its processor's seat.
+/// The server, which answers requests, with its processor's seat.
 #[derive(Drop)]
 struct Server<'a> {
     live: &'a SharedEngine,
@@ -33,8 +33,8 @@ struct Server<'a> {
 }
 
 impl<'a> Server<'a> {
-    /// Whether so many requests at once are let in, by the limits that are shown. It waits for
-    /// nobody, and nobody waits for it longer than up to its quiescent state.
+    /// Returns whether this many requests at once are admitted, by the current limits. It never
+    /// waits, and a driver waits for it at most until its quiescent state.
     fn admits(&mut self, at_once: u32) -> Result<bool, Fault> {
         let limits = self.cell.value_section(self.live, &mut self.seat)?;
         self.seat.quiesce(self.live)?;
@@ -56,7 +56,7 @@ impl<'a> Server<'a> {
     }
 }
 
-/// Who replaces the limits, and drives the engine, with the seat of processor 0.
+/// The control, which replaces the limits and drives the engine, with the seat of processor 0.
 #[derive(Drop)]
 struct Control<'a> {
     live: &'a SharedEngine,
@@ -66,7 +66,7 @@ struct Control<'a> {
 }
 
 impl<'a> Control<'a> {
-    /// Replaces the limits. Where no slot is free, some grace period has to pass first.
+    /// Replaces the limits. If no slot is free, some grace period has to pass first.
     fn replace<R: Wait>(&mut self, rt: &R, limits: Limits)
         requires { limits.rate ≤ limits.burst }
     {
@@ -86,9 +86,9 @@ impl<'a> Control<'a> {
     }
 }
 
-/// Runs the control on a thread of its own, and a server here. Where no thread can be made, the
-/// control runs last: it waits for the server, which waits for nobody. When both have ended, the
-/// cell and its engine may go: what waits in a slot needs no grace period for it.
+/// Runs the control on a thread of its own, and a server here. If no thread can be made, the
+/// control runs last: it waits for the server, which never waits. When both have ended, the cell
+/// and its engine may go: the versions that wait in slots then need no grace period.
 fn run_service<R: Abort + Threads + Wait + Sync>(
     rt: &R,
     live: &SharedEngine,

@@ -5,8 +5,8 @@ use rcu_cell::{Cell, NotOpened};
 use rcu_seq::Fault;
 use std::alloc::Global;
 
-/// Opens a cell of so many processors and slots. Answers for how many it deals seats, by a second
-/// call where the first is refused a growth.
+/// Opens a cell of this many processors and slots. Answers for how many it deals seats, by a second
+/// call if the first is refused memory.
 fn opens(alloc: Global, cpus: u32, last: u64, slots: usize) -> Result<usize, NotOpened> {
     let mut opened = Cell::<Any, 1>::open::<64, 64, u64>(alloc, cpus, last, slots, &[7]);
     if matches!(opened, Err(NotOpened::Fault(Fault::NoMemory))) {

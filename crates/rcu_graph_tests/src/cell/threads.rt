@@ -43,7 +43,7 @@ type Engine = Live<4, 4, u64, CellRule<Same, 4>>;
 /// The last version that is published.
 const LAST: u64 = 25_000;
 
-/// How often a reader reads at most: it ends also where no thread can be made for it.
+/// How often a reader reads at most: it ends also if no thread can be made for it.
 const READS: u32 = 4_000_000;
 
 /// A reader, with its processor's seat.
@@ -116,8 +116,8 @@ impl<'a> Updater<'a> {
     }
 }
 
-/// Runs the readers and the updater. Where no thread can be made for the updater, it runs here
-/// last, since it waits for readers, and they for nobody.
+/// Runs the readers and the updater. If no thread can be made for the updater, it runs here last,
+/// since it waits for readers, which never wait.
 fn run_beside<R: Threads + Wait + Sync>(
     rt: &R,
     updater: Updater<'_>,

@@ -122,7 +122,7 @@ impl<'a> Reader<'a> {
     }
 }
 
-/// Who replaces the limits, with the seat of processor 0.
+/// The control, which replaces the limits, with the seat of processor 0.
 #[derive(Drop)]
 struct Control<'a> {
     live: &'a SharedEngine,
@@ -154,7 +154,7 @@ impl<'a> Control<'a> {
     }
 }
 
-/// The control beside the reader. Where no thread can be made, the control runs last.
+/// The control beside the reader. If no thread can be made, the control runs last.
 fn run_beside<R: Threads + Wait + Sync>(
     rt: &R,
     control: Control<'_>,

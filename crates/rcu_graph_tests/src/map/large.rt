@@ -15,7 +15,7 @@ impl<'a> Scene<'a> {
         self.writer.remove(u64::from(network)).is_some()
     }
 
-    /// Whether a section finds the route to a network as it was put in.
+    /// Returns whether a section finds the route to a network as it was put in.
     fn finds(&mut self, network: u32) -> bool {
         let key = u64::from(network);
         let found = self.map.get_section(self.live, &mut self.seat, key);

@@ -1,5 +1,5 @@
-//! Going over the routes of a map with no cursor: behind each route comes the next one, also where
-//! it was taken out meanwhile.
+//! Going over the routes of a map with no cursor: behind each route comes the next one, also if it
+//! was taken out meanwhile.
 ghost use Rattle.std.specs.Prelude.{◌≡◌};
 ghost use Rattle.rcu_live.specs.CpuSeat.{after_word_step};
 ghost use Rattle.rcu_graph.specs.Graph.{IsWalking};
@@ -14,7 +14,7 @@ use rcu_map::MapWriter;
 use std::process::Abort;
 
 /// The networks from 1 to 9 as 4 buckets of a map of the seed 0 have them: 2 and 5, 4 and 7, 1, 6
-/// and 9, 3 and 8. Behind them there is none.
+/// and 9, 3 and 8. No network is behind them.
 static ORDER: [u64; NETWORKS] = [2, 5, 4, 7, 1, 6, 9, 3, 8, 0];
 
 /// The routes to which a section comes one behind the other, from the first one on.
@@ -65,7 +65,7 @@ impl<'a> Scene<'a> {
         routes.map(|route| route.map_or(0, |route| route.network))
     }
 
-    /// Puts a route to each network of so many in. Returns how many were put in.
+    /// Puts a route to each network of this many in. Returns how many were put in.
     fn fill(&mut self, networks: u32) -> u32 {
         let mut filled = 0u32;
         for network in 1..=networks {

@@ -12,7 +12,7 @@ pub(crate) struct Route {
 }
 
 impl Route {
-    /// A route to a network, where there is such a number.
+    /// Returns a route to a network, if the number is one.
     pub(crate) fn to(network: u32, port: u32) -> Option<Route>
         ensures { IfSome result (λ route. 0 < route.network) }
     {

@@ -44,7 +44,7 @@ fn write_row(row: &mut [u64], key: u64, version: u64)
     row[0] = key;
 }
 
-/// Whether the room has the entry of this key and version.
+/// Returns whether the buffer has the entry of this key and version.
 fn has(room: &[u64], row: &mut [u64], key: u64, version: u64) -> bool
     requires some { 0 < length row.old }
     requires key { 0 < key }
@@ -73,7 +73,7 @@ impl Desk {
         self.writer.put_words(how, &self.row, &mut self.room)
     }
 
-    /// Whether the room has the entry of this key and version.
+    /// Returns whether the buffer has the entry of this key and version.
     fn has(&mut self, key: u64, version: u64) -> bool
         requires { 0 < key }
     {
@@ -118,7 +118,8 @@ impl Desk {
     }
 }
 
-/// How many keys a section finds, each with its entry. The key 0 is none, and leaves the room.
+/// How many keys a section finds, each with its entry. The key 0 is no key, and leaves the buffer
+/// as it is.
 fn found(map: &Rows, seat: &mut MapSeat<Row, 0>, row: &mut [u64], room: &mut [u64]) -> u64
     requires walking { IsWalking map.now seat.old }
     requires row { length row.old ≡ map.now.plan.words }
@@ -160,7 +161,7 @@ fn listed(map: &Rows, seat: &mut MapSeat<Row, 0>, row: &mut [u64], room: &mut [u
     KEYS + 1
 }
 
-/// Two rooms of so many words.
+/// Two buffers of this many words.
 fn rooms(alloc: Global, words: usize) -> Result<(Vec<u64>, Vec<u64>), AllocError>
     ensures first { IfOk result (λ rooms. length rooms.0.items ≡ words) }
     ensures second { IfOk result (λ rooms. length rooms.1.items ≡ words) }
@@ -168,7 +169,7 @@ fn rooms(alloc: Global, words: usize) -> Result<(Vec<u64>, Vec<u64>), AllocError
     Ok((vec![in alloc; 0u64; words]?, vec![in alloc; 0u64; words]?))
 }
 
-/// Opens a map of entries of so many words, and puts entries in, reads them and takes them out.
+/// Opens a map of entries of this many words, and puts entries in, reads them and takes them out.
 fn uses<R: Abort>(rt: &R, alloc: Global, words: usize) -> Result<(), NotOpened>
     requires { 2 ≤ words }
 {

@@ -1,4 +1,4 @@
-//! One thread calls a map by a script, beside a plain table of what it has: by the map's writer,
+//! One thread calls a map by a script, beside a plain table of its entries: by the map's writer,
 //! and by an updater.
 mod caller;
 
@@ -45,9 +45,9 @@ static ORDER: Order = (0, [0, 2, 4, 5, 7, 1, 3, 6, 8, 9]);
 
 static OTHER_ORDER: Order = (0x6A09_E667_F3BC_C908, [0, 1, 3, 5, 7, 9, 2, 4, 6, 8]);
 
-/// Entries in front of others, behind them and between them; each call where the key is there, and
-/// where it is not; a full map, and one of which no node is free yet; updates where the port is as
-/// it was read, and where it is another one.
+/// Entries in front of others, behind them and between them; each call with a key that is there,
+/// and with one that is not; a full map, and one of which no node is free yet; updates if the port
+/// is as it was read, and if it is another one.
 static SCRIPT: [Call; 50] = [
     Call::Remove(5, None),
     Call::Compare(5, 1, 1, Ok(None)),
@@ -101,7 +101,7 @@ static SCRIPT: [Call; 50] = [
     Call::CompareRemove(1, 4, Some(5)),
 ];
 
-/// Whether a call puts its route in, by the port that it returns.
+/// Returns whether a call puts its route in, by the port that it returns.
 fn puts(how: Put, port: Result<Option<u32>, Full>) -> bool {
     matches!(
         (how, port),
@@ -109,8 +109,8 @@ fn puts(how: Put, port: Result<Option<u32>, Full>) -> bool {
     )
 }
 
-/// A map of up to 4 routes in 2 buckets, who makes the calls, and the ports that its routes have by
-/// the script.
+/// A map of up to 4 routes in 2 buckets, the caller, and the ports that its routes have by the
+/// script.
 #[derive(Drop)]
 struct Scene<'a, C: Caller + Drop> {
     live: &'a Engine,
@@ -157,14 +157,14 @@ pub(crate) fn lists<R: Abort>(
 }
 
 impl<'a, C: Caller + Drop> Scene<'a, C> {
-    /// What the table has of a network.
+    /// Returns the table's route to a network.
     fn route_to(&self, network: u32) -> Option<Route> {
         let port = *self.ports.get(network as usize)?;
         let route = Route::to(network, port)?;
         (port > 0).then_some(route)
     }
 
-    /// What the table has of each network, in the order of the buckets.
+    /// Returns the table's route to each network, in the order of the buckets.
     fn in_order(&self) -> [Option<Route>; NETWORKS] {
         let mut routes = [None; NETWORKS];
         for (route, network) in routes.iter_mut().zip(&self.order) {

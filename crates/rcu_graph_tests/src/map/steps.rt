@@ -37,7 +37,7 @@ fn work<R: Wait>(rt: &R, control: &Control) -> u32 {
     moves
 }
 
-/// Two threads at once. Where no thread can be made, the second one's part runs last.
+/// Two threads at once. If no thread can be made, the second one's part runs last.
 fn work_both<R: Threads + Wait + Sync>(rt: &R, control: &Control) -> (u32, u32) {
     thread::join(rt, move || work(rt, control), move || work(rt, control))
 }

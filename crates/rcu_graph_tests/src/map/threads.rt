@@ -1,5 +1,5 @@
-//! Four readers beside two administrators, who share an updater, each on a thread of its own: what
-//! a reader finds of a network is what that one had at some moment of the look.
+//! Four readers beside two administrators, which share an updater, each on a thread of its own: the
+//! result of a reader's lookup of a network is the one at some moment of the lookup.
 mod admin;
 mod history;
 mod reader;
@@ -79,9 +79,9 @@ fn administer_both<R: Abort + Threads + Wait + Sync>(rt: &R, admins: (Admin<'_>,
     thread::join(rt, move || one.administer(rt), move || other.administer(rt));
 }
 
-/// Runs all threads, and reads once more when they have ended. Where no thread can be made for the
-/// readers, they run last, since they go on until the administrators have ended. Those wait for
-/// nobody but readers that are online.
+/// Runs all threads, and reads once more when they have ended. If no thread can be made for the
+/// readers, they run last, since they go on until the administrators have ended. Those wait only
+/// for readers that are online.
 fn run<R: Abort + Threads + Wait + Sync>(rt: &R, mut spare: Spare<'_>) {
     let readers = (spare.next_reader(rt), spare.next_reader(rt));
     let more = (spare.next_reader(rt), spare.next_reader(rt));

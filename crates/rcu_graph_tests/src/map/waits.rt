@@ -81,8 +81,8 @@ fn makes<R: Abort + Wait>(rt: &R, alloc: Global, last: u64, calls: &[Call], port
     }
 }
 
-/// A map that is full, and one that is not: each way to put a route in, where it is one too many,
-/// where it needs a node and where it does not.
+/// A map that is full, and one that is not: each way to put a route in: one that is one too many,
+/// one that needs a node, and one that does not.
 static FULL: [Call; 23] = [
     Call::Put(Replace, 1, 1, Ok(None)),
     Call::Put(Insert, 1, 1, Ok(None)),

@@ -1,4 +1,4 @@
-//! A chain with its writer: what a call asks for is tested first, by what the writer knows.
+//! A chain with its writer: it first tests the conditions of a call, by the writer's knowledge.
 ghost use Rattle.std.specs.Prelude.{◌≡◌, ◌<◌, ℕ, IfOk, IfSome, IsTrue, replicate, slice_index};
 ghost use Rattle.rcu_graph.specs.Graph.{word_to};
 ghost use Rattle.rcu_graph.specs.Writer.{IsReady, IsWriterOf};
@@ -19,7 +19,7 @@ pub(crate) const PLAN: Plan = Plan {
     seed: 0,
 };
 
-/// Who keeps the chain.
+/// The writer of the chain.
 #[derive(Drop)]
 pub(crate) struct ChainWriter {
     pub(crate) writer: Writer<Sorted>,
@@ -40,7 +40,7 @@ impl ChainWriter {
         Ok(ChainWriter { writer })
     }
 
-    /// Whether a node's link may lead there: nowhere, or to a live node of a greater key.
+    /// Returns whether a node's link may lead there: nowhere, or to a live node of a greater key.
     fn may_lead(&self, from: usize, to: Option<usize>) -> bool
         requires { from < 4 }
         ensures { IsTrue result → IsTarget (λ from to. slice_index from 0 < slice_index to 0)
@@ -60,7 +60,7 @@ impl ChainWriter {
         self.writer.word(from, 0) < self.writer.word(node, 0)
     }
 
-    /// Whether a node may be published.
+    /// Returns whether a node may be published.
     fn is_ready(&self, node: usize) -> bool
         requires { node < 4 }
         ensures { IsTrue result → IsReady (λ _. Unit {0})
@@ -80,7 +80,7 @@ impl ChainWriter {
         Ok(node)
     }
 
-    /// Links a live node to a free one, where that may be. Returns whether it did.
+    /// Links a live node to a free one, if that is allowed. Returns whether it did.
     pub(crate) fn publish(&mut self, from: usize, to: usize) -> bool
         requires from { from < 4 }
         requires to { to < 4 }
@@ -98,7 +98,7 @@ impl ChainWriter {
         true
     }
 
-    /// Leads the link of a live node elsewhere, where that may be. Returns whether it did.
+    /// Leads the link of a live node elsewhere, if that is allowed. Returns whether it did.
     pub(crate) fn link(&mut self, from: usize, to: Option<usize>) -> bool
         requires { from < 4 }
     {

@@ -23,10 +23,10 @@ const KEY: u64 = 5;
 /// The value of the last entry, which stays. The values go up from 1.
 const LAST: u64 = 4_001;
 
-/// How often a reader searches at most: it ends also where no thread can be made for it.
+/// How often a reader searches at most: it ends also if no thread can be made for it.
 const SEARCHES: u32 = 400_000;
 
-/// Searches the chain twice. Returns the value of the entry that was found first, 0 where there was
+/// Searches the chain twice. Returns the value of the entry that was found first, 0 if there was
 /// none, and whether it stayed the same, and the second one was none before it.
 fn look_twice(chain: &Chain, seat: &mut Seat) -> (u64, bool)
     requires sized { chain.now.plan ≡ plan_of 1 1 2 4 0 }
@@ -156,8 +156,8 @@ impl<'a> Updater<'a> {
     }
 }
 
-/// Runs two readers beside the writer. Where no thread can be made for the writer, it runs here
-/// last, since it waits for readers, and they for nobody.
+/// Runs two readers beside the writer. If no thread can be made for the writer, it runs here last,
+/// since it waits for readers, which never wait.
 fn run_beside<R: Threads + Wait + Sync>(
     rt: &R,
     updater: Updater<'_>,

@@ -1,5 +1,5 @@
-//! A writer's calls on one thread: a full chain is unlinked by one store, and its nodes come back
-//! after a full grace period, and no sooner; what was freed last is used first.
+//! A writer's calls on one thread: a full chain is unlinked by one store, and its nodes are free
+//! again after a full grace period, and no sooner; the node that was freed last is used first.
 ghost use Rattle.std.specs.Prelude.{◌≡◌, ◌<◌, All};
 ghost use Rattle.rcu_live.specs.CpuSeat.{IsSeatOf};
 
@@ -32,7 +32,7 @@ impl<'a, R: Abort + Wait> Periods<'a, R> {
         Periods { rt, live, seat }
     }
 
-    /// Drives for who waits for this number, and compares what it answers.
+    /// Drives for a waiter for this number, and compares the answer.
     fn drives(&self, number: u64, wanted: Turned) {
         let turned = self.live.drive_for(self.rt, Cookie { epoch: 0, number });
         compare(self.rt, number, turned, Ok(wanted));
@@ -58,15 +58,15 @@ const LIVE: (bool, bool) = (false, true);
 /// Unlinked, or retired.
 const GONE: (bool, bool) = (false, false);
 
-/// Whether a node is free, and whether it is live.
+/// Returns whether a node is free, and whether it is live.
 fn state(kept: &ChainWriter, node: usize) -> (bool, bool)
     requires { node < 4 }
 {
     (kept.writer.is_free(node), kept.writer.is_live(node))
 }
 
-/// Adds a node with a key behind another one, and compares what the writer knows of it. Returns the
-/// node.
+/// Adds a node with a key behind another one, and compares the writer's knowledge about it. Returns
+/// the node.
 fn add<R: Abort>(rt: &R, kept: &mut ChainWriter, from: usize, key: u64) -> usize
     requires { from < 4 }
     ensures { result < 4 }

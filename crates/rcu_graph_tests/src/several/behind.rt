@@ -1,4 +1,4 @@
-//! What waits and what lists, of a map that stands behind another one.
+//! Waits and iterations of a map that is behind another one.
 ghost use Rattle.std.specs.Prelude.{◌≡◌, ◌<◌};
 ghost use Rattle.rcu_live.specs.CpuSeat.{after_word_step};
 ghost use Rattle.rcu_live.specs.InPart.{engine_part, seat_part};
@@ -16,7 +16,7 @@ use std::sync::Wait;
 /// How often a route is put in and taken out again, through three nodes.
 const REMOVALS: u32 = 100;
 
-/// Puts a route in where its network has none.
+/// Puts a route in if its network has none.
 fn puts<R: Abort, P: Within<Rule>>(rt: &R, writer: &mut MapWriter<Route, 2, P>, row: (u32, u32)) {
     let (network, port) = row;
     if let Some(route) = Route::to(network, port) {
@@ -84,7 +84,7 @@ fn a_section_reads_a_map_behind_another(rt: HostRuntime) {
     }
 }
 
-/// The writer of a map, wherever that stands in the engine, and the seat of the one processor.
+/// The writer of a map, wherever that is in the engine, and the seat of the one processor.
 #[derive(Drop)]
 struct Scene<'a, P: Within<Rule>> {
     live: &'a Live<4, 4, u64, P::Whole>,

@@ -1,4 +1,5 @@
-//! A thread that is idle but in its sections: what it is refused, and what grace periods await.
+//! A thread that is idle except in its sections: its refusals, and the processors that grace
+//! periods await.
 ghost use Rattle.std.specs.Prelude.{◌≡◌};
 
 use crate::deferral::LAST;

@@ -6,7 +6,7 @@ use rcu_seq::Fault;
 use std::ops::Range;
 use std::process::Abort;
 
-/// Defers a value, by a second call where the first is refused a growth.
+/// Defers a value, by a second call if the first is refused memory.
 fn defers<R: Abort>(rt: &R, list: &mut DeferList<u64>, value: u64)
     ensures { list.new.marks.seen ≡ list.old.marks.seen }
 {
@@ -31,15 +31,15 @@ fn defers_nine<R: Abort>(rt: &R, list: &mut DeferList<u64>)
     defers(rt, list, 8);
 }
 
-/// Takes so many values out that are done.
+/// Takes out this many done values.
 fn takes<R: Abort>(rt: &R, list: &mut DeferList<u64>, values: Range<u64>) {
     for value in values {
         assert_eq!(rt; list.take(), Some(value));
     }
 }
 
-/// Compares for how many values a list has room that gave the rest back, by a second call where
-/// the first is refused the smaller block.
+/// Compares for how many values a list has room after it freed the rest, by a second call if the
+/// first is refused the smaller block.
 fn shrinks<R: Abort>(rt: &R, list: &mut DeferList<u64>, wanted: usize)
     ensures { list.new.marks ≡ list.old.marks }
 {
@@ -48,8 +48,7 @@ fn shrinks<R: Abort>(rt: &R, list: &mut DeferList<u64>, wanted: usize)
     assert_eq!(rt; (list.count(), list.room()), (wanted, wanted));
 }
 
-/// A list with values keeps room for them alone, also where it has grown, and an empty one keeps
-/// none.
+/// A list with values keeps room for them alone, also if it has grown, and an empty one keeps none.
 #[test]
 fn a_list_of_values_gives_room_back(rt: HostRuntime) {
     let mut list = DeferList::new(rt.alloc());

@@ -43,7 +43,7 @@ fn until(tends: &Tends, place: u64) -> Option<u64> {
     None
 }
 
-/// Whether some tend reached that number.
+/// Returns whether some tend reached that number.
 fn is_done(tends: &Tends, place: u64) -> bool {
     let Some(wanted) = until(tends, place) else {
         return false;
@@ -58,7 +58,7 @@ fn is_done(tends: &Tends, place: u64) -> bool {
     false
 }
 
-/// How many deferrals are done, of so many.
+/// Returns how many of this many deferrals are done.
 fn done_count(tends: &Tends, deferred: u64) -> u64 {
     let mut count: u64 = 0;
     for place in 0..deferred {
@@ -69,7 +69,7 @@ fn done_count(tends: &Tends, deferred: u64) -> u64 {
     count
 }
 
-/// The number that the last one waits for, of those of so many that wait.
+/// Returns the number that the last waiting one of this many deferrals waits for.
 fn last_until(tends: &Tends, deferred: u64) -> Option<u64> {
     let mut last = None;
     for place in 0..deferred {
@@ -81,14 +81,14 @@ fn last_until(tends: &Tends, deferred: u64) -> Option<u64> {
     last
 }
 
-/// The value that a take hands out, of so many that were deferred and so many that were taken: none
-/// where no other is done.
+/// Returns the value that a take hands out, if this many were deferred and this many taken: none if
+/// no other is done.
 fn next_taken(tends: &Tends, deferred: u64, taken: u64) -> Option<u64> {
     (taken < done_count(tends, deferred)).then_some(taken)
 }
 
-/// What a list tells then: how many values are done, how many there are, and for what number the
-/// last one waits.
+/// Returns the answers of a list then: how many values are done, how many it has, and the number
+/// that the last one waits for.
 fn told(tends: &Tends, deferred: u64, taken: u64) -> (u64, u64, Option<u64>) {
     (
         done_count(tends, deferred).wrapping_sub(taken),
@@ -97,7 +97,7 @@ fn told(tends: &Tends, deferred: u64, taken: u64) -> (u64, u64, Option<u64>) {
     )
 }
 
-/// Defers a value, by a second call where the first is refused a growth.
+/// Defers a value, by a second call if the first is refused memory.
 fn defers<R: Abort>(rt: &R, list: &mut DeferList<u64>, value: u64) {
     if let Err(refused) = list.defer(value) {
         assert_eq!(rt; (refused.fault, refused.value), (Fault::NoMemory, value));

@@ -31,7 +31,7 @@ pub fn six_calls_lose_nothing<T: Drop, P: Client>()
     laws::no_callback_is_lost::<T, P>();
 }
 
-/// What the sixth call hands out is not early.
+/// The callback that the sixth call hands out is not early.
 pub fn six_calls_hand_out_nothing_early<T: Drop, P: Client>()
     ensures { (known : P.Known) (table : TableId) (last : Number) (most at : ℕ) (value : T)
         (handed : Queued T) →
@@ -43,7 +43,7 @@ pub fn six_calls_hand_out_nothing_early<T: Drop, P: Client>()
     laws::no_callback_runs_early::<T, P>();
 }
 
-/// Where the barrier's test says done, the callback before it was handed out.
+/// If the barrier's test answers done, the callback before it was handed out.
 pub fn a_barrier_covers_the_callback_before_it<T: Drop, P: Client>()
     ensures { (known : P.Known) (table : TableId) (last : Number) (most : ℕ) (value : T) →
         times_handed_out 1 (engine_at_first table 1 last most known) (under_a_barrier value) ≡ 1 }

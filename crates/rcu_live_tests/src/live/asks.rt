@@ -85,7 +85,7 @@ fn begin<R: Abort + Wait>(
     assert_eq!(rt; live.drive_for(rt, first_cookie()), Ok(Turned::Waiting(1)));
 }
 
-/// Whether a wait hears of processor 1 that reports so between the asking and the look.
+/// Returns whether a wait hears of processor 1 that reports so between the asking and the look.
 fn is_heard_between<R: Abort + Wait>(
     rt: &R,
     live: &Four,
@@ -170,7 +170,7 @@ struct Between<'a, R: Wait> {
 }
 
 impl<'a, R: Wait> Between<'a, R> {
-    /// Whether a wait that asks now hears of processor 1.
+    /// Returns whether a wait that asks now hears of processor 1.
     fn is_heard(&self) -> bool {
         let mut engine = self.live.lock(self.rt);
         match self.live.ask(&engine, 0, first_cookie()) {
@@ -200,7 +200,7 @@ impl<'a, R: Wait> Shared<NoClient> for Between<'a, R> {
     }
 }
 
-/// Whether a wait that asks and looks in the middle of the report hears of processor 1.
+/// Returns whether a wait that asks and looks in the middle of the report hears of processor 1.
 fn is_heard_within<R: Abort + Wait>(
     rt: &R,
     live: &Four,
@@ -250,7 +250,7 @@ fn the_first_rounds_of_a_wait_do_not_sleep(rt: HostRuntime) {
     }
 }
 
-/// No wait sleeps for its own processor, nor where its cookie is done, or nobody is awaited.
+/// No wait sleeps for its own processor, nor if its cookie is done, or no processor is awaited.
 #[test]
 fn no_wait_sleeps_that_nobody_would_wake(rt: HostRuntime) {
     let Pair {
@@ -307,9 +307,9 @@ fn begin_with_two<R: Abort + Wait>(
     assert_eq!(rt; live.drive_for(rt, first_cookie()), Ok(Turned::Waiting(2)));
 }
 
-/// A wait asks processor 1, which then reports by the words alone, and so wakes nobody. Another
-/// wait hears of it, and of processor 2, which it asks. Then the first one sleeps, whom that
-/// wakes. Returns whether it did.
+/// A wait asks processor 1, which then reports by the words alone, and so wakes no waiter. Another
+/// wait collects from it, and from processor 2, which it asks. Then the first wait sleeps, and that
+/// wakes it. Returns whether it did.
 fn sleeps_behind_another<R: Abort + Wait>(
     rt: &R,
     live: &Four,

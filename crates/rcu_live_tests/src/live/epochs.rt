@@ -13,7 +13,7 @@ use std::sync::Wait;
 /// The parts of an engine.
 type FourParts = Parts<4, 4, u64>;
 
-/// Opens the parts of an object, by a second call where the first is refused a growth.
+/// Opens the parts of an object, by a second call if the first is refused memory.
 fn open_parts(rt: &impl Abort, alloc: Global) -> FourParts
     ensures { result.own.table ≡ (arc_value result.board).table }
 {

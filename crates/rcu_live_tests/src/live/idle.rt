@@ -1,4 +1,4 @@
-//! Idle processors: what they are refused, and that no grace period waits for them.
+//! Idle processors: their refusals; no grace period waits for them.
 ghost use Rattle.std.specs.Prelude.{◌≡◌};
 
 use crate::live::steps::Script;
@@ -76,7 +76,7 @@ fn awaited_processor_gets_idle(rt: HostRuntime) {
     idle_while_awaited(&Script::new(&rt, &live), &mut first, &mut second);
 }
 
-/// What an idle processor is refused, as a watcher meets it.
+/// The refusals of an idle processor, as a watcher meets it.
 fn refuse_while_idle<R: Abort + Wait>(
     script: &Script<'_, R>,
     seat: &mut CpuSeat,

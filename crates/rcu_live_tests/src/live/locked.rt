@@ -1,5 +1,5 @@
 //! Calls under the lock: one grace period with two seats, a barrier over a migration, a turn that
-//! ends what the seats see, and what a refused growth leaves.
+//! ends what the seats see, and the state after a refused growth.
 ghost use Rattle.std.specs.Prelude.{◌≡◌};
 
 use crate::live::steps::{Script, of_epoch};
@@ -142,8 +142,8 @@ fn barrier_over_a_migration<R: Abort + Wait>(script: &Script<'_, R>, first: &mut
     script.barrier_test(Err(Fault::NoBarrier));
 }
 
-/// Takes the processor offline. Where its growth is refused it has departed, its list stays, and
-/// the same call again finishes it.
+/// Takes the processor offline. If its growth is refused it has departed, its list stays, and the
+/// same call again finishes it.
 fn leave<R: Abort + Wait>(script: &Script<'_, R>, seat: &mut CpuSeat, wanted: u64)
     requires { seat.old.table ≡ script.now.live.now.table }
     ensures { seat.new.table ≡ seat.old.table }
@@ -155,7 +155,7 @@ fn leave<R: Abort + Wait>(script: &Script<'_, R>, seat: &mut CpuSeat, wanted: u6
     }
 }
 
-/// A processor with a callback departs. Where its growth is refused it comes back instead, and then
+/// A processor with a callback departs. If its growth is refused it comes back instead, and then
 /// has its list.
 fn depart_or_return<R: Abort + Wait>(
     script: &Script<'_, R>,

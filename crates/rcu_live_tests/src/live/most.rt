@@ -9,8 +9,8 @@ use std::alloc::Global;
 use std::process::Abort;
 use std::sync::Wait;
 
-/// Opens an engine of one processor in which three callbacks may be queued, by a second call where
-/// the first is refused a growth.
+/// Opens an engine of one processor in which three callbacks may be queued, by a second call if the
+/// first is refused memory.
 fn open_for_three(rt: &impl Abort, alloc: Global) -> (Four, CpuSeat)
     ensures { result.1.table ≡ result.0.table }
 {

@@ -1,5 +1,5 @@
-//! Waits that sleep, and each way in which a reader's thread wakes them. A wake-up that is lost has
-//! such a test run for ever: nobody stores an own word any more.
+//! Waits that sleep, and each way in which a reader's thread wakes them. If a wake-up is lost, such
+//! a test runs for ever: no thread stores an own word any more.
 ghost use Rattle.std.specs.Prelude.{◌≡◌};
 ghost use Rattle.std.specs.Thread.{IsSync};
 
@@ -26,16 +26,16 @@ pub(crate) enum Report {
     QuiesceAndEnd,
 }
 
-/// How often a reader yields before it reports: long enough for who waits to sleep.
+/// How often a reader yields before it reports: long enough for the waiter to sleep.
 const TURNS: u32 = 5_000;
 
-/// How often a reader looks for a begin. Where no second thread can be made it finds none.
+/// How often a reader looks for a begin. If no second thread can be made it finds none.
 const LOOKS: u32 = 100_000;
 
 /// How often two waits are tried.
 const TRIES: u32 = 20;
 
-/// Who waits for a grace period, with a processor's seat and a watcher.
+/// A waiter for a grace period, with a processor's seat and a watcher.
 #[derive(Drop)]
 struct Waiter<'a> {
     live: &'a Four,
@@ -71,12 +71,12 @@ struct Reader<'a> {
 }
 
 impl<'a> Reader<'a> {
-    /// Whether a grace period has begun.
+    /// Returns whether a grace period has begun.
     fn finds_a_begin(&mut self) -> bool {
         self.watcher.number(self.live) > 0
     }
 
-    /// Looks for a begin, so many times.
+    /// Looks for a begin, this many times.
     fn looks_for_a_begin(&mut self) -> bool {
         for _ in 0..LOOKS {
             if self.finds_a_begin() {
@@ -87,8 +87,8 @@ impl<'a> Reader<'a> {
         false
     }
 
-    /// Keeps a section open until a grace period has begun, and long enough for who waits to sleep,
-    /// and then reports so. Where none begins it departs.
+    /// Keeps a section open until a grace period has begun, and long enough for the waiter to
+    /// sleep, and then reports. If none begins it departs.
     fn read_and_report<R: Wait>(mut self, rt: &R, report: Report) {
         let live = self.live;
         let _ = self.seat.enter(live);
@@ -161,7 +161,7 @@ fn next_reader<'a, R: Abort + Wait>(
     }
 }
 
-/// A wait beside a reader. Where no thread can be made for it, the wait comes last.
+/// A wait beside a reader. If no thread can be made for it, the wait comes last.
 fn wait_beside<R: Threads + Wait + Sync>(
     rt: &R,
     waiter: Waiter<'_>,
@@ -213,7 +213,7 @@ fn a_wait_that_sleeps_is_woken_by_an_end_of_another_thread(rt: HostRuntime) {
     is_woken_by(&rt, rt.alloc(), Report::QuiesceAndEnd);
 }
 
-/// Two waits beside a reader, the first one of an idle processor. Where no thread can be made for
+/// Two waits beside a reader, the first one of an idle processor. If no thread can be made for
 /// them, they come last, in turn.
 fn wait_twice_beside<R: Threads + Wait + Sync>(
     rt: &R,

@@ -1,4 +1,4 @@
-//! How seats stand, and whom a grace period awaits.
+//! The states of seats, and the processors that a grace period awaits.
 ghost use Rattle.std.specs.Prelude.{◌≡◌};
 
 use crate::live::steps::Script;
@@ -46,7 +46,7 @@ fn seats_tell_how_they_stand(rt: HostRuntime) {
     come_and_go(&script, &mut second);
 }
 
-/// A grace period that awaits both processors, then the second one alone, then nobody.
+/// A grace period that awaits both processors, then the second one alone, then none.
 fn await_each<R: Abort + Wait>(script: &Script<'_, R>, first: &mut CpuSeat, second: &mut CpuSeat)
     requires first { first.old.table ≡ script.now.live.now.table }
     requires second { second.old.table ≡ script.now.live.now.table }

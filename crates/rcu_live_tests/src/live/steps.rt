@@ -1,4 +1,4 @@
-//! Scripts of calls of an object, each compared with the answer that is wanted.
+//! Scripts of calls of an object, each compared with the expected answer.
 mod driving;
 mod sections;
 
@@ -22,9 +22,8 @@ pub(crate) fn of_epoch(epoch: u64, number: u64) -> Cookie {
     Cookie { epoch, number }
 }
 
-/// A script of calls of an object. Each call is a row, and they count from 1. Where an answer is
-/// not the one that is wanted, the test fails with the row, the call, what came and what was
-/// wanted.
+/// A script of calls of an object. Each call is a row, counted from 1. If an answer is not the
+/// expected one, the test fails with the row, the call, the actual answer and the expected one.
 #[derive(Drop)]
 pub(crate) struct Script<'a, R: Abort + Wait> {
     rt: &'a R,
@@ -148,8 +147,8 @@ impl<'a, R: Abort + Wait> Script<'a, R> {
         self.compare_of("shrink", cpu, self.live.shrink(self.rt, cpu), wanted);
     }
 
-    /// Queues a callback, by a second call where the first is refused a growth, and compares how
-    /// many were queued.
+    /// Queues a callback, by a second call if the first is refused memory, and compares how many
+    /// were queued.
     pub(crate) fn queue(&self, seat: &mut CpuSeat, value: u64, wanted: u64)
         requires { seat.old.table ≡ self.now.live.now.table }
         ensures { seat.new.table ≡ seat.old.table }
@@ -165,7 +164,7 @@ impl<'a, R: Abort + Wait> Script<'a, R> {
         self.compare_of("queue", seat.cpu(), (value, found), (value, Ok(wanted)));
     }
 
-    /// Compares the fault of a queueing that is refused, which hands the callback back.
+    /// Compares the fault of a refused queue call, which hands the callback back.
     pub(crate) fn queue_refused(&self, seat: &mut CpuSeat, value: u64, wanted: Fault)
         requires { seat.old.table ≡ self.now.live.now.table }
         ensures { seat.new.table ≡ seat.old.table }
@@ -175,8 +174,8 @@ impl<'a, R: Abort + Wait> Script<'a, R> {
         self.compare_of("queue", seat.cpu(), found, Err((wanted, value)));
     }
 
-    /// Runs callbacks, by a second call where the first is refused a growth: the number, and the
-    /// number and the value of each callback's queueing.
+    /// Runs callbacks, by a second call if the first is refused memory: the number, and the number
+    /// and the value with which each callback was queued.
     pub(crate) fn run(&self, cpu: u32, max: u64, number: u64, wanted: &[(u64, u64)]) {
         let mut found = self.live.run(self.rt, cpu, max);
         if matches!(found, Err(Fault::NoMemory)) {
@@ -216,8 +215,8 @@ impl<'a, R: Abort + Wait> Script<'a, R> {
         self.compare_of("visit", cpu, self.live.visit(self.rt, cpu), wanted);
     }
 
-    /// A barrier visits a processor with a callback, by a second call where the first is refused a
-    /// growth.
+    /// A barrier visits a processor with a callback, by a second call if the first is refused
+    /// memory.
     pub(crate) fn mark(&self, cpu: u32) {
         let mut found = self.live.visit(self.rt, cpu);
         if found == Err(Fault::NoMemory) {

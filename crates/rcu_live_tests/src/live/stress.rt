@@ -6,8 +6,8 @@
 //! barrier runs. A fourth thread waits for barriers, and polls cookies with a second watcher.
 //!
 //! A reader sets a word of its own inside its section, to a stamp, and clears it before the exit.
-//! So whoever finds it set, to less than a stamp that was drawn at a taking or a queueing, knows a
-//! section that was open then and is open still.
+//! So if a thread finds it set to less than a stamp that was drawn at a snapshot or when a callback
+//! was queued, it knows a section that was open then and is still open.
 ghost use Rattle.std.specs.Prelude.{◌≡◌};
 ghost use Rattle.std.specs.Thread.{IsSync};
 
@@ -37,7 +37,7 @@ const MOST_CALLS: usize = 20_000;
 /// No run comes to this number.
 const LAST: u64 = 1 << 40;
 
-/// Runs the four threads. Where one can't be made, it runs here, and the run has no verdict.
+/// Runs the four threads. If one can't be made, it runs here, and the run has no verdict.
 fn run_all<R: Threads + Wait + Sync>(
     rt: &R,
     driver: &mut Driver<'_>,

@@ -10,7 +10,7 @@ use std::sync::Wait;
 use std::thread;
 use std::thread::Threads;
 
-/// An object of so many processors, opened by a second call where the first is refused a growth.
+/// An object of this many processors, opened by a second call if the first is refused memory.
 pub(crate) fn opened<R: Abort>(
     rt: &R,
     alloc: Global,
@@ -84,7 +84,7 @@ pub(crate) fn make_pair<R: Abort>(rt: &R, alloc: Global) -> Pair
     }
 }
 
-/// What a watcher tells: its cookie, whether that one is done, and whether the cookie 1 is.
+/// Returns a watcher's answers: its cookie, whether that one is done, and whether the cookie 1 is.
 fn watch(live: &Four, mut watcher: Watcher) -> (Cookie, bool, bool)
     requires { watcher.table ≡ live.now.table }
 {
@@ -185,7 +185,7 @@ fn arrival_and_departure(rt: HostRuntime) {
     script.offline(&mut first, Err(Fault::BootStays));
 }
 
-/// No object of so many processors opens with this last number.
+/// No object of this many processors opens with this last number.
 fn is_refused(rt: &impl Abort, alloc: Global, cpus: u32, last: u64, fault: Fault) {
     let found = Four::open(alloc, cpus, last).err();
     assert_eq!(rt; (cpus, last, found), (cpus, last, Some(fault)));
@@ -199,7 +199,7 @@ fn refused_openings(rt: HostRuntime) {
     is_refused(&rt, rt.alloc(), 256, 0, Fault::BadLast);
 }
 
-/// Opens an object of so many processors, by a second call where the first is refused a growth.
+/// Opens an object of this many processors, by a second call if the first is refused memory.
 fn opens(rt: &impl Abort, alloc: Global, cpus: u32, last: u64) -> Result<usize, Fault> {
     let mut opened = Live::<64, 64, u64>::open(alloc, cpus, last);
     if matches!(opened, Err(Fault::NoMemory)) {

@@ -84,8 +84,8 @@ fn waits_up_to_the_last_number(rt: HostRuntime) {
     wait_on_one_thread(&script, &mut first, &mut second, &mut watcher);
 }
 
-/// What readers and an updater share: which of two values is shown, both, and how far a reader of
-/// one section and the updater are.
+/// The state shared by readers and an updater: which of two values is current, both values, and the
+/// progress of a reader of one section and of the updater.
 #[derive(Drop)]
 struct Data {
     shown: AtomicU64,
@@ -96,7 +96,7 @@ struct Data {
     left: AtomicU64,
 }
 
-/// What a value has that no reader may see any more.
+/// The content of a value that no reader may still see.
 const FREED: u64 = u64::MAX;
 
 /// How often a reader of many sections reads.
@@ -105,7 +105,7 @@ const READS: u32 = 20_000;
 /// How often the updater replaces the value that is shown.
 const CHANGES: u64 = 200;
 
-/// How often a thread looks whether another one is so far. It goes on also where no second thread
+/// How often a thread checks whether another one got that far. It goes on also if no second thread
 /// can be made.
 const LOOKS: u32 = 100_000;
 
@@ -137,7 +137,7 @@ impl Data {
     }
 }
 
-/// Waits until another thread is so far, or for so many looks.
+/// Waits until another thread gets that far, or for this many checks.
 fn look_for(flag: &AtomicU64) {
     for _ in 0..LOOKS {
         if flag.load(Ordering::SeqCst) == 1 {
@@ -260,7 +260,7 @@ fn next_reader<'a, R: Abort + Wait>(
     Reader { live, data, seat }
 }
 
-/// Two readers beside the updater. Where no thread can be made for it, the updater runs last.
+/// Two readers beside the updater. If no thread can be made for it, the updater runs last.
 fn replace_beside<R: Threads + Wait + Sync>(
     rt: &R,
     updater: Updater<'_>,

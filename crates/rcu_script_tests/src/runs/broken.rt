@@ -9,7 +9,7 @@ use std::process::Abort;
 /// How many bytes the streams pass at once.
 static PIECES: [usize; 3] = [1, 7, ALL];
 
-/// The row through streams that fail after so many bytes.
+/// The row through streams that fail after this many bytes.
 fn keeps_in_pieces(rt: &impl Abort, alloc: Global, row: &Row, gives: usize, takes: usize) {
     for piece in PIECES {
         let streams = Streams {
@@ -34,7 +34,7 @@ fn rows_in_pieces(rt: HostRuntime) {
     all_in_pieces(&rt, rt.alloc(), pair_rows());
 }
 
-/// The reader of the row fails after so many bytes: beside a writer that never fails, and beside
+/// The reader of the row fails after this many bytes: beside a writer that never fails, and beside
 /// one that has room for all that is owed by then, for all but its last byte, or for half of it.
 fn fails_after(rt: &impl Abort, alloc: Global, row: &Row, gives: usize) {
     let owed = row.replies_within(gives).len();

@@ -4,19 +4,20 @@ use crate::runs::row::{ALL, Row};
 use std::alloc::{AllocError, Global};
 use std::process::Abort;
 
-/// What of drawn lines differs from one model to the next.
+/// The differences of drawn lines between one model and the next.
 pub trait Drawing {
     /// The fanouts of a pair's second tree. A script has none.
     fn second() -> Option<(u32, u32)>;
 
-    /// Draws lines for so many processors, up to this last number, by this seed, and writes the
+    /// Draws lines for this many processors, up to this last number, by this seed, and writes the
     /// model's replies.
     fn draw(alloc: Global, cpus: u32, last: u64, seed: u64) -> Result<(String, String), AllocError>;
 }
 
-/// Lines are drawn by each of these: how many processors, the last number, and a seed. They get the
-/// replies of the model, and each kind of reply is shown as often as it has to be: how it begins,
-/// what it is not, and at least how often. These were found of each kind so far, which is none.
+/// Draws lines by each of these: the number of processors, the last number, and a seed. They get
+/// the replies of the model, and each kind of reply occurs as often as it has to. A kind is given
+/// by how a reply begins, by what it must not be, and by its least count. The counts of each kind
+/// so far are none.
 pub fn drawn_lines_get_the_replies_of_the_model<D: Drawing>(
     rt: &impl Abort,
     alloc: Global,
@@ -33,7 +34,7 @@ pub fn drawn_lines_get_the_replies_of_the_model<D: Drawing>(
     are_shown(rt, shown, found);
 }
 
-/// Draws lines, by a second call where the first is refused a growth.
+/// Draws lines, by a second call if the first is refused memory.
 fn drawn<D: Drawing>(
     rt: &impl Abort,
     alloc: Global,

@@ -77,7 +77,7 @@ static NUMBERS: [&str; 9] = [
     "99999999999999999999",
 ];
 
-/// What stands before a number.
+/// The words before a number.
 static BEFORE: [&str; 5] = ["poll ", "poll 4 ", "note ", "queue 0 ", "run 0 "];
 
 static PAIR_BEFORE: [&str; 4] = ["a begin ", "a report 0 ", "b depart ", "b report 1 1 "];
@@ -193,7 +193,7 @@ fn name_length(line: &[u8]) -> usize {
     length
 }
 
-/// The name before so many numbers: as it is, a byte too short, in capitals, a byte too long.
+/// The name before this many numbers: as it is, a byte too short, in capitals, a byte too long.
 fn misspelt(name: &[u8], how: u8, count: usize) -> ArrayVec<u8, 32> {
     let mut text = ArrayVec::new();
     let length = name.len().saturating_sub(usize::from(how == 1));
@@ -221,7 +221,7 @@ fn numbers(input: &mut Input, before: &[&str]) -> Result<(), AllocError> {
     Ok(())
 }
 
-/// A number behind as many zeros as make so many digits, and behind a sign.
+/// A number behind as many zeros as make this many digits, and behind a sign.
 fn push_number(
     input: &mut Input,
     word: &[u8],
@@ -253,7 +253,7 @@ fn made(alloc: Global, is_pair: bool, place: usize) -> Result<Input, AllocError>
     Ok(input)
 }
 
-/// Fills the input of this place, from these lines and what stands before a number.
+/// Fills the input of this place, from these lines and the words before a number.
 fn fill(
     input: &mut Input,
     first: &[u8],
@@ -288,7 +288,7 @@ fn hostile_lines(rt: HostRuntime) {
     }
 }
 
-/// Makes an input, by a second call where the first is refused a growth.
+/// Makes an input, by a second call if the first is refused memory.
 fn made_again(rt: &impl Abort, alloc: Global, is_pair: bool, place: usize) -> Input {
     match made(alloc, is_pair, place) {
         Ok(input) => input,
@@ -365,7 +365,7 @@ fn drawn_bytes_get_the_replies_of_the_slow_programs(rt: HostRuntime) {
     }
 }
 
-/// Draws an input, by a second call where the first is refused a growth.
+/// Draws an input, by a second call if the first is refused memory.
 fn drawn(rt: &impl Abort, alloc: Global, is_pair: bool, seed: u64) -> Input {
     match draw(alloc, is_pair, seed) {
         Ok(input) => input,
@@ -373,7 +373,7 @@ fn drawn(rt: &impl Abort, alloc: Global, is_pair: bool, seed: u64) -> Input {
     }
 }
 
-/// The lines are answered so many bytes at once as are drawn, through streams of which none, one,
+/// The lines are answered this many bytes at once as are drawn, through streams of which none, one,
 /// the other and both fail after a drawn number of bytes.
 fn keeps_anyhow(rt: &impl Abort, alloc: Global, seed: u64, row: &Row) {
     let mut rng = Pcg32::seed_from_u64(seed);

@@ -1,4 +1,4 @@
-//! What the lines of a script ask for.
+//! The events of a script's lines.
 
 use rcu_core::Event;
 use rcu_script::script::parse::parse_line;

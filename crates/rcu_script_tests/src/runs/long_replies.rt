@@ -11,10 +11,10 @@ use std::process::Abort;
 /// How many writes are noted.
 const WRITES: usize = 64;
 
-/// Takes bytes, and fails once it took so many. They have to be the first ones of a text.
+/// Takes bytes, and fails once it took this many. They have to be the first ones of a text.
 #[derive(Drop)]
 struct Matching<'a> {
-    /// What is to come of the text.
+    /// The rest of the text.
     rest: &'a [u8],
     /// How many bytes it takes before it fails.
     left: usize,
@@ -60,7 +60,7 @@ impl Sink for Matching<'_> {
     }
 }
 
-/// What came of a run: how it ended, whether it wrote other bytes than the replies, and how many
+/// The outcome of a run: how it ended, whether it wrote other bytes than the replies, and how many
 /// bytes it wrote.
 #[derive(Clone, Copy, Debug, PartialEq, Eq)]
 struct Outcome {
@@ -147,8 +147,8 @@ impl Long {
         })
     }
 
-    /// What comes of a run through a writer that takes so many bytes. It tells how many bytes of
-    /// the replies were left at each write.
+    /// Returns the outcome of a run through a writer that takes this many bytes, and how many bytes
+    /// of the replies were left at each write.
     fn run(&self, alloc: Global, takes: usize) -> (Outcome, ArrayVec<usize, WRITES>) {
         let setup = Setup {
             leaf: 64,
@@ -170,7 +170,7 @@ impl Long {
         (outcome, writer.writes)
     }
 
-    /// What has to come of it: the writer takes all of the replies, or as many bytes as it takes.
+    /// The expected outcome: the writer takes all of the replies, or as many bytes as it takes.
     fn owed(&self, takes: usize) -> Outcome {
         let length = self.replies.len();
         Outcome {
@@ -184,9 +184,9 @@ impl Long {
         }
     }
 
-    /// Compares what comes of a run through a writer that takes so many bytes with what has to
-    /// come. It tells how many bytes of the replies were left at each write. (A run is made once
-    /// more where it goes wrong, since one growth may be refused.)
+    /// Compares the outcome of a run through a writer that takes this many bytes with the expected
+    /// one, and how many bytes of the replies were left at each write. (A run is made once more if
+    /// it goes wrong, since one growth may be refused.)
     fn answers(&self, rt: &impl Abort, alloc: Global, takes: usize) -> ArrayVec<usize, WRITES> {
         let wanted = self.owed(takes);
         let (mut outcome, mut writes) = self.run(alloc, takes);
@@ -218,7 +218,7 @@ fn long_replies(rt: HostRuntime) {
     runs(&rt, rt.alloc()).keeps(&rt, rt.alloc());
 }
 
-/// All processors are awaited, made by a second call where the first is refused a growth.
+/// A list of all processors as awaited, made by a second call if the first is refused memory.
 fn awaits(rt: &impl Abort, alloc: Global) -> Long {
     match Long::awaits(alloc) {
         Ok(long) => long,
@@ -226,7 +226,7 @@ fn awaits(rt: &impl Abort, alloc: Global) -> Long {
     }
 }
 
-/// Ten thousand callbacks run, made by a second call where the first is refused a growth.
+/// Ten thousand callbacks run, made by a second call if the first is refused memory.
 fn runs(rt: &impl Abort, alloc: Global) -> Long {
     match Long::runs(alloc) {
         Ok(long) => long,

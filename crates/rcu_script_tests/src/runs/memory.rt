@@ -1,4 +1,4 @@
-//! What a refused growth may do.
+//! The effects of a refused growth.
 
 use crate::runs::pair::rows::pair_rows;
 use crate::runs::row::{ALL, End, FAR, Row, Run, Streams};
@@ -9,11 +9,11 @@ use std::io::Print;
 use std::process::Abort;
 use std::test::Fail;
 
-/// The reply to a line that wanted memory.
+/// The reply to a line that was refused memory.
 const REFUSED: &[u8] = b"fault 16";
 
-/// Whether a run shows want of memory: it was not opened, or a line of its text says so, of which a
-/// writer that failed may have taken only a beginning.
+/// Returns whether a run shows that memory was refused: it was not opened, or a line of its text
+/// says so; a writer that failed may have taken only a prefix of that line.
 pub fn wants_memory(run: &Run) -> bool {
     let is_cut = run.end == End::NotWritten;
     let says_so = |line: &[u8]| {
@@ -25,8 +25,8 @@ pub fn wants_memory(run: &Run) -> bool {
     }
 }
 
-/// A script with each event that stores something, each such line twice: where the first is
-/// refused, the second is the same call again.
+/// A script with each event that stores something, each such line twice: if the first is refused,
+/// the second is the same call again.
 static GROWING: Row = Row {
     name: "growing",
     fanouts: (2, 2),
@@ -82,7 +82,7 @@ impl Transcript {
     }
 }
 
-/// Tells of which event's line a growth was refused: it is one that stores something.
+/// Prints the event's line for which a growth was refused: the event is one that stores something.
 fn print_refused<R: Print + Abort>(rt: &R, line: &[u8]) -> Result<(), Fail> {
     let word = STORING
         .iter()

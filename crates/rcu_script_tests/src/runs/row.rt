@@ -10,7 +10,7 @@ use std::cell::Cell;
 use std::fmt::Debug;
 use std::process::Abort;
 
-/// The last number where a row names none.
+/// The last number if a row names none.
 pub const FAR: u64 = 1 << 62;
 
 /// The pairs of fanouts that are offered.
@@ -53,19 +53,19 @@ impl End {
     }
 }
 
-/// What the streams of a run do.
+/// The behaviour of a run's streams.
 #[derive(Clone, Copy, Debug)]
 pub struct Streams {
     /// The most bytes that they pass at once.
     pub piece: usize,
-    /// Once the reader gave so many bytes, it fails.
+    /// The reader fails after this many bytes.
     pub gives: usize,
-    /// Once the writer took so many bytes, it fails.
+    /// The writer fails after this many bytes.
     pub takes: usize,
 }
 
 impl Streams {
-    /// Streams that pass at most so many bytes at once, and never fail.
+    /// Streams that pass at most this many bytes at once, and never fail.
     pub fn passing(piece: usize) -> Streams {
         Streams {
             piece,
@@ -80,12 +80,12 @@ impl Streams {
 pub struct Run {
     pub end: End,
     pub written: ArrayVec<u8, ROOM>,
-    /// Whether the reader was read, or the writer written to, at another time than is owed.
+    /// True if the reader was read, or the writer written to, at a wrong time.
     pub is_untimely: bool,
 }
 
 impl Run {
-    /// Whether it ended so, wrote this text, and read and wrote in turn.
+    /// Returns whether it ended so, wrote this text, and read and wrote in turn.
     fn came_to(&self, end: End, text: &[u8]) -> bool {
         self.end == end && !self.is_untimely && self.written.as_slice() == text
     }
@@ -102,13 +102,13 @@ impl Run {
     }
 }
 
-/// Bytes as a text. What is not UTF-8 is none.
+/// Returns bytes as a text, an empty one if they are not UTF-8.
 fn text_of(bytes: &[u8]) -> &str {
     str::from_utf8(bytes).unwrap_or("")
 }
 
-/// Goes over the bytes of lines, and tells how much of the replies is owed by then: each line that
-/// ended has one, but for a blank one, of at most 80 spaces.
+/// Goes over the bytes of lines, and gives how much of the replies is owed by then: each line that
+/// ended has one, except a blank one, of at most 80 spaces.
 #[derive(Clone, Copy)]
 pub struct Owed<'a> {
     replies: &'a [u8],
@@ -152,7 +152,7 @@ impl<'a> Owed<'a> {
 }
 
 impl Row<'_> {
-    /// What is opened. A script has one tree twice.
+    /// Returns the setup to open. A script has one tree twice.
     fn setup(&self) -> Setup {
         let second = self.second.unwrap_or(self.fanouts);
         Setup {
@@ -185,9 +185,10 @@ impl Row<'_> {
         }
     }
 
-    /// Compares what a run through such streams comes to with what it owes. One that shows want of
-    /// memory is made once more from the start, since a test may be refused one growth; that one
-    /// growth is not refused again. A failure names the row, and the number of what was drawn.
+    /// Compares the outcome of a run through such streams with the expected one. A run in which
+    /// memory was refused is made once more from the start, since a test may be refused one growth;
+    /// that one growth is not refused again. A failure names the row, and the number of the drawn
+    /// case.
     pub fn keeps(&self, rt: &impl Abort, alloc: Global, number: u64, streams: Streams) {
         let (end, text) = self.owed(streams.gives, streams.takes);
         let mut run = self.run(alloc, streams);
@@ -199,13 +200,13 @@ impl Row<'_> {
         }
     }
 
-    /// Compares the replies to the lines through streams that pass at most so many bytes at once.
+    /// Compares the replies to the lines through streams that pass at most this many bytes at once.
     pub fn answers(&self, rt: &impl Abort, alloc: Global, number: u64, piece: usize) {
         self.keeps(rt, alloc, number, Streams::passing(piece));
     }
 
-    /// What is owed where the reader fails once it gave so many bytes, and the writer once it took
-    /// so many: how the run ends, and what it wrote.
+    /// Returns the expected outcome if the reader fails after it gave this many bytes, and the
+    /// writer after it took this many: how the run ends, and what it wrote.
     fn owed(&self, gives: usize, takes: usize) -> (End, &[u8]) {
         let (end, replies) = if gives > self.lines.len() {
             (End::Done, self.replies)
@@ -228,7 +229,7 @@ impl Row<'_> {
         }
     }
 
-    /// The replies to the lines that end within so many bytes.
+    /// The replies to the lines that end within this many bytes.
     pub fn replies_within(&self, count: usize) -> &[u8] {
         let mut owed = Owed::new(self.replies);
         owed.pass(self.lines.split_at(count.min(self.lines.len())).0);

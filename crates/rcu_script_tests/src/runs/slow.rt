@@ -10,7 +10,7 @@ use std::alloc::AllocError;
 /// More words than a line of 80 bytes has.
 const WORDS: usize = 41;
 
-/// Who is asked.
+/// The responder.
 #[derive(Drop)]
 pub enum Slow {
     Script(Model),
@@ -65,7 +65,7 @@ fn words_of(text: &str) -> ArrayVec<&str, WORDS> {
     words
 }
 
-/// What the words of a script's line ask for.
+/// Returns the event that the words of a script's line ask for.
 fn event(words: &[&str]) -> Option<Event> {
     match words {
         [name] => bare_event(name),
@@ -139,7 +139,7 @@ fn event_of_two(name: &str, first: u64, second: u64) -> Option<Event> {
     )
 }
 
-/// What the words of a pair's line ask for, and of which replica.
+/// Returns the request of a pair's line, and its replica.
 fn asked(words: &[&str]) -> Option<(Side, Asked)> {
     match words {
         [one] if *one == "same" => Some((Side::A, Asked::Same)),
@@ -156,7 +156,7 @@ fn side_of(name: &str) -> Option<Side> {
     }
 }
 
-/// What a name and the words behind it ask of a replica.
+/// Returns the request to a replica of a name and the words behind it.
 fn asked_of(name: &str, rest: &[&str]) -> Option<Asked> {
     match rest {
         [] => bare_asked(name),
@@ -167,12 +167,12 @@ fn asked_of(name: &str, rest: &[&str]) -> Option<Asked> {
     }
 }
 
-/// What a name and a processor ask of a replica.
+/// Returns the request to a replica of a name and a processor.
 fn asked_of_one(name: &str, cpu: u32) -> Option<Asked> {
     (name == "depart").then_some(Asked::Depart(cpu))
 }
 
-/// What a name, a processor and a number ask of a replica.
+/// Returns the request to a replica of a name, a processor and a number.
 fn asked_of_two(name: &str, cpu: u32, tag: u64) -> Option<Asked> {
     (name == "report").then_some(Asked::Report(cpu, tag))
 }

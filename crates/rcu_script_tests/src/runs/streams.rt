@@ -1,4 +1,4 @@
-//! A reader and a writer over memory that pass bytes in pieces, and fail after so many.
+//! A reader and a writer over memory that pass bytes in pieces, and fail after this many.
 ghost use Rattle.std.specs.Prelude.{◌≡◌, Some, false, ◌<◌};
 
 use crate::runs::row::Owed;
@@ -9,18 +9,18 @@ use std::cell::Cell;
 /// How many bytes a writer has room for.
 pub const ROOM: usize = 16_384;
 
-/// Gives bytes in pieces, and fails once it gave so many. It watches the writer: at each read this
-/// one has to have taken the replies to the lines that were given whole, and nothing else.
+/// Gives bytes in pieces, and fails once it gave this many. It watches the writer: at each read the
+/// writer has to have taken the replies to the lines that were given completely, and nothing else.
 #[derive(Drop)]
 pub struct Slow<'a> {
-    /// What it will give from here on, if it doesn't fail.
+    /// The bytes that it has still to give, if it does not fail.
     rest: &'a [u8],
     /// The most that it gives at once.
     piece: usize,
     /// How many bytes it gives before it fails.
     left: usize,
     has_failed: bool,
-    /// What is owed to the lines that it gave.
+    /// The replies owed to the lines that it gave.
     owed: Owed<'a>,
     /// How many bytes the writer took.
     taken: &'a Cell<usize>,
@@ -51,8 +51,8 @@ impl<'a> Slow<'a> {
         }
     }
 
-    /// Whether it was read after it had failed, or while the writer had not taken just what was
-    /// owed.
+    /// Returns whether it was read after it had failed, or while the writer had not taken just what
+    /// was owed.
     pub fn is_misread(&self) -> bool {
         self.is_misread
     }
@@ -87,7 +87,7 @@ impl Source for Slow<'_> {
     }
 }
 
-/// Takes bytes in pieces, and fails once it took so many, or has no room for more.
+/// Takes bytes in pieces, and fails once it took this many, or has no room for more.
 #[derive(Drop)]
 pub struct Narrow<'a> {
     bytes: ArrayVec<u8, ROOM>,
@@ -96,14 +96,14 @@ pub struct Narrow<'a> {
     /// How many bytes it takes before it fails.
     left: usize,
     has_failed: bool,
-    /// How many bytes it took, for who watches it.
+    /// How many bytes it took, for the reader that watches it.
     taken: &'a Cell<usize>,
     is_miswritten: bool,
     ghost some: { 0 < piece },
 }
 
 impl<'a> Narrow<'a> {
-    /// Takes so many bytes in pieces, and then fails.
+    /// Takes this many bytes in pieces, and then fails.
     pub fn failing_after(piece: usize, left: usize, taken: &'a Cell<usize>) -> Narrow<'a>
         requires { 0 < piece }
         ensures { result.has_failed ≡ false }
@@ -118,12 +118,12 @@ impl<'a> Narrow<'a> {
         }
     }
 
-    /// Whether it was written to after it had failed.
+    /// Returns whether it was written to after it had failed.
     pub fn is_miswritten(&self) -> bool {
         self.is_miswritten
     }
 
-    /// What it took.
+    /// Returns the bytes that it took.
     pub fn into_bytes(self) -> ArrayVec<u8, ROOM> {
         self.bytes
     }

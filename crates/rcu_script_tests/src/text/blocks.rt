@@ -1,4 +1,4 @@
-//! What goes out through a block.
+//! Output through a block.
 
 use arrayvec::ArrayVec;
 use rcu_text::{BlockWriter, Marked, Output, put_line, put_numbered};
@@ -8,7 +8,7 @@ use std::test::Fail;
 /// How many bytes 500 times a line of 13 bytes are: more than a block.
 const MANY: usize = 6_500;
 
-/// Room for all bytes, made by a second call where the first is refused it.
+/// Room for all bytes, made by a second call if the first is refused memory.
 fn room(alloc: Global) -> Result<Vec<u8>, AllocError> {
     match Vec::with_capacity(alloc, MANY) {
         Ok(taken) => Ok(taken),
@@ -16,7 +16,7 @@ fn room(alloc: Global) -> Result<Vec<u8>, AllocError> {
     }
 }
 
-/// Writes two lines 500 times, through a block and to the bytes that are wanted.
+/// Writes two lines 500 times, through a block and to the expected bytes.
 fn write_many<O: Output>(out: &mut O, wanted: &mut ArrayVec<u8, MANY>) -> Result<(), Fail> {
     for _ in 0..500 {
         wanted.try_extend_from_slice(b"grace 12\nrcu\n")?;

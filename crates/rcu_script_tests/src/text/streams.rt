@@ -23,7 +23,7 @@ impl Write for Broken {
     }
 }
 
-/// Compares what a read into 4 bytes answers. The source has failed where the read does.
+/// Compares the answer of a read into 4 bytes. The source has failed if the read does.
 fn read_four<R: Source>(rt: &impl Abort, source: &mut R, wanted: Result<usize, Failed>) {
     assert_eq!(rt; source.read(&mut [0; 4]), wanted);
     assert_eq!(rt; source.has_failed(), wanted.is_err());

@@ -1,4 +1,4 @@
-//! What room the lists of a state keep, and how one gives room back.
+//! The room that the lists of a state keep, and how one frees room.
 use super::{State, queue, run, state, tend, turns};
 use crate::made::compare;
 use rcu_core::Turned;

@@ -1,4 +1,4 @@
-//! Who makes the calls of a script: a map's writer, or the same behind a lock.
+//! The callers of a script: a map's writer, or the same behind a lock.
 ghost use Rattle.std.specs.Prelude.{◌<◌};
 
 use crate::map::Control;
@@ -7,7 +7,7 @@ use rcu_graph::Full;
 use rcu_map::{MapWriter, Put};
 use std::sync::Wait;
 
-/// Who changes a map, and knows what it has.
+/// A caller that changes a map, and reads its entries.
 pub(crate) trait Caller {
     ghost use Rattle.std.specs.Prelude.{◌<◌};
 

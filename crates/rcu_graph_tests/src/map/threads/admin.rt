@@ -15,8 +15,8 @@ use std::sync::Wait;
 /// How many changes are drawn.
 const CHANGES: u32 = 1_500;
 
-/// Who changes the route to each second network from this one on, with a processor's seat and a
-/// watcher.
+/// An administrator, which changes the route to each second network from this one on, with a
+/// processor's seat and a watcher.
 #[derive(Drop)]
 pub(crate) struct Admin<'a> {
     pub(crate) live: &'a Engine,
@@ -57,7 +57,7 @@ impl<'a> Admin<'a> {
         }
     }
 
-    /// Puts a route in where none is there, or in the place of the old one; each second time by the
+    /// Puts a route in if none is there, or in the place of the old one; each second time by the
     /// call that does either. The call that does the other finds nothing to do.
     fn set<R: Abort + Wait>(&mut self, rt: &R, route: Route, before: Option<Route>)
         requires { 0 < route.network }

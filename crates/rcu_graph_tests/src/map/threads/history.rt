@@ -1,5 +1,5 @@
-//! What the routes are after each change of them, and how many changes there were: with this model
-//! all threads compare what they find.
+//! The routes after each change, and the number of changes: all threads compare the routes that
+//! they find with this model.
 ghost use Rattle.std.specs.Prelude.{◌<◌, IfSome};
 
 use crate::map::route::Route;
@@ -15,17 +15,17 @@ pub(crate) const NETWORKS: u32 = 26;
 /// More than there are changes of one network.
 const MOST_CHANGES: u32 = 10_000;
 
-/// How often an administrator looks whether the readers have arrived. It goes on also where no
-/// thread can be made for them.
+/// How often an administrator looks whether the readers have arrived. It goes on also if no thread
+/// can be made for them.
 const LOOKS: u32 = 2_000;
 
-/// Whether a network has one route from the beginning to the end.
+/// Returns whether a network has one route from the beginning to the end.
 pub(crate) fn is_kept(network: u32) -> bool {
     network % 5 == 1
 }
 
-/// The route to a network after so many changes of it: none, or one whose port tells both. Which of
-/// the two is drawn.
+/// Returns the route to a network after this many changes of it: none, or one whose port encodes
+/// both. The choice of the two is drawn.
 pub(crate) fn route_after(network: u32, changes: u32) -> Option<Route>
     ensures { IfSome result (λ route. 0 < route.network) }
 {
@@ -64,7 +64,7 @@ pub(crate) struct History {
 }
 
 impl History {
-    /// No change yet, by so many administrators, beside so many readers.
+    /// Returns a history with no change yet, by this many administrators, beside this many readers.
     pub(crate) fn new(readers: u32, administrators: u32) -> History {
         History {
             networks: array::from_fn(|_| Changes::none()),
@@ -89,8 +89,7 @@ impl History {
         }
     }
 
-    /// One change more of a network begins, by the administrator who changes it. Returns its
-    /// number.
+    /// Begins one more change of a network, by its administrator. Returns the number of the change.
     pub(crate) fn begin(&self, network: u32) -> u32 {
         let number = self.ended(network).saturating_add(1);
         if let Some(changes) = self.networks.get(network as usize) {
@@ -111,7 +110,7 @@ impl History {
         self.readers.fetch_sub(1, Ordering::SeqCst);
     }
 
-    /// Waits until all readers have arrived, or for so many looks.
+    /// Waits until all readers have arrived, or for this many looks.
     pub(crate) fn wait_for_readers(&self) {
         for _ in 0..LOOKS {
             if self.readers.load(Ordering::SeqCst) == 0 {
@@ -126,7 +125,7 @@ impl History {
         self.administrators.fetch_sub(1, Ordering::SeqCst);
     }
 
-    /// Whether all administrators have ended.
+    /// Returns whether all administrators have ended.
     pub(crate) fn is_over(&self) -> bool {
         self.administrators.load(Ordering::SeqCst) == 0
     }
@@ -153,8 +152,8 @@ impl Seen {
         }
     }
 
-    /// The look has ended. What it found is the route after some number of changes: not before one
-    /// that this reader saw, and not after the last one that was begun.
+    /// Ends the lookup. It found the route after some number of changes: not before one that this
+    /// reader saw, and not after the last one that was begun.
     pub(crate) fn end<R: Abort>(
         &mut self,
         rt: &R,

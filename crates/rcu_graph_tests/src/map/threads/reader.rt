@@ -1,4 +1,4 @@
-//! A thread that looks routes up and goes over all of them, beside those who change them.
+//! A thread that looks routes up and goes over all of them, beside the threads that change them.
 ghost use Rattle.std.specs.Prelude.{◌≡◌};
 ghost use Rattle.rcu_live.specs.CpuSeat.{IsSeatOf, after_word_step};
 ghost use Rattle.rcu_live.specs.Several.{whole};
@@ -16,7 +16,7 @@ use crate::seats::{enters, exits};
 use std::process::Abort;
 use std::sync::Wait;
 
-/// What a section found that went over all routes.
+/// The routes that a section found that went over all of them.
 #[derive(Drop)]
 struct Listed {
     routes: [Option<Route>; NETWORKS as usize],
@@ -37,7 +37,7 @@ impl Listed {
         }
     }
 
-    /// Notes the next route: one of a later bucket, or of a greater network. None tells that no
+    /// Notes the next route: one of a later bucket, or of a greater network. None means that no
     /// further one comes.
     fn note(&mut self, next: Option<Route>) {
         let Some(route) = next else {
@@ -152,7 +152,7 @@ impl<'a> Reader<'a> {
         let _ = live.offline(rt, &mut seat);
     }
 
-    /// Its processor is idle, so that nobody waits for it.
+    /// Makes its processor idle, so no grace period waits for it.
     pub(crate) fn rest(&mut self) {
         let _ = self.seat.idle(self.live);
     }

@@ -33,7 +33,7 @@ struct Reader<'a> {
 
 impl<'a> Reader<'a> {
     /// Looks a route up, and lets other threads run. Returns whether it found none, or a whole one:
-    /// its port tells the network.
+    /// its port encodes the network.
     fn read(&mut self, network: u32) -> bool {
         let key = u64::from(network);
         let found = self.map.get_section(self.live, &mut self.seat, key);
@@ -60,7 +60,7 @@ impl<'a> Reader<'a> {
     }
 }
 
-/// Who moves the routes, with the seat of processor 0.
+/// The control, which moves the routes, with the seat of processor 0.
 #[derive(Drop)]
 struct Control<'a> {
     live: &'a Engine,
@@ -106,7 +106,7 @@ impl<'a> Control<'a> {
     }
 }
 
-/// The control beside the reader. Where no thread can be made, the control runs last.
+/// The control beside the reader. If no thread can be made, the control runs last.
 fn run_beside<R: Threads + Wait + Sync>(
     rt: &R,
     control: Control<'_>,
@@ -131,7 +131,7 @@ fn routes_move_on_through_three_nodes(rt: HostRuntime) {
     compare(&rt, "changes and reads", found, (CHANGES, READS));
 }
 
-/// Who puts routes in and takes them out, beside another one.
+/// A thread that puts routes in and takes them out, beside another one.
 #[derive(Drop)]
 struct Worker<'a> {
     live: &'a Engine,
@@ -146,7 +146,7 @@ impl<'a> Worker<'a> {
         let _ = self.live.online(rt, &mut self.seat);
     }
 
-    /// Puts a route in, waiting for a node where it needs one. Returns the one that was there.
+    /// Puts a route in, waiting for a node if it needs one. Returns the one that was there.
     fn put<R: Wait>(&mut self, rt: &R, how: Put, route: Route) -> Result<Option<Route>, NotPut>
         requires { 0 < route.network }
     {
@@ -191,7 +191,8 @@ fn run_both<R: Threads + Wait + Sync>(rt: &R, one: Worker<'_>, other: Worker<'_>
     thread::join(rt, move || one.work(rt), move || other.work(rt))
 }
 
-/// Processor 0 never goes offline. No thread has it here: it is idle, and nobody waits for it.
+/// Processor 0 never goes offline. No thread has it here: it is idle, and no grace period waits for
+/// it.
 #[test]
 fn two_threads_share_three_nodes(rt: HostRuntime) {
     let Ok(opened) = Routes::open(rt.alloc(), 3, 4_000_000, 1, 2, 0) else {

@@ -19,7 +19,7 @@ impl<'a, R: Abort + Wait> Script<'a, R> {
         self.compare("drive", self.live.drive(self.rt), wanted);
     }
 
-    /// Compares what a step did for who waits for the cookie of this number.
+    /// Compares the answer of a step for a waiter for the cookie of this number.
     pub(crate) fn drive_for(&self, number: u64, wanted: Result<Turned, Fault>) {
         let found = self.live.drive_for(self.rt, of_epoch(0, number));
         self.compare("drive_for", (number, found), (number, wanted));

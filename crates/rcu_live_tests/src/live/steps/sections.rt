@@ -89,7 +89,7 @@ impl<'a, R: Abort + Wait> Script<'a, R> {
         self.compare_of("repin", seat.cpu(), found, wanted);
     }
 
-    /// Compares how a seat stands: how deep its sections nest, and whether its processor is online
+    /// Compares the state of a seat: the depth of its sections, and whether its processor is online
     /// and idle.
     pub(crate) fn stands(&self, seat: &CpuSeat, depth: u32, is_online: bool, is_idle: bool) {
         let found = (seat.depth(), seat.is_online(), seat.is_idle());

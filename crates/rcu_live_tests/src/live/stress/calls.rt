@@ -27,7 +27,7 @@ pub(crate) struct Calls {
 }
 
 impl Calls {
-    /// No callbacks, with room for so many.
+    /// No callbacks, with room for this many.
     pub(crate) fn new(alloc: Global, most: usize) -> Result<Calls, Stop> {
         let Ok(all) = Vec::with_capacity(alloc, most) else {
             return Err(Stop::NoVerdict);
@@ -64,8 +64,8 @@ impl Calls {
         hold_to(all.push(call).is_ok(), Stop::NoVerdict)
     }
 
-    /// Hands out callbacks of a processor, at most so many. None was handed out before, and no
-    /// section is open that was open at its queueing.
+    /// Hands out callbacks of a processor, at most this many. None was handed out before, and no
+    /// section is open that was open when it was queued.
     pub(crate) fn hand_out<R: Wait>(
         &self,
         rt: &R,
@@ -94,8 +94,8 @@ impl Calls {
         Ok(all.len())
     }
 
-    /// Whether the barrier is done. Then the callbacks that were queued before it, which are so
-    /// many, were handed out.
+    /// Returns whether the barrier is done. If it is, the callbacks that were queued before it,
+    /// which are this many, were handed out.
     pub(crate) fn test_barrier<R: Wait>(
         &self,
         rt: &R,
@@ -111,7 +111,7 @@ impl Calls {
         Ok(true)
     }
 
-    /// Ends where a callback was not handed out.
+    /// Ends if a callback was not handed out.
     pub(crate) fn are_handed_out(&self, rt: &impl Wait) -> Result<(), Stop> {
         let all = self.all.lock(rt);
         hold_to(

@@ -1,4 +1,4 @@
-//! What all threads of a hard run have, and the threads that are made of it.
+//! The parts shared by all threads of a hard run, and the threads made from them.
 ghost use Rattle.std.specs.Prelude.{◌≡◌, ◌+◌, ◌≤◌, All, length};
 
 use crate::live::steps::Four;

@@ -24,7 +24,7 @@ pub(crate) struct Reader<'a> {
 }
 
 impl<'a> Reader<'a> {
-    /// Ends where a meeting does not tell the section that is open: one that began no grace period
+    /// Ends if a meeting does not show the section that is open: one that began no grace period
     /// ago.
     fn meet(&mut self) -> Result<u64, Stop> {
         let live = self.place.live;
@@ -47,7 +47,7 @@ impl<'a> Reader<'a> {
         compare(self.place.seat.quiesce(live), Err(Fault::InSection))
     }
 
-    /// Reads for so many rounds of the driver. A cookie that was taken at the section's begin is
+    /// Reads for this many rounds of the driver. A cookie that was taken at the section's begin is
     /// not done at its end.
     fn read(&mut self, rounds: u64) -> Result<(), Stop> {
         let live = self.place.live;
@@ -68,8 +68,8 @@ impl<'a> Reader<'a> {
         compare(self.place.seat.exit(live), Ok(0))
     }
 
-    /// Sleeps, reads when it wakes, and reads again after a quiescent state. It wakes where no
-    /// grace period runs, or so many looks after the driver is about to begin one.
+    /// Sleeps, reads when it wakes, and reads again after a quiescent state. It wakes if no grace
+    /// period runs, or this many looks after the driver is about to begin one.
     fn sleep_and_read(&mut self, looks: u64) -> Result<(), Stop> {
         let live = self.place.live;
         let sign = if looks % 2 == 0 {

@@ -1,5 +1,5 @@
-//! What the threads of a hard run share beside the engine: which sections are open, signs by which
-//! they wait for one another, and why the run ends.
+//! The state that the threads of a hard run share besides the engine: the open sections, signs by
+//! which they wait for one another, and why the run ends.
 
 use crate::live::stress::stop::Stop;
 use std::sync::atomic::{AtomicBool, AtomicU64, Ordering};
@@ -9,7 +9,7 @@ use std::thread::yield_now;
 /// How often a thread looks for a sign at most.
 const MOST_LOOKS: u32 = 500_000;
 
-/// The same where the sign may well not come.
+/// The same if the sign may well not come.
 const FEW_LOOKS: u32 = 10_000;
 
 /// How often it looks before it lets others run.
@@ -45,8 +45,8 @@ impl Sign {
     }
 }
 
-/// The open section of a reader: the stamp that was drawn in it, and 0 where none is open. It is
-/// set once the section is open, and cleared before it is closed.
+/// The open section of a reader: the stamp that was drawn in it, and 0 if none is open. It is set
+/// once the section is open, and cleared before it is closed.
 #[derive(Drop)]
 pub(crate) struct Section {
     stamp: AtomicU64,
@@ -59,14 +59,14 @@ impl Section {
         }
     }
 
-    /// Whether a section is open that was open at this stamp.
+    /// Returns whether a section is open that was open at this stamp.
     fn is_open_since(&self, stamp: u64) -> bool {
         let opened = self.stamp.load(Ordering::SeqCst);
         opened != 0 && opened < stamp
     }
 }
 
-/// What the threads of a run share beside the engine.
+/// The state that the threads of a run share besides the engine.
 #[derive(Drop)]
 pub(crate) struct Scene {
     stamps: AtomicU64,
@@ -138,17 +138,17 @@ impl Scene {
         section.stamp.store(0, Ordering::SeqCst);
     }
 
-    /// Whether a section is open that was open at this stamp.
+    /// Returns whether a section is open that was open at this stamp.
     pub(crate) fn is_open_since(&self, stamp: u64) -> bool {
         self.sections.0.is_open_since(stamp) || self.sections.1.is_open_since(stamp)
     }
 
-    /// Whether the run ends.
+    /// Returns whether the run ends.
     pub(crate) fn is_ended(&self) -> bool {
         self.ended.load(Ordering::SeqCst)
     }
 
-    /// The run ends. What is told first is why.
+    /// Ends the run. The first reason given counts.
     pub(crate) fn end(&self, rt: &impl Wait, told: Result<(), Stop>) {
         let mut stop = self.stop.lock(rt);
         *stop = stop.or(told.err());

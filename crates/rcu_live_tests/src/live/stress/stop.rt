@@ -2,14 +2,14 @@
 
 use rcu_seq::Fault;
 
-/// What no right engine does, or why a run has no verdict.
+/// An error of the engine, or why a run has no verdict.
 #[derive(Clone, Copy, Debug, PartialEq, Eq)]
 pub(crate) enum Stop {
     /// A growth was refused, or a thread was not there in time.
     NoVerdict,
-    /// A cookie was done, and a section was open that was open at its taking.
+    /// A cookie was done, and a section was open that was open when it was taken.
     EarlyCookie,
-    /// A callback was handed out, and a section was open that was open at its queueing.
+    /// A callback was handed out, and a section was open that was open when it was queued.
     EarlyCallback,
     /// A callback was handed out twice.
     CallbackTwice,
@@ -17,7 +17,7 @@ pub(crate) enum Stop {
     CallbackLost,
     /// A barrier was done, and a callback that was queued before it was not handed out.
     EarlyBarrier,
-    /// A meeting told another section than the one that is open.
+    /// A meeting showed another section than the one that is open.
     WrongMeeting,
     /// A call had another answer than it has to have.
     WrongAnswer,
@@ -33,12 +33,12 @@ impl From<Fault> for Stop {
     }
 }
 
-/// Ends where this does not hold.
+/// Ends if this does not hold.
 pub(crate) fn hold_to(holds: bool, stop: Stop) -> Result<(), Stop> {
     if holds { Ok(()) } else { Err(stop) }
 }
 
-/// Ends where a call had another answer than this one.
+/// Ends if a call had another answer than this one.
 pub(crate) fn compare<T: PartialEq + Drop>(
     answer: Result<T, Fault>,
     wanted: Result<T, Fault>,

@@ -23,7 +23,7 @@ const ROUNDS: u64 = 4_000;
 /// barrier is tested between two of them.
 const MOST_IN_ROUND: u64 = 2;
 
-/// The same where the run is over.
+/// The same if the run is over.
 const MOST_AT_END: u64 = 1_000_000;
 
 /// The updater that drives the engine, with the seat of processor 0.
@@ -49,8 +49,8 @@ impl<'a> Driver<'a> {
         Ok(matches!(turned, Turned::Ended(_) | Turned::Nothing))
     }
 
-    /// No grace period runs: waits for the reader that sleeps to wake and read, where it went to
-    /// sleep since the last pause.
+    /// No grace period runs: waits for the reader that sleeps to wake and read, if it went to sleep
+    /// since the last pause.
     fn pause(&mut self) {
         let sleeps = self.place.scene.sleep.count();
         if self.sleeps != sleeps {
@@ -61,7 +61,7 @@ impl<'a> Driver<'a> {
         }
     }
 
-    /// Brings each list up to date, and hands out at most so many callbacks of it.
+    /// Brings each list up to date, and hands out at most this many callbacks of it.
     fn hand_out<R: Wait>(&self, rt: &R, most: u64) -> Result<(), Stop> {
         for cpu in 0..CPUS {
             self.place.live.tend(rt, cpu)?;
@@ -72,7 +72,7 @@ impl<'a> Driver<'a> {
         Ok(())
     }
 
-    /// One round. Where a grace period ended, a callback asks for the next one.
+    /// One round. If a grace period ended, a callback asks for the next one.
     fn go_round<R: Wait>(&mut self, rt: &R, may_begin: bool) -> Result<bool, Stop> {
         let may_begin = self.turn(rt, may_begin)?;
         if may_begin {
@@ -105,8 +105,8 @@ impl<'a> Driver<'a> {
         self.place.scene.end(rt, result);
     }
 
-    /// Hands out what is left, when nobody else works the engine: each callback was handed out
-    /// then.
+    /// Hands out the remaining callbacks, when no other thread uses the engine: then each callback
+    /// was handed out.
     pub(crate) fn finish<R: Wait>(&mut self, rt: &R) -> Result<(), Stop> {
         for _ in 0..8 {
             self.turn(rt, false)?;
@@ -128,7 +128,7 @@ pub(crate) struct Waiter<'a> {
 }
 
 impl<'a> Waiter<'a> {
-    /// Where a cookie that was taken at this stamp is done, no section is open that was open then.
+    /// If a cookie that was taken at this stamp is done, no section is open that was open then.
     fn poll(&mut self, cookie: Cookie, stamp: u64) -> Result<(), Stop> {
         let is_done = self.watcher.poll(self.place.live, cookie);
         hold_to(

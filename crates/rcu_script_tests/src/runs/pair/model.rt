@@ -1,10 +1,10 @@
-//! A plain program for two replicas: for each line it goes over all that was accepted, and gathers
-//! with whom each replica's grace period began and whom it has heard.
+//! A plain program for two replicas: for each line it goes over all accepted lines, and gathers the
+//! processors that each replica's grace period began with and those that it has heard.
 
 use rcu_script::pair::event::Side;
 use std::alloc::AllocError;
 
-/// What a line asks for. Sets have a bit for each processor.
+/// The request of a line. Sets have a bit for each processor.
 #[derive(Clone, Copy)]
 pub enum Asked {
     Begin(u64),
@@ -16,7 +16,7 @@ pub enum Asked {
     Same,
 }
 
-/// What a replica knows.
+/// The knowledge of a replica.
 #[derive(Clone, Copy, Default)]
 pub struct Known {
     ends: u64,
@@ -26,12 +26,12 @@ pub struct Known {
     heard: u64,
 }
 
-/// What the rules say of all lines so far.
+/// The model: all lines so far.
 #[derive(Drop)]
 pub struct PairModel {
     pub cpus: u32,
     pub last: u64,
-    /// What was accepted. The model keeps nothing else.
+    /// The accepted lines. The model has nothing else.
     pub past: Vec<(Side, Asked)>,
 }
 
@@ -50,7 +50,7 @@ impl Known {
         self.start & !self.heard
     }
 
-    /// What it knows after an accepted line, beside the other one.
+    /// Returns its knowledge after an accepted line, given the other replica's.
     fn after(mut self, other: &Known, asked: Asked) -> Known {
         match asked {
             Asked::Begin(set) => {
@@ -73,7 +73,7 @@ impl Known {
 }
 
 impl Known {
-    /// What a report does.
+    /// Returns the reply to a report.
     fn reported(&self, cpu: u32, tag: u64) -> &'static str {
         if !self.is_running || tag != self.tag {
             "stale\n"
@@ -110,7 +110,7 @@ impl Known {
 }
 
 impl PairModel {
-    /// What both replicas know, the one of the side first.
+    /// Returns the knowledge of both replicas, that of the side first.
     pub fn known(&self, first: Side) -> (Known, Known) {
         let mut a = Known::default();
         let mut b = Known::default();
@@ -141,7 +141,7 @@ impl PairModel {
         }
     }
 
-    /// Writes the reply to a line, and keeps the line where it is accepted.
+    /// Writes the reply to a line, and stores the line if it is accepted.
     pub fn answer(
         &mut self,
         text: &mut String,

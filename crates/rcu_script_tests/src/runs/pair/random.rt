@@ -34,7 +34,7 @@ static MALFORMED: [&str; 8] = [
     "A end",
 ];
 
-/// What the replies have to show, by how they begin and what they are not, and at least how often.
+/// The replies that have to occur, by how they begin and what they are not, and their least count.
 static SHOWN: [(&str, &str, u64); 10] = [
     ("ended", "", 100),
     ("merged", "merged 0", 15),

@@ -102,7 +102,7 @@ fn fanouts_have_no_part_in_the_replies(rt: HostRuntime) {
     }
 }
 
-/// A pair of these fanouts, so many processors and this last number is refused with this fault.
+/// A pair of these fanouts, this many processors and this last number is refused with this fault.
 fn is_refused(
     rt: &impl Abort,
     alloc: Global,
@@ -139,8 +139,8 @@ static REFUSED: [((u32, u32), (u32, u32), u32, u64, Fault); 9] = [
     ((2, 2), (2, 2), 1, FAR + 4, Fault::BadLast),
 ];
 
-/// The opening's faults, each tested of both replicas before the next one. What is tested before
-/// the first growth takes no memory.
+/// The opening's faults, each tested of both replicas before the next one. The tests before the
+/// first growth need no memory.
 #[test]
 fn refused_openings(rt: HostRuntime) {
     for (fanouts, second, cpus, last, fault) in &REFUSED {

@@ -11,7 +11,7 @@ use std::alloc::AllocError;
 /// How many processors a model has at most.
 const CPUS: usize = 8;
 
-/// What the rules say of all events so far.
+/// The model: all events so far.
 #[derive(Drop)]
 pub struct Model {
     pub cpus: u32,
@@ -21,7 +21,7 @@ pub struct Model {
 }
 
 impl Model {
-    /// Writes the reply to an event, and keeps the event where it is accepted.
+    /// Writes the reply to an event, and stores the event if it is accepted.
     pub fn answer(&mut self, text: &mut String, event: Event) -> Result<(), AllocError> {
         let fault = fault(self.cpus, self.last, self.past.as_slice(), event);
         if fault > 0 {
@@ -72,12 +72,12 @@ pub fn is_running(past: &[Event]) -> bool {
 /// A number and its epoch.
 pub type Tag = (u64, u64);
 
-/// How often the numbers started anew.
+/// Returns the number of renumberings.
 pub fn epoch(past: &[Event]) -> u64 {
     count(past, Event::Renumber)
 }
 
-/// What happened before the numbers last started anew, and what since then.
+/// Returns the events before the last renumbering, and those since.
 fn at_renumbering(past: &[Event]) -> (&[Event], &[Event]) {
     let mut begun = 0;
     for (i, event) in past.iter().enumerate() {
@@ -108,7 +108,7 @@ pub fn snapshot(past: &[Event]) -> u64 {
     ends(past).saturating_add(more).saturating_mul(4)
 }
 
-/// What happened since a cookie was first taken, if it was.
+/// Returns the events since a cookie was first taken, if it was.
 fn since_taking(past: &[Event], cookie: Tag) -> Option<&[Event]> {
     for (i, event) in past.iter().enumerate() {
         let (before, since) = past.split_at(i);
@@ -121,7 +121,7 @@ fn since_taking(past: &[Event], cookie: Tag) -> Option<&[Event]> {
     None
 }
 
-/// Whether a grace period began, and one ended later.
+/// Returns whether a grace period began, and one ended later.
 fn has_full_period(since: &[Event]) -> bool {
     let mut has_begun = false;
     for event in since {
@@ -134,8 +134,8 @@ fn has_full_period(since: &[Event]) -> bool {
     false
 }
 
-/// Whether a cookie is done. One that was taken is where a full grace period lies after its taking.
-/// Of any other, the number is compared.
+/// Returns whether a cookie is done. A cookie that was taken is done if a full grace period lies
+/// after its snapshot. For any other one, the number is compared.
 fn is_done(past: &[Event], cookie: Tag) -> bool {
     match since_taking(past, cookie) {
         Some(since) => has_full_period(since),
@@ -143,8 +143,8 @@ fn is_done(past: &[Event], cookie: Tag) -> bool {
     }
 }
 
-/// Whether a number of an epoch was reached in it or, in the next epoch, a grace period ended; or
-/// whether more epochs than one passed since.
+/// Returns whether a number of an epoch was reached in it or, in the next epoch, a grace period
+/// ended; or whether more epochs than one passed since.
 fn has_come(past: &[Event], (number_then, epoch_then): Tag) -> bool {
     match epoch(past).checked_sub(epoch_then) {
         None => false,
@@ -166,7 +166,7 @@ pub fn is_online(past: &[Event], cpu: u32) -> bool {
     came
 }
 
-/// Whether the processor went idle, and did neither wake nor depart nor arrive since.
+/// Returns whether the processor went idle, and did neither wake nor depart nor arrive since.
 pub fn is_idle(past: &[Event], cpu: u32) -> bool {
     let mut sleeps = false;
     for event in past {
@@ -210,8 +210,9 @@ fn report(past: &[Event], place: u64) -> Option<(u32, Tag)> {
     None
 }
 
-/// Whether a grace period runs whose begin the processor was online at, and since which neither a
-/// report of it with the number was delivered nor did it depart nor did a scan find it idle.
+/// Returns whether a grace period runs whose begin the processor was online at, and since which
+/// neither a report of it with the number was delivered nor did it depart nor did a scan find it
+/// idle.
 pub fn is_awaited(past: &[Event], cpu: u32) -> bool {
     let mut begun = 0;
     for (i, event) in past.iter().enumerate() {
@@ -308,8 +309,8 @@ fn fault(cpus: u32, last: u64, past: &[Event], event: Event) -> u32 {
     }
 }
 
-/// What an accepted event is: a turn is a begin where a later number is needed, and an end where
-/// nobody is awaited.
+/// Returns an accepted event as the history has it: a turn is a begin if a later number is needed,
+/// and an end if no processor is awaited.
 fn meant(cpus: u32, past: &[Event], event: Event) -> Event {
     match event {
         Event::Turn if !is_running(past) && gathered(past).needed > number(past) => Event::Begin,
@@ -318,7 +319,7 @@ fn meant(cpus: u32, past: &[Event], event: Event) -> Event {
     }
 }
 
-/// What a delivered report does.
+/// Returns the reply to a delivered report.
 fn delivered(cpus: u32, past: &[Event], place: u64) -> &'static str {
     match report(past, place) {
         Some((cpu, noted)) if noted == tag(past) => heard(cpus, past, cpu),
@@ -326,7 +327,8 @@ fn delivered(cpus: u32, past: &[Event], place: u64) -> &'static str {
     }
 }
 
-/// What a report of the processor with the tag of now does, or a scan that finds it idle.
+/// Returns the reply to a report of the processor with the tag of now, or to a scan that finds it
+/// idle.
 fn heard(cpus: u32, past: &[Event], cpu: u32) -> &'static str {
     if !is_running(past) {
         "stale"
@@ -387,13 +389,13 @@ fn write_report(
     write_epoch(text, epoch)
 }
 
-/// Writes the reply to a taking.
+/// Writes the reply to a snapshot.
 fn write_cookie(text: &mut String, (number, epoch): Tag) -> Result<(), AllocError> {
     write_number(text, "cookie", number)?;
     write_epoch(text, epoch)
 }
 
-/// Writes an epoch, where it is not the first one.
+/// Writes an epoch, if it is not the first one.
 fn write_epoch(text: &mut String, epoch: u64) -> Result<(), AllocError> {
     if epoch > 0 {
         write_number(text, " epoch", epoch)?;

@@ -11,7 +11,7 @@ const ROOM: usize = 80;
 /// How many values a run hands out at most.
 const MOST: usize = 16;
 
-/// What an item is: a callback, by what it waits for, or a marker of a barrier.
+/// An item: a callback, by the number that it waits for, or a marker of a barrier.
 #[derive(Clone, Copy, Default, PartialEq, Eq)]
 enum Kind {
     #[default]
@@ -21,7 +21,7 @@ enum Kind {
     Marker,
 }
 
-/// What stands in the list of a processor; a marker's value is 0.
+/// An item in the list of a processor; a marker's value is 0.
 #[derive(Clone, Copy, Default)]
 struct Item {
     cpu: u32,
@@ -36,8 +36,8 @@ type Items = ArrayVec<Item, ROOM>;
 pub struct Lists {
     /// The items. A processor's list is its items, in order.
     items: Items,
-    /// The greatest number that a started poll asked for or a tended list then waited for in the
-    /// epoch, 0 before any. Where one of the epoch before was not reached, it is at least 4.
+    /// The greatest number that a started poll requested or a tended list then waited for in the
+    /// epoch, 0 before any. If a number of the epoch before was not reached, it is at least 4.
     pub needed: u64,
 }
 
@@ -74,7 +74,7 @@ pub fn gathered(past: &[Event]) -> Lists {
     lists
 }
 
-/// Whether a barrier runs that did not visit the processor, also not as it departed.
+/// Returns whether a barrier runs that did not visit the processor, also not as it departed.
 fn is_owed(past: &[Event], cpu: u32) -> bool {
     let mut is_owed = false;
     for event in past {
@@ -88,7 +88,7 @@ fn is_owed(past: &[Event], cpu: u32) -> bool {
     is_owed
 }
 
-/// What the barrier waits for: markers, and processors that it did not visit.
+/// Returns the number of markers and unvisited processors that the barrier waits for.
 pub fn waits_for(cpus: u32, past: &[Event]) -> u64 {
     let mut waits = 0u64;
     for item in gathered(past).items.as_slice() {
@@ -105,7 +105,8 @@ pub fn waits_for(cpus: u32, past: &[Event]) -> u64 {
 }
 
 impl Lists {
-    /// What waited for at most the number is done, and what has no mark waits for the snapshot.
+    /// Callbacks that waited for at most the number are done, and those without a mark wait for the
+    /// snapshot.
     fn tend(&mut self, cpu: u32, number: u64, snapshot: u64) {
         let mut needed = self.needed;
         for item in self.items.as_mut_slice() {
@@ -123,7 +124,8 @@ impl Lists {
         self.needed = needed;
     }
 
-    /// What waits for a number waits for any. A number that is not reached is needed anew.
+    /// Callbacks that wait for a number wait for any. If a needed number is not reached, the next
+    /// one is needed.
     fn renumber(&mut self, number: u64) {
         for item in self.items.as_mut_slice() {
             if let Kind::Until(_) = item.kind {
@@ -133,7 +135,7 @@ impl Lists {
         self.needed = if self.needed > number { 4 } else { 0 };
     }
 
-    /// Hands out the first callbacks of the done part, at most so many, and drops the markers
+    /// Hands out the first callbacks of the done part, at most this many, and drops the markers
     /// before the next callback.
     fn run(&mut self, cpu: u32, most: u64) -> ArrayVec<u64, MOST> {
         let mut values = ArrayVec::new();
@@ -154,8 +156,8 @@ impl Lists {
         values
     }
 
-    /// Visits a processor where that is owed: a marker goes behind its list, if a callback is in
-    /// it. (No list has markers alone.)
+    /// Visits a processor if that is owed: a marker goes behind its list, if a callback is in it.
+    /// (No list has markers alone.)
     fn visit(&mut self, cpu: u32, before: &[Event]) {
         if is_owed(before, cpu) && self.counts(cpu) != (0, 0) {
             let _ = self.items.try_push(Item {
@@ -191,8 +193,7 @@ impl Lists {
         self.items = done;
     }
 
-    /// How many callbacks are in the done part of the processor's list, and how many stand behind
-    /// it.
+    /// How many callbacks are in the done part of the processor's list, and how many are behind it.
     fn counts(&self, cpu: u32) -> (u64, u64) {
         let mut done = 0u64;
         let mut waiting = 0u64;

@@ -58,7 +58,7 @@ static MALFORMED: [&str; 12] = [
     "tend 0                                                                            ",
 ];
 
-/// What the replies have to show, by how they begin and what they are not, and at least how often.
+/// The replies that have to occur, by how they begin and what they are not, and their least count.
 static SHOWN: [(&str, &str, u64); 18] = [
     ("ended", "", 80),
     ("ran", "ran none", 30),
@@ -80,10 +80,10 @@ static SHOWN: [(&str, &str, u64); 18] = [
     ("fault 24", "", 40),
 ];
 
-/// What leads an event on: from a note to the delivery of the report; from some callbacks to a
-/// departure that moves them; from an end to a tend and a run of each list; from a barrier's begin
-/// to a visit of each processor, and at last to a test; from a renumbering to a taking; and from
-/// falling idle to a scan, and on to a waking, or to a quiescent state, which is refused.
+/// Returns the next event after one: from a note to the delivery of the report; from some callbacks
+/// to a departure that moves them; from an end to a tend and a run of each list; from a barrier's
+/// begin to a visit of each processor, and at last to a test; from a renumbering to a snapshot; and
+/// from going idle to a scan, and on to a wake, or to a quiescent state, which is refused.
 fn next_of(event: Event, cpus: u32, reports: u64) -> Option<Event> {
     match event {
         Event::Note(cpu) => Some(Event::Quiesce(cpu)),
@@ -133,8 +133,8 @@ fn useful(cpus: u32, last: u64, past: &[Event]) -> Event {
     }
 }
 
-/// Any event: of a processor, which at times is none, of a report up to one that was not made, or
-/// of a cookie below 40 and of an epoch up to one that did not begin.
+/// Returns any event: of a processor, which sometimes does not exist, of a report up to one that
+/// was not made, or of a cookie below 40 and of an epoch up to one that did not begin.
 fn any_event(rng: &mut Pcg32, cpus: u32, reports: u64, epoch: u64) -> Event {
     let number = u64::from(rng.next_u32() % 40);
     let cpu = rng.next_u32() % cpus.saturating_add(1).max(1);

@@ -149,7 +149,8 @@ static ROWS: [Row; 43] = [
             begun 1 awaits 1\nnoted 1 needed\nreport 1 cpu 0 tag 1\nlast\nended 4\nfault 11\n\
             cookie 8\nnot yet\nnothing\ncookie 8\nfault 11\n",
     },
-    // A turn begins what a started poll needs, waits while somebody is awaited, and ends.
+    // A turn begins the grace period that a started poll needs, waits while a processor is awaited,
+    // and ends it.
     Row {
         name: "turn drives what is needed",
         fanouts: (2, 2),
@@ -161,7 +162,7 @@ static ROWS: [Row; 43] = [
             cookie 4\nnothing\ncookie 4\nbegun 1 awaits 1\nwaiting 1\nnoted 1 needed\n\
             report 1 cpu 0 tag 1\nlast\nended 4\ndone\nnothing\n",
     },
-    // The first faults of the lines, each just where its cause stands.
+    // The first faults of the lines, each exactly if its cause holds.
     Row {
         name: "refused lines",
         fanouts: (2, 2),
@@ -334,8 +335,8 @@ static ROWS: [Row; 43] = [
             tended 0 1\nfault 11\nepoch 1\ntended 0 1\nbegun 1 awaits 1\nnoted 1 needed\n\
             report 2 cpu 0 tag 1 epoch 1\nlast\nended 4\ntended 1 0\nran 7\n",
     },
-    // What a started poll needs is needed in the next epoch too. Its cookie is that of an earlier
-    // taking, while the grace period before the last number ran.
+    // The number that a started poll needs is needed in the next epoch too. Its cookie is that of
+    // an earlier snapshot, while the grace period before the last number ran.
     Row {
         name: "started poll across epochs",
         fanouts: (2, 2),
@@ -408,8 +409,8 @@ static ROWS: [Row; 43] = [
         lines: b"idle 0\nscan 0\nquiet 0\nidle 0\n",
         replies: b"idle\nstale\nfault 23\nfault 23\n",
     },
-    // Processor 0, which can not depart, holds nobody up while it sleeps: the scan of it is the
-    // last report. What it queued goes on, as does a note.
+    // Processor 0, which cannot depart, blocks no grace period while it is idle: the scan of it is
+    // the last report. Its callbacks go on, and so does a note.
     Row {
         name: "callback of a sleeper",
         fanouts: (2, 2),
@@ -511,8 +512,8 @@ static ROWS: [Row; 43] = [
     },
 ];
 
-/// The opening's faults, in the order of their tests. What is tested before the first growth takes
-/// no memory. A tree of four levels is full one processor earlier, as the rows say.
+/// The opening's faults, in the order of their tests. The tests before the first growth need no
+/// memory. A tree of four levels is full one processor earlier, as the rows say.
 #[test]
 fn refused_openings(rt: HostRuntime) {
     for (fanouts, cpus, last, fault) in &REFUSED {
@@ -537,7 +538,7 @@ static REFUSED: [((u32, u32), u32, u64, Fault); 13] = [
     ((2, 2), 1, FAR + 4, Fault::BadLast),
 ];
 
-/// A script over these fanouts, of so many processors and this last number is refused with this
+/// A script over these fanouts, of this many processors and this last number is refused with this
 /// fault.
 fn is_refused(
     rt: &impl Abort,

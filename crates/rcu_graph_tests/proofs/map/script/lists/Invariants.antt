@@ -5,7 +5,7 @@ use Rattle.rcu_graph.specs.Planned.{knowing}
 use Rattle.rcu_map.specs.Listed.{known_in, listing}
 use Rattle.rcu_graph_tests.proofs.map.script.lists.Given as goal
 
--- the seat is lent still, and only what its section knows changes
+-- the seat is still lent, and only the knowledge of its section changes
 abbrev pub invariant-loop-route : goal.invariant-loop-route
 invariant-loop-route g l = record {
   map : (listing l.entries).map ≡ (listing l.initial.entries).map;
