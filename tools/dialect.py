@@ -1,8 +1,9 @@
 """Sentences that an RCU engineer would not write, for tools/form.
 
-Read are the pages and the headers for C, whose notes are the doc comments of rcu_c, without code. A
-file may have as many of them as tools/dialect_left says, and no more. Write those numbers anew if
-some are mended: they only go down.
+It reads the pages, the headers for C, whose notes are the doc comments of rcu_c, and the comments
+of the crates: of code (src), definitions (specs) and proofs. Code is left out. A file may have as
+many of them as tools/dialect_left says, and no more. Write those numbers anew if some are mended:
+they only go down.
 
 Use: tools/dialect.py            prints each, with its place and what is wrong
      tools/dialect.py --write    writes tools/dialect_left anew
@@ -19,8 +20,11 @@ from checks import ROOT, files, headers, read, write
 LEFT = "tools/dialect_left"
 FENCED = re.compile(r"(?ms)^```.*?^```$")
 C_COMMENT = re.compile(r"(?s)/\*(.*?)\*/")
-# What is wrong, and how it is told. A sentence begins at a capital letter behind a full stop, or
-# where the text does.
+CRATE = re.compile(r"crates/\w+/(?:src|specs|proofs)/.*(\.rt|\.antt)")
+# A line of a comment of code, and one of a definition or a proof: its marker and its words.
+LINE_COMMENT = {".rt": re.compile(r"\s*(//[/!]?) ?(.*)"), ".antt": re.compile(r"\s*(--) ?(.*)")}
+# The patterns, by what is wrong. A sentence begins at a capital letter behind a full stop, or with
+# the text.
 BEGIN = r"(?:(?<=[.!?] )|(?<=[.!?:]\n)|(?<=\n\n)|(?<=- )|\A)"
 PATTERNS = {
     "a relative clause as the subject":
@@ -32,25 +36,53 @@ PATTERNS = {
     "a sentence that is only 'whether' or 'that'":
         re.compile(BEGIN + r"(?:Whether|That) [^.?]*\.(?=\s|\Z)"),
 }
+# Those for comments alone.
+IN_COMMENTS = {
+    "'where' for 'if'":
+        re.compile(r"(?<!stays )\bwhere (?:it|one|none|nobody|no|all|each|that|there)\b"),
+    "'nobody', 'somebody'": re.compile(r"\b(?:[Nn]obody|[Ss]omebody)\b"),
+    "a noun for 'when it was taken', 'queued' or 'made'":
+        re.compile(r"\b(?:at|since|of) (?:its|their) (?:taking|queueing|making)\b"),
+}
+
+
+def without_code(text):
+    return re.sub(r"`[^`\n]*`", "code", FENCED.sub("", text))
+
+
+def comments(text, comment):
+    """The comments of such lines, each a paragraph that begins with a capital letter."""
+    paragraphs, before = [], None
+    for line in text.splitlines():
+        marker, words = comment.fullmatch(line).groups() if comment.fullmatch(line) else (None, "")
+        if words and marker == before:
+            paragraphs[-1] += "\n" + words
+        elif words:
+            paragraphs.append(words[0].upper() + words[1:])
+        before = marker if words else None
+    return "\n\n".join(paragraphs)
 
 
 def prose(path):
     """The text of a file that is read as English."""
-    text = read(path)
+    text, crate = read(path), CRATE.fullmatch(path)
+    if crate:
+        return without_code(comments(text, LINE_COMMENT[crate[1]]))
     if path.endswith(".md"):
-        return re.sub(r"`[^`\n]*`", "code", FENCED.sub("", text))
+        return without_code(text)
     return "\n\n".join(re.sub(r"\n \* ?", "\n", it) for it in C_COMMENT.findall(text))
 
 
 def is_read(path):
-    return path.endswith(".md") or path in headers()
+    return path.endswith(".md") or path in headers() or CRATE.fullmatch(path)
 
 
 def found():
     """Each such sentence: the file, what is wrong, and the words."""
     for path in filter(is_read, files()):
         text = prose(path)
-        for what, pattern in PATTERNS.items():
+        own = IN_COMMENTS if CRATE.fullmatch(path) else {}
+        for what, pattern in [*PATTERNS.items(), *own.items()]:
             for it in pattern.finditer(text):
                 at = text[max(0, it.start() - 20):it.end() + 30]
                 yield path, what, " ".join(at.split())[:100]
