@@ -330,7 +330,7 @@ static inline uint32_t rcu_turn(rcu_t *rcu, rcu_turn_t *turn) {
 }
 
 /* Collects from the processor: if it passed a quiescent state in the grace period, or is offline or
- * idle, it is awaited no more. Writes an rcu_collected.
+ * idle, it is no longer awaited. Writes an rcu_collected.
  * If it finds the quiescent state, the departure or the idleness, all that the thread did before
  * that comes before what follows this call. The same holds if a begin finds it.
  * A processor that was idle at the begin and woke since is found "not yet", and is not awaited:
@@ -462,9 +462,8 @@ uint32_t rcu_tend(rcu_t *rcu, uint32_t cpu, uint64_t *done, uint64_t *waiting);
  * (progress.rt#L165), the_fourth_wait_for_a_barrier_writes_0 (progress.rt#L187). */
 uint32_t rcu_run(rcu_t *rcu, uint32_t cpu, uint64_t *values, size_t room, uint64_t *count);
 
-/* Gives back the memory that the processor's list does not need, at a step for each item that
- * stays. Writes for how many items, callbacks and markers, it has room then: for none if it is
- * empty.
+/* Frees the memory that the processor's list does not need, at a step for each item that stays.
+ * Writes for how many items, callbacks and markers, it then has room: for none if it is empty.
  * Fault 1: there is no such processor. */
 uint32_t rcu_shrink(rcu_t *rcu, uint32_t cpu, uint64_t *room);
 
@@ -619,7 +618,7 @@ static inline uint32_t rcu_seat_wake(rcu_seat_t *seat, uint64_t *number) {
  * section or not, online or not. Returns 2^64 - 1, which is never done, if `seat` is not an open
  * seat.
  * A full fence lies between what the thread did before, as an unlink, and that load. Unfenced, a
- * section may still come to what was unlinked once the cookie is done.
+ * section may still reach unlinked data after the cookie is done.
  * Fence: before.
  * Laws in crates/rcu_c/src/: dealt_seats_are_of_their_engine (laws.rt#L48),
  * seats_stay_of_their_engine (laws.rt#L73), returned_seats_are_dealt_again (laws.rt#L61). */
@@ -652,12 +651,12 @@ static inline bool rcu_seat_poll(rcu_seat_t *seat, uint64_t cookie) {
  * Fault 15: 2^62 were deferred. */
 uint32_t rcu_links_push(rcu_seat_t *seat, uint64_t link, uint64_t *last);
 
-/* Returns the first link if it is known to be done, with no look at the number. Else 0, and if
+/* Returns the first link if it is known to be done, without a load of the number. Else 0, and if
  * `seat` is not an open seat. */
 uint64_t rcu_links_ready(rcu_seat_t *seat);
 
-/* Returns the first link that is done, after one look at the number: those that were deferred since
- * the last look wait from now on. 0 if none is done, or if `seat` is not an open seat.
+/* Returns the first link that is done, after one load of the number: those that were deferred since
+ * the last load wait from now on. 0 if none is done, or if `seat` is not an open seat.
  * Fence: before. */
 uint64_t rcu_links_tend_unfenced(rcu_seat_t *seat);
 static inline uint64_t rcu_links_tend(rcu_seat_t *seat) {
@@ -676,7 +675,7 @@ bool rcu_links_pop(rcu_seat_t *seat, uint64_t next);
  * call here requests a grace period: the driver gets the cookie of rcu_defer_cookie, for
  * rcu_drive_for. */
 
-/* Defers a value, behind those that the seat has: with no look at the number, and no fence. The
+/* Defers a value, behind those that the seat has, without a load of the number or a fence. The
  * values keep the room that they ever had, until rcu_defer_shrink or rcu_seat_close.
  * Of each section one of two holds: all of it comes before what follows the rcu_defer_run that
  * hands the value out, or it sees what the thread did before the first rcu_defer_run after this
@@ -684,12 +683,12 @@ bool rcu_links_pop(rcu_seat_t *seat, uint64_t next);
  * Faults: 15 if 2^62 were deferred; 16. */
 uint32_t rcu_defer(rcu_seat_t *seat, uint64_t value);
 
-/* Hands out deferred values that are done, in order, `room` at most, after one look at the number:
- * those that were deferred before an earlier call of this, since which a full grace period has
- * passed. Writes them from `values` on, and how many they are; the rest of the room stays. The
+/* Hands out deferred values that are done, in order, `room` at most, after one load of the number:
+ * those that were deferred before an earlier call of this function, since which a full grace period
+ * has passed. Writes them from `values` on, and how many they are; the rest of the room stays. The
  * others wait from now on for a grace period that begins later. Takes no memory.
- * A full fence precedes the look. Unfenced, a section may still come to what was unlinked once its
- * value is handed out.
+ * A full fence precedes the load. Unfenced, a section may still reach unlinked data after its value
+ * is handed out.
  * Fence: before. */
 uint32_t rcu_defer_run_unfenced(rcu_seat_t *seat, uint64_t *values, size_t room, uint64_t *count);
 static inline uint32_t rcu_defer_run(rcu_seat_t *seat, uint64_t *values, size_t room,
@@ -707,8 +706,8 @@ uint64_t rcu_defer_count(rcu_seat_t *seat);
  * none of it waits, or if `seat` is not an open seat. */
 uint64_t rcu_defer_cookie(rcu_seat_t *seat);
 
-/* Gives back the memory that the values do not need, at a step for each that stays. Writes for how
- * many there is room then: for none if there is none. */
+/* Frees the memory that the values do not need, at a step for each that stays. Writes for how many
+ * values the seat then has room: for none if it has none. */
 uint32_t rcu_defer_shrink(rcu_seat_t *seat, uint64_t *room);
 
 /* ---- calls of the driver, the thread that makes grace periods: `rcu` is under the caller's
@@ -717,7 +716,7 @@ uint32_t rcu_defer_shrink(rcu_seat_t *seat, uint64_t *room);
 /* One step of driving. While a grace period runs it collects from each processor that is awaited;
  * if none runs it begins one if a tended callback or an rcu_start_poll waits for it. Then it ends
  * one that awaits no processor. Writes what it did. It costs a load for each processor that is
- * awaited, and at a begin a load a processor.
+ * awaited, and at a begin a load for each processor.
  * The driver calls this again and again, and lets other threads run in between while it awaits
  * someone. It orders what rcu_begin, rcu_collect and rcu_end order.
  * Fault 11: one would begin, and the number is the last one.
@@ -762,7 +761,7 @@ uint64_t rcu_start_poll(rcu_t *rcu);
 /* ---- a thread that may block at any time, by its seat: it is idle but in its sections */
 
 /* Opens a read section, or nests one deeper in the open one. An idle processor wakes first, by one
- * exchange, with no look at the number: no rcu_seat_wake is needed.
+ * exchange, without a load of the number: no rcu_seat_wake is needed.
  * It passes no quiescent state: a grace period that begins before the section ends awaits the
  * processor until it unpins. Of one that found it idle, or at whose number the section began, the
  * section sees what came before its begin, and what a thread did before it took a cookie that is

@@ -58,7 +58,7 @@ uint32_t rcu_open_map_as(uint32_t cpus, uint64_t max_number, rcu_identity_t iden
 uint32_t rcu_map_get(rcu_seat_t *seat, uint64_t key, uint64_t *entry, size_t room);
 
 /* Goes on from a key to the entry behind it, in the open section, and writes the words of that, or
- * the key 0 if there is none any more. From the key 0 it goes to the first one. The entries are in
+ * the key 0 if there is no further one. From the key 0 it goes to the first one. The entries are in
  * the order of their buckets, and in each of their keys; the key need not be in the map. So calls
  * from the key 0 on, each with the key that the one before wrote, write each key that is in the map
  * as long as the section lasts. It costs two loads for each entry of the key's bucket up to there,
@@ -127,7 +127,7 @@ uint32_t rcu_map_find(rcu_t *rcu, uint64_t key, uint64_t *entry, size_t room);
 /* Returns how many entries the map has. 0 if `rcu` is not an open engine. */
 uint64_t rcu_map_len(rcu_t *rcu);
 
-/* Reclaims nodes, after one look at the number: the nodes of entries that were replaced or removed
+/* Reclaims nodes, after one load of the number: the nodes of entries that were replaced or removed
  * wait from now on for the grace period of the cookie that this writes, and those whose grace
  * period has passed are free. No entry changes. It costs a load, and a step for each node that
  * waits from now on or is free.
@@ -138,9 +138,9 @@ uint64_t rcu_map_len(rcu_t *rcu);
  * (map_laws.rt#L93), reads_are_between_the_moments_that_they_know (map_laws.rt#L78). */
 uint32_t rcu_map_reclaim(rcu_t *rcu, uint64_t *cookie);
 
-/* One step of waiting for a free node, for the driver: it looks at the number, as rcu_map_reclaim.
- * If no node is free then, it takes a step of driving for the cookie of that number, as
- * rcu_drive_for. No entry changes.
+/* One step of waiting for a free node, for the driver: it loads the number, as rcu_map_reclaim
+ * does. If no node is free then, it takes a step of driving for the cookie of that number, as
+ * rcu_drive_for does. No entry changes.
  * If a call that puts an entry in finds no node free (31): call this, and that again, until the
  * entry is in or this is refused. In between let other threads run; the caller's own processor is
  * idle or offline, or passes quiescent states. It orders what rcu_drive_for orders.

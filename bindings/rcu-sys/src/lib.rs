@@ -283,7 +283,7 @@ extern "C" {
     /// Fence: behind.
     pub fn rcu_turn_unfenced(rcu: *mut rcu_t, turn: *mut rcu_turn_t) -> u32;
     /// Collects from the processor: if it passed a quiescent state in the grace period, or is
-    /// offline or idle, it is awaited no more. Writes an `rcu_collected`.
+    /// offline or idle, it is no longer awaited. Writes an `rcu_collected`.
     ///
     /// If it finds the quiescent state, the departure or the idleness, all that the thread did
     /// before that comes before what follows this call. The same holds if a begin finds it.
@@ -365,8 +365,8 @@ extern "C" {
         room: usize,
         count: *mut u64,
     ) -> u32;
-    /// Gives back the memory that the processor's list does not need, at a step for each item that
-    /// stays. Writes for how many items, callbacks and markers, it has room then: for none if it is
+    /// Frees the memory that the processor's list does not need, at a step for each item that
+    /// stays. Writes for how many items, callbacks and markers, it then has room: for none if it is
     /// empty.
     ///
     /// Fault 1: there is no such processor.
@@ -481,7 +481,7 @@ extern "C" {
     /// is not an open seat.
     ///
     /// A full fence lies between what the thread did before, as an unlink, and that load. Unfenced,
-    /// a section may still come to what was unlinked once the cookie is done.
+    /// a section may still reach unlinked data after the cookie is done.
     ///
     /// Fence: before.
     pub fn rcu_seat_take_unfenced(seat: *mut rcu_seat_t) -> u64;
@@ -501,19 +501,19 @@ extern "C" {
     ///
     /// Fault 15: 2^62 were deferred.
     pub fn rcu_links_push(seat: *mut rcu_seat_t, link: u64, last: *mut u64) -> u32;
-    /// Returns the first link if it is known to be done, with no look at the number. Else 0, and if
-    /// `seat` is not an open seat.
+    /// Returns the first link if it is known to be done, without a load of the number. Else 0, and
+    /// if `seat` is not an open seat.
     pub fn rcu_links_ready(seat: *mut rcu_seat_t) -> u64;
-    /// Returns the first link that is done, after one look at the number: those that were deferred
-    /// since the last look wait from now on. 0 if none is done, or if `seat` is not an open seat.
+    /// Returns the first link that is done, after one load of the number: those that were deferred
+    /// since the last load wait from now on. 0 if none is done, or if `seat` is not an open seat.
     ///
     /// Fence: before.
     pub fn rcu_links_tend_unfenced(seat: *mut rcu_seat_t) -> u64;
     /// Takes the first link out, if it is done: `next` is the first one from now on. Returns
     /// whether it was done; false if `seat` is not an open seat.
     pub fn rcu_links_pop(seat: *mut rcu_seat_t, next: u64) -> bool;
-    /// Defers a value, behind those that the seat has: with no look at the number, and no fence.
-    /// The values keep the room that they ever had, until `rcu_defer_shrink` or `rcu_seat_close`.
+    /// Defers a value, behind those that the seat has, without a load of the number or a fence. The
+    /// values keep the room that they ever had, until `rcu_defer_shrink` or `rcu_seat_close`.
     ///
     /// Of each section one of two holds: all of it comes before what follows the `rcu_defer_run`
     /// that hands the value out, or it sees what the thread did before the first `rcu_defer_run`
@@ -521,13 +521,14 @@ extern "C" {
     ///
     /// Faults: 15 if 2^62 were deferred; 16.
     pub fn rcu_defer(seat: *mut rcu_seat_t, value: u64) -> u32;
-    /// Hands out deferred values that are done, in order, `room` at most, after one look at the
-    /// number: those that were deferred before an earlier call of this, since which a full grace
-    /// period has passed. Writes them from `values` on, and how many they are; the rest of the room
-    /// stays. The others wait from now on for a grace period that begins later. Takes no memory.
+    /// Hands out deferred values that are done, in order, `room` at most, after one load of the
+    /// number: those that were deferred before an earlier call of this function, since which a full
+    /// grace period has passed. Writes them from `values` on, and how many they are; the rest of
+    /// the room stays. The others wait from now on for a grace period that begins later. Takes no
+    /// memory.
     ///
-    /// A full fence precedes the look. Unfenced, a section may still come to what was unlinked once
-    /// its value is handed out.
+    /// A full fence precedes the load. Unfenced, a section may still reach unlinked data after its
+    /// value is handed out.
     ///
     /// Fence: before.
     pub fn rcu_defer_run_unfenced(
@@ -543,13 +544,13 @@ extern "C" {
     /// look, by `rcu_defer_run` at values and by `rcu_defer_take` at links. Returns 1, which is
     /// always done, if none of it waits, or if `seat` is not an open seat.
     pub fn rcu_defer_cookie(seat: *mut rcu_seat_t) -> u64;
-    /// Gives back the memory that the values do not need, at a step for each that stays. Writes for
-    /// how many there is room then: for none if there is none.
+    /// Frees the memory that the values do not need, at a step for each that stays. Writes for how
+    /// many values the seat then has room: for none if it has none.
     pub fn rcu_defer_shrink(seat: *mut rcu_seat_t, room: *mut u64) -> u32;
     /// One step of driving. While a grace period runs it collects from each processor that is
     /// awaited; if none runs it begins one if a tended callback or an `rcu_start_poll` waits for
     /// it. Then it ends one that awaits no processor. Writes what it did. It costs a load for each
-    /// processor that is awaited, and at a begin a load a processor.
+    /// processor that is awaited, and at a begin a load for each processor.
     ///
     /// The driver calls this again and again, and lets other threads run in between while it awaits
     /// someone. It orders what `rcu_begin`, `rcu_collect` and `rcu_end` order.
@@ -580,7 +581,7 @@ extern "C" {
     /// engine.
     pub fn rcu_start_poll(rcu: *mut rcu_t) -> u64;
     /// Opens a read section, or nests one deeper in the open one. An idle processor wakes first, by
-    /// one exchange, with no look at the number: no `rcu_seat_wake` is needed.
+    /// one exchange, without a load of the number: no `rcu_seat_wake` is needed.
     ///
     /// It passes no quiescent state: a grace period that begins before the section ends awaits the
     /// processor until it unpins. Of one that found it idle, or at whose number the section began,
@@ -682,7 +683,7 @@ extern "C" {
     /// Faults: 5 if no section is open; 32 if an entry has another number of words.
     pub fn rcu_map_get(seat: *mut rcu_seat_t, key: u64, entry: *mut u64, room: usize) -> u32;
     /// Goes on from a key to the entry behind it, in the open section, and writes the words of
-    /// that, or the key 0 if there is none any more. From the key 0 it goes to the first one. The
+    /// that, or the key 0 if there is no further one. From the key 0 it goes to the first one. The
     /// entries are in the order of their buckets, and in each of their keys; the key need not be in
     /// the map. So calls from the key 0 on, each with the key that the one before wrote, write each
     /// key that is in the map as long as the section lasts. It costs two loads for each entry of
@@ -754,7 +755,7 @@ extern "C" {
     pub fn rcu_map_find(rcu: *mut rcu_t, key: u64, entry: *mut u64, room: usize) -> u32;
     /// Returns how many entries the map has. 0 if `rcu` is not an open engine.
     pub fn rcu_map_len(rcu: *mut rcu_t) -> u64;
-    /// Reclaims nodes, after one look at the number: the nodes of entries that were replaced or
+    /// Reclaims nodes, after one load of the number: the nodes of entries that were replaced or
     /// removed wait from now on for the grace period of the cookie that this writes, and those
     /// whose grace period has passed are free. No entry changes. It costs a load, and a step for
     /// each node that waits from now on or is free.
@@ -762,9 +763,9 @@ extern "C" {
     /// If a put finds no node free (31): call it, drive until the cookie is done, and call it
     /// again; or call `rcu_map_wait`.
     pub fn rcu_map_reclaim(rcu: *mut rcu_t, cookie: *mut u64) -> u32;
-    /// One step of waiting for a free node, for the driver: it looks at the number, as
-    /// `rcu_map_reclaim`. If no node is free then, it takes a step of driving for the cookie of
-    /// that number, as `rcu_drive_for`. No entry changes.
+    /// One step of waiting for a free node, for the driver: it loads the number, as
+    /// `rcu_map_reclaim` does. If no node is free then, it takes a step of driving for the cookie
+    /// of that number, as `rcu_drive_for` does. No entry changes.
     ///
     /// If a call that puts an entry in finds no node free (31): call this, and that again, until
     /// the entry is in or this is refused. In between let other threads run; the caller's own
@@ -813,8 +814,8 @@ extern "C" {
     /// Faults: 17 for no processor or more than 4,096; 19 if `max_number` is no such number; 16.
     pub fn rcu_replica_open(cpus: u32, max_number: u64, replica: *mut rcu_replica_t) -> u32;
     /// Begins a grace period that awaits the processors whose bits are set in words of 64, the
-    /// lowest first; bits of processors that there are not mean nothing. Writes its number, four
-    /// for each that ended and one more. It costs a step a processor, and takes no memory.
+    /// lowest first; bits of processors that do not exist mean nothing. Writes its number, four for
+    /// each that ended and one more. It costs a step for each processor, and needs no memory.
     ///
     /// Faults: 8 if one runs; 11 if the number is the last one.
     pub fn rcu_replica_begin(
@@ -834,15 +835,15 @@ extern "C" {
         number: u64,
         answer: *mut u32,
     ) -> u32;
-    /// Takes a processor's departure: it is awaited no more in the running grace period. Its
-    /// message has no number that is compared, so pass it on only if the processor departed in this
-    /// grace period.
+    /// Takes a processor's departure: it is no longer awaited in the running grace period. Its
+    /// message has no number to compare, so pass it on only if the processor departed in this grace
+    /// period.
     ///
     /// Faults: 1 if there is no such processor; 12 for processor 0.
     pub fn rcu_replica_depart(replica: *mut rcu_replica_t, cpu: u32) -> u32;
-    /// Takes in what another replica of the same grace period has heard: the first one then awaits
-    /// the processors that both await. `other` is another handle, and stays as it is. It costs a
-    /// step a processor.
+    /// Merges the reports that another replica of the same grace period has heard: the first one
+    /// then awaits only the processors that both await. `other` is another handle, and stays as it
+    /// is. It costs a step for each processor.
     ///
     /// Fault 20: number of processors, number or start set differ.
     pub fn rcu_replica_merge(replica: *mut rcu_replica_t, other: *mut rcu_replica_t) -> u32;
@@ -1026,7 +1027,7 @@ pub unsafe fn rcu_seat_wake(seat: *mut rcu_seat_t, number: *mut u64) -> u32 {
 /// open seat.
 ///
 /// A full fence lies between what the thread did before, as an unlink, and that load. Unfenced, a
-/// section may still come to what was unlinked once the cookie is done.
+/// section may still reach unlinked data after the cookie is done.
 ///
 /// Fence: before.
 ///
@@ -1059,8 +1060,8 @@ pub unsafe fn rcu_seat_poll(seat: *mut rcu_seat_t, cookie: u64) -> bool {
     result
 }
 
-/// Returns the first link that is done, after one look at the number: those that were deferred
-/// since the last look wait from now on. 0 if none is done, or if `seat` is not an open seat.
+/// Returns the first link that is done, after one load of the number: those that were deferred
+/// since the last load wait from now on. 0 if none is done, or if `seat` is not an open seat.
 ///
 /// Fence: before.
 ///
@@ -1072,12 +1073,12 @@ pub unsafe fn rcu_links_tend(seat: *mut rcu_seat_t) -> u64 {
     rcu_links_tend_unfenced(seat)
 }
 
-/// Hands out deferred values that are done, in order, `room` at most, after one look at the number:
-/// those that were deferred before an earlier call of this, since which a full grace period has
-/// passed. Writes them from `values` on, and how many they are; the rest of the room stays. The
-/// others wait from now on for a grace period that begins later. Takes no memory.
+/// Hands out deferred values that are done, in order, `room` at most, after one load of the number:
+/// those that were deferred before an earlier call of this function, since which a full grace
+/// period has passed. Writes them from `values` on, and how many they are; the rest of the room
+/// stays. The others wait from now on for a grace period that begins later. Takes no memory.
 ///
-/// A full fence precedes the look. Unfenced, a section may still come to what was unlinked once its
+/// A full fence precedes the load. Unfenced, a section may still reach unlinked data after its
 /// value is handed out.
 ///
 /// Fence: before.
@@ -1098,7 +1099,7 @@ pub unsafe fn rcu_defer_run(
 /// One step of driving. While a grace period runs it collects from each processor that is awaited;
 /// if none runs it begins one if a tended callback or an `rcu_start_poll` waits for it. Then it
 /// ends one that awaits no processor. Writes what it did. It costs a load for each processor that
-/// is awaited, and at a begin a load a processor.
+/// is awaited, and at a begin a load for each processor.
 ///
 /// The driver calls this again and again, and lets other threads run in between while it awaits
 /// someone. It orders what `rcu_begin`, `rcu_collect` and `rcu_end` order.
@@ -1136,7 +1137,7 @@ pub unsafe fn rcu_drive_for(rcu: *mut rcu_t, cookie: u64, turn: *mut rcu_turn_t)
 }
 
 /// Opens a read section, or nests one deeper in the open one. An idle processor wakes first, by one
-/// exchange, with no look at the number: no `rcu_seat_wake` is needed.
+/// exchange, without a load of the number: no `rcu_seat_wake` is needed.
 ///
 /// It passes no quiescent state: a grace period that begins before the section ends awaits the
 /// processor until it unpins. Of one that found it idle, or at whose number the section began, the
@@ -1207,9 +1208,9 @@ pub unsafe fn rcu_barrier_wait(rcu: *mut rcu_t, left: *mut u64) -> u32 {
     result
 }
 
-/// One step of waiting for a free node, for the driver: it looks at the number, as
-/// `rcu_map_reclaim`. If no node is free then, it takes a step of driving for the cookie of that
-/// number, as `rcu_drive_for`. No entry changes.
+/// One step of waiting for a free node, for the driver: it loads the number, as `rcu_map_reclaim`
+/// does. If no node is free then, it takes a step of driving for the cookie of that number, as
+/// `rcu_drive_for` does. No entry changes.
 ///
 /// If a call that puts an entry in finds no node free (31): call this, and that again, until the
 /// entry is in or this is refused. In between let other threads run; the caller's own processor is

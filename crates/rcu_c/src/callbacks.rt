@@ -127,9 +127,8 @@ pub extern "C" fn rcu_run(rcu: &mut Rcu, cpu: u32, values: &mut [u64], count: &m
     0
 }
 
-/// Gives back the memory that the processor's list does not need, at a step for each item that
-/// stays. Writes for how many items, callbacks and markers, it has room then: for none if it is
-/// empty.
+/// Frees the memory that the processor's list does not need, at a step for each item that stays.
+/// Writes for how many items, callbacks and markers, it then has room: for none if it is empty.
 ///
 /// Fault 1: there is no such processor.
 #[unsafe(no_mangle)]

@@ -20,7 +20,7 @@ use crate::codes::{ALWAYS_DONE, accepted, code};
 use crate::handle::RcuSeat;
 use rcu_defer::DeferList;
 
-/// Defers a value, behind those that the seat has: with no look at the number, and no fence. The
+/// Defers a value, behind those that the seat has, without a load of the number or a fence. The
 /// values keep the room that they ever had, until `rcu_defer_shrink` or `rcu_seat_close`.
 ///
 /// Of each section one of two holds: all of it comes before what follows the `rcu_defer_run` that
@@ -67,12 +67,12 @@ fn put_ready(list: &mut DeferList<u64>, values: &mut [u64]) -> u64
     most
 }
 
-/// Hands out deferred values that are done, in order, `room` at most, after one look at the number:
-/// those that were deferred before an earlier call of this, since which a full grace period has
-/// passed. Writes them from `values` on, and how many they are; the rest of the room stays. The
-/// others wait from now on for a grace period that begins later. Takes no memory.
+/// Hands out deferred values that are done, in order, `room` at most, after one load of the number:
+/// those that were deferred before an earlier call of this function, since which a full grace
+/// period has passed. Writes them from `values` on, and how many they are; the rest of the room
+/// stays. The others wait from now on for a grace period that begins later. Takes no memory.
 ///
-/// A full fence precedes the look. Unfenced, a section may still come to what was unlinked once its
+/// A full fence precedes the load. Unfenced, a section may still reach unlinked data after its
 /// value is handed out.
 ///
 /// Fence: before.
@@ -136,8 +136,8 @@ pub extern "C" fn rcu_defer_cookie(seat: &mut RcuSeat) -> u64
     values.max(seat.links.marks.last_until().unwrap_or(ALWAYS_DONE))
 }
 
-/// Gives back the memory that the values do not need, at a step for each that stays. Writes for how
-/// many there is room then: for none if there is none.
+/// Frees the memory that the values do not need, at a step for each that stays. Writes for how many
+/// values the seat then has room: for none if it has none.
 #[unsafe(no_mangle)]
 pub extern "C" fn rcu_defer_shrink(seat: &mut RcuSeat, room: &mut u64) -> u32
     ensures fault { result ≡ seat_number seat.old.contents 0 }

@@ -148,7 +148,7 @@ pub fn departures_put_off_the_end_of_a_barrier()
     ensures departed { (cpu word : ℕ) → puts_off {X = ℕ} (Call.Depart cpu word) ≡ false }
 {}
 
-/// Words are quiet if each processor is offline. They are not if one woke without a look at the
+/// Words are quiet if each processor is offline. They are not if one woke without a load of the
 /// number.
 pub fn words_are_quiet_where_each_says_so()
     ensures offline { (e : Locked Planned ℕ) → AreQuiet e (λ _. 0) }

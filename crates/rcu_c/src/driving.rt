@@ -24,7 +24,7 @@ use rcu_seq::Cookie;
 /// One step of driving. While a grace period runs it collects from each processor that is awaited;
 /// if none runs it begins one if a tended callback or an `rcu_start_poll` waits for it. Then it
 /// ends one that awaits no processor. Writes what it did. It costs a load for each processor that
-/// is awaited, and at a begin a load a processor.
+/// is awaited, and at a begin a load for each processor.
 ///
 /// The driver calls this again and again, and lets other threads run in between while it awaits
 /// someone. It orders what `rcu_begin`, `rcu_collect` and `rcu_end` order.

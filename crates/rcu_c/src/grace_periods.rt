@@ -133,7 +133,7 @@ pub extern "C" fn rcu_turn_unfenced(rcu: &mut Rcu, turn: &mut Turn) -> u32
 }
 
 /// Collects from the processor: if it passed a quiescent state in the grace period, or is offline
-/// or idle, it is awaited no more. Writes an `rcu_collected`.
+/// or idle, it is no longer awaited. Writes an `rcu_collected`.
 ///
 /// If it finds the quiescent state, the departure or the idleness, all that the thread did before
 /// that comes before what follows this call. The same holds if a begin finds it.

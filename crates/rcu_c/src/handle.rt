@@ -241,7 +241,7 @@ impl Handle {
     }
 }
 
-/// Frees nothing, so no open handle is let go: closing takes its box back first.
+/// Frees nothing, so no open handle may be dropped: closing takes its box back first.
 impl Drop for Handle {
     fn drop(self)
         requires closed { IsNone self.contents }

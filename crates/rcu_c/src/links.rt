@@ -90,7 +90,7 @@ pub extern "C" fn rcu_links_push(seat: &mut RcuSeat, link: u64, last: &mut u64) 
     write_out(seat.links.push(link), last)
 }
 
-/// Returns the first link if it is known to be done, with no look at the number. Else 0, and if
+/// Returns the first link if it is known to be done, without a load of the number. Else 0, and if
 /// `seat` is not an open seat.
 #[unsafe(no_mangle)]
 pub extern "C" fn rcu_links_ready(seat: &mut RcuSeat) -> u64
@@ -103,8 +103,8 @@ pub extern "C" fn rcu_links_ready(seat: &mut RcuSeat) -> u64
     seat.links.ready()
 }
 
-/// Returns the first link that is done, after one look at the number: those that were deferred
-/// since the last look wait from now on. 0 if none is done, or if `seat` is not an open seat.
+/// Returns the first link that is done, after one load of the number: those that were deferred
+/// since the last load wait from now on. 0 if none is done, or if `seat` is not an open seat.
 ///
 /// Fence: before.
 #[unsafe(no_mangle)]

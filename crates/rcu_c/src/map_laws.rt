@@ -88,8 +88,8 @@ pub fn reads_are_between_the_moments_that_they_know()
         IsNextBetween plan key first last before room entry after }
 {}
 
-/// A key that stays in the map over such a run, and that lies behind another one, is passed over by
-/// no `rcu_map_next` from that: it writes an entry, of the key or of one before it.
+/// No `rcu_map_next` from a key skips a later key that stays in the map over such a run: it writes
+/// an entry, of that key or of one before it.
 pub fn no_key_that_stays_is_passed_over()
     ensures { (plan : Plan) (opened key stays writer id from done last : ℕ) (moments : ℕ → Moment)
         (now : Watching Planned) (run : IsRun IsKeyed plan opened now)

@@ -47,11 +47,11 @@ pub extern "C" fn rcu_map_get(seat: &mut RcuSeat, key: u64, entry: &mut [u64]) -
 }
 
 /// Goes on from a key to the entry behind it, in the open section, and writes the words of that, or
-/// the key 0 if there is none any more. From the key 0 it goes to the first one. The entries are in
-/// the order of their buckets, and in each of their keys; the key need not be in the map. So calls
-/// from the key 0 on, each with the key that the one before wrote, write each key that is in the
-/// map as long as the section lasts. It costs two loads for each entry of the key's bucket up to
-/// there, one for each bucket with no further entry, and one for each further word.
+/// the key 0 if there is no further one. From the key 0 it goes to the first one. The entries are
+/// in the order of their buckets, and in each of their keys; the key need not be in the map. So
+/// calls from the key 0 on, each with the key that the one before wrote, write each key that is in
+/// the map as long as the section lasts. It costs two loads for each entry of the key's bucket up
+/// to there, one for each bucket with no further entry, and one for each further word.
 ///
 /// It orders what `rcu_map_get` orders.
 ///

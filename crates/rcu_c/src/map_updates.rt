@@ -172,7 +172,7 @@ pub extern "C" fn rcu_map_len(rcu: &mut Rcu) -> u64
     opened.map.len() as u64
 }
 
-/// Reclaims nodes, after one look at the number: the nodes of entries that were replaced or removed
+/// Reclaims nodes, after one load of the number: the nodes of entries that were replaced or removed
 /// wait from now on for the grace period of the cookie that this writes, and those whose grace
 /// period has passed are free. No entry changes. It costs a load, and a step for each node that
 /// waits from now on or is free.
@@ -192,9 +192,9 @@ pub extern "C" fn rcu_map_reclaim(rcu: &mut Rcu, cookie: &mut u64) -> u32
     0
 }
 
-/// One step of waiting for a free node, for the driver: it looks at the number, as
-/// `rcu_map_reclaim`. If no node is free then, it takes a step of driving for the cookie of that
-/// number, as `rcu_drive_for`. No entry changes.
+/// One step of waiting for a free node, for the driver: it loads the number, as `rcu_map_reclaim`
+/// does. If no node is free then, it takes a step of driving for the cookie of that number, as
+/// `rcu_drive_for` does. No entry changes.
 ///
 /// If a call that puts an entry in finds no node free (31): call this, and that again, until the
 /// entry is in or this is refused. In between let other threads run; the caller's own processor is

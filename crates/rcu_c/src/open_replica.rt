@@ -80,7 +80,7 @@ impl OpenReplica {
         self.inner.report(cpu, number)
     }
 
-    /// A processor departs, and is awaited no more.
+    /// A processor departs, and is no longer awaited.
     pub(crate) fn depart(&mut self, cpu: u32) -> Result<(), Fault>
         ensures state { OnOk result (self.new ≡ after_call self.old (Depart cpu)) }
         ensures fault { result_err result ≡ refusal self.old (Depart cpu) }
@@ -117,7 +117,7 @@ impl OpenReplica {
     }
 }
 
-/// Makes the set that of the processors whose bits are set in words of 64. Costs a step a
+/// Fills the set with the processors whose bits are set in words of 64. Costs a step for each
 /// processor.
 fn fill(set: &mut CpuSet, words: &[u64])
     ensures set { set.new ≡ flags_in (length set.old) words.now }

@@ -12,7 +12,7 @@ use crate::codes::{accepted, status, write_out};
 use crate::handle::RcuSeat;
 
 /// Opens a read section, or nests one deeper in the open one. An idle processor wakes first, by one
-/// exchange, with no look at the number: no `rcu_seat_wake` is needed.
+/// exchange, without a load of the number: no `rcu_seat_wake` is needed.
 ///
 /// It passes no quiescent state: a grace period that begins before the section ends awaits the
 /// processor until it unpins. Of one that found it idle, or at whose number the section began, the

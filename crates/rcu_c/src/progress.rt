@@ -82,9 +82,9 @@ pub fn a_drive_ends_a_quiet_grace_period()
         is_done_first (cookie_in_c cookie) (number_of (grace_of now).seq) ≡ true }
 {}
 
-/// Each seat can make its own word say that it is quiescent: by a quiescent state or a renewal at
+/// Each seat can make its own word report a quiescent state: by a quiescent state or a renewal at
 /// the running number or a later one, and by going idle, an outermost unpin or a departure. The
-/// sections that it opens and closes then change its word no more.
+/// sections that it opens and closes afterwards do not change its word.
 pub fn a_seat_can_tell_of_itself()
     ensures quiescent { (seat now : Option Contents) (running n : Number) → running ≤ n →
         AcceptedAt after_quiesce seat n now →

@@ -62,8 +62,8 @@ pub extern "C" fn rcu_replica_open(
 }
 
 /// Begins a grace period that awaits the processors whose bits are set in words of 64, the lowest
-/// first; bits of processors that there are not mean nothing. Writes its number, four for each that
-/// ended and one more. It costs a step a processor, and takes no memory.
+/// first; bits of processors that do not exist mean nothing. Writes its number, four for each that
+/// ended and one more. It costs a step for each processor, and needs no memory.
 ///
 /// Faults: 8 if one runs; 11 if the number is the last one.
 #[unsafe(no_mangle)]
@@ -123,9 +123,8 @@ pub extern "C" fn rcu_replica_report(
     write_out(replica.report(cpu, number).map(answer_in_c), answer)
 }
 
-/// Takes a processor's departure: it is awaited no more in the running grace period. Its message
-/// has no number that is compared, so pass it on only if the processor departed in this grace
-/// period.
+/// Takes a processor's departure: it is no longer awaited in the running grace period. Its message
+/// has no number to compare, so pass it on only if the processor departed in this grace period.
 ///
 /// Faults: 1 if there is no such processor; 12 for processor 0.
 #[unsafe(no_mangle)]
@@ -140,9 +139,9 @@ pub extern "C" fn rcu_replica_depart(replica: &mut RcuReplica, cpu: u32) -> u32
     status(replica.depart(cpu))
 }
 
-/// Takes in what another replica of the same grace period has heard: the first one then awaits the
-/// processors that both await. `other` is another handle, and stays as it is. It costs a step a
-/// processor.
+/// Merges the reports that another replica of the same grace period has heard: the first one then
+/// awaits only the processors that both await. `other` is another handle, and stays as it is. It
+/// costs a step for each processor.
 ///
 /// Fault 20: number of processors, number or start set differ.
 #[unsafe(no_mangle)]

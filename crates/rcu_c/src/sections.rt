@@ -229,7 +229,7 @@ pub extern "C" fn rcu_seat_wake_unfenced(seat: &mut RcuSeat, number: &mut u64) -
 /// open seat.
 ///
 /// A full fence lies between what the thread did before, as an unlink, and that load. Unfenced, a
-/// section may still come to what was unlinked once the cookie is done.
+/// section may still reach unlinked data after the cookie is done.
 ///
 /// Fence: before.
 #[unsafe(no_mangle)]

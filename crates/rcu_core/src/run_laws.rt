@@ -113,8 +113,9 @@ pub fn equally_heard_cores_await_the_same()
         → (cpu : ℕ) → cpu < size.cpus → cpu < other.cpus → awaits cpu h ≡ awaits cpu g }
 {}
 
-/// A processor is heard exactly if some event since the latest begin is a report, a departure or a
-/// scan of it. It makes no difference which event, how many, and what else came.
+/// A processor is heard exactly if some event since the latest begin delivers its report with the
+/// grace period's tag, or is its departure or a scan of it. It makes no difference which event, how
+/// many, and what else came.
 pub fn heard_means_told()
     ensures told { (cpu : ℕ) (tag : Tag) (h : History) → is_heard cpu tag h ≡ true
         → ToldSince cpu tag h }

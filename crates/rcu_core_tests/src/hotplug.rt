@@ -93,7 +93,7 @@ fn late_arrival<A: Awaited>(rt: &impl Abort, hotplug: &mut Hotplug<A>) {
     begin(rt, hotplug, 5, &[0, 1]);
 }
 
-/// A processor that departs is awaited no more; one that came back is awaited by the next grace
+/// A processor that departs is no longer awaited; one that came back is awaited by the next grace
 /// period.
 fn departed_and_back<A: Awaited>(rt: &impl Abort, hotplug: &mut Hotplug<A>) {
     arrives(rt, hotplug, 4);

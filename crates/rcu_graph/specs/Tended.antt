@@ -47,7 +47,7 @@ pub record AreHeldUp (roots links : ℕ) (nodes : List Node) (these : ℕ → Bo
   pub held : (i : ℕ) → these i ≡ true → (i < roots) ⊎ IsReachedFrom links nodes these i
 
 -- of the stored nodes those are unlinked that are no roots and to which no live node leads, and
--- nothing else changes: nodes in a cycle stay live
+-- nothing else changes: nodes that keep one another reachable stay live
 pub record AreCollected (roots links : ℕ) (stored nodes : List Node) : Type 0 where
   pub few : length nodes ≡ length stored
   pub links_stay : (i : ℕ) → (node_at nodes i).links ≡ (node_at stored i).links

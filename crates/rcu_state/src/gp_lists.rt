@@ -51,8 +51,8 @@ impl<A: Awaited, T: Drop> GpState<A, T> {
         &self.lists
     }
 
-    /// Gives back the memory that a processor's list does not need, as [`Lists::shrink`] does, at
-    /// the same cost.
+    /// Frees the memory that a processor's list does not need, as [`Lists::shrink`] does, at the
+    /// same cost.
     pub fn shrink(&mut self, cpu: u32)
         requires { cpu < cpus_of self.old.grace.processors }
         ensures state { self.new.grace ≡ self.old.grace }

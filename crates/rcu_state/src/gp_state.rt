@@ -204,7 +204,7 @@ impl<A: Awaited, T: Drop> GpState<A, T> {
 
     /// Begins a grace period, which awaits the online processors (Linux's `rcu_gp_init`). Returns
     /// its number, and how many processors it awaits. Costs the same as a begin of the awaited set,
-    /// in a [`Tree`](rcu_node::tree::Tree) a step a node.
+    /// in a [`Tree`](rcu_node::tree::Tree) a step for each node.
     ///
     /// Faults: `Running` (8) if one runs; `Exhausted` (11) if the number is the last one.
     pub fn begin(&mut self) -> Result<(u64, u32), Fault>
@@ -236,7 +236,8 @@ impl<A: Awaited, T: Drop> GpState<A, T> {
 
     /// Delivers the report of a processor. The report is stale if no grace period runs or its tag
     /// is not the current number; otherwise it does what [`Awaited::report`] says. Costs the same
-    /// as a report to the awaited set, in a [`Tree`](rcu_node::tree::Tree) at most a step a level.
+    /// as a report to the awaited set, in a [`Tree`](rcu_node::tree::Tree) at most a step for each
+    /// level.
     pub fn report(&mut self, report: Report) -> Answer
         requires { report.cpu < cpus_of self.old.grace.processors }
         ensures answer { result ≡ grace.report_answer_in self.old.grace report }
@@ -355,8 +356,8 @@ impl<A: Awaited, T: Drop> GpState<A, T> {
 
     /// Renumbers: numbers start again at 0 in the next epoch. Returns that epoch. Waiting callbacks
     /// lose their numbers, as [`Lists::renumber`] says. A needed number above the last one becomes
-    /// the number that ends the first grace period; any other becomes 0. Takes no memory, and costs
-    /// a step a processor.
+    /// the number that ends the first grace period; any other becomes 0. Needs no memory, and costs
+    /// a step for each processor.
     ///
     /// Faults: `Running` (8) if a grace period runs; `NotLast` (22) if the number is not the last
     /// one; `Exhausted` (11) in the last epoch.

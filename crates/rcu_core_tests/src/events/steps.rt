@@ -20,7 +20,7 @@ static SECTION: [(Event, &str); 10] = [
     (Event::End, "Fault(Waiting)"),
 ];
 
-/// A reader holds up the grace period that began after it, and its cookie.
+/// A reader blocks the grace period that began after it, and its cookie.
 #[test]
 fn open_section_blocks(rt: HostRuntime) {
     let mut core = core(&rt, rt.alloc(), 8);

@@ -98,7 +98,7 @@ fn awaits<A: Awaited>(rt: &impl Abort, replica: &Replica<A>, wanted: &[u32]) {
     compare(rt, "awaited", awaited.count() as usize, wanted.len());
 }
 
-/// Two replicas of five processors that heard different ones, and take in each other.
+/// Two replicas of five processors that heard different ones, and merge each other.
 fn merge_two<A: Awaited, B: Awaited>(
     rt: &impl Abort,
     mut a: Replica<A>,
@@ -124,7 +124,7 @@ static SECOND_HEARD: [(u32, u64, Result<Answer, Fault>); 2] = [
     (2, 1, Ok(Answer::Taken)),
 ];
 
-/// They take in each other.
+/// They merge each other.
 fn merge_begun<A: Awaited, B: Awaited>(rt: &impl Abort, a: &mut Replica<A>, b: &mut Replica<B>) {
     awaits(rt, a, &[1, 3, 4]);
     awaits(rt, b, &[0, 1, 3]);
@@ -152,8 +152,8 @@ fn begin_with<A: Awaited>(rt: &impl Abort, alloc: Global, replica: &mut Replica<
     begin(rt, replica, &set_of(rt, alloc, 5, cpus), Ok(1));
 }
 
-/// Two replicas of five processors that begin with different sets, and do not take in each other.
-/// The first does not take in the third one either, which has more processors.
+/// Two replicas of five processors that begin with different sets, and do not merge each other. The
+/// first does not merge the third one either, which has more processors.
 fn merge_unlike<A: Awaited, B: Awaited, C: Awaited>(
     rt: &impl Abort,
     alloc: Global,
