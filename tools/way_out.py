@@ -2,9 +2,10 @@
 
 The engine's own function for it is proved: rcu_core's Core::next_retiring_event names the events,
 one after another, as many as are left and none of them refused
-(rcu_core::progress::the_way_out_ends_a_grace_period). Here they are found apart from it, and shown:
-./rcu answers lines behind the script that show what each processor lacks, and then the way itself.
-Of one script tools/front_door and rcu_core_tests (events::way_out) have the same events.
+(rcu_core::progress::the_way_out_ends_a_grace_period). They are the list that is made here, by the
+law the_way_out_goes_by_the_processors beside it. What the list is made from is read off the replies
+of ./rcu to lines behind the script, which show what each processor lacks; then ./rcu answers the
+list itself. Of one script tools/front_door and rcu_core_tests (events::way_out) have the same list.
 """
 import re
 

@@ -37,6 +37,7 @@ pub mod StepKinds
 pub mod Steps
 pub mod Waited
 pub mod Wanted
+pub mod WayListed
 pub mod WayOut
 pub mod WithMemory
 pub mod Writes

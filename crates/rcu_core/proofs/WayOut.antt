@@ -52,24 +52,36 @@ some_is : {x y : ℕ} → Some x ≡ Some y → x ≡ y
 some_is i = cc
 
 found_at : (b : Bool) (a c : ℕ) (o : Option ℕ) → cond b (Some a) o ≡ Some c
-    → ((b ≡ true) × (a ≡ c)) ⊎ (o ≡ Some c)
+    → ((b ≡ true) × (a ≡ c)) ⊎ ((b ≡ false) × (o ≡ Some c))
 found_at true a c o e = inl (refl, some_is e)
-found_at false a c o e = inr e
+found_at false a c o e = inr (refl, e)
 
-found : (p : ℕ → Bool) (a n c : ℕ) → find p (range_with_len a n) ≡ Some c
+pub found : (p : ℕ → Bool) (a n c : ℕ) → find p (range_with_len a n) ≡ Some c
     → (c < a + n) × (p c ≡ true)
 found p a zero c e = absurd (cc)
 found p a (suc n) c e = elim (found_at (p a) a c (find p (range_with_len (a + 1) n)) e) [
   | inl i ↦ let at = i.1 in (omega (arith, at), subst (λ k. p k ≡ true) at i.0)
-  | inr i ↦ let rest = found p (a + 1) n c i in let l = rest.0 in (omega (arith, l), rest.1)
+  | inr i ↦ let rest = found p (a + 1) n c i.1 in let l = rest.0 in (omega (arith, l), rest.1)
 ]
+
+pub none_before : (p : ℕ → Bool) (a n c : ℕ) → find p (range_with_len a n) ≡ Some c → (d : ℕ)
+    → a ≤ d → d < c → p d ≡ false
+none_before p a zero c e d l m = absurd (cc)
+none_before p a (suc n) c e d l m =
+    elim (found_at (p a) a c (find p (range_with_len (a + 1) n)) e) [
+      | inl i ↦ let at = i.1 in absurd (omega (arith, at, l, m))
+      | inr i ↦ elim (eq-or-lt_of_le {n = a} {m = d} l) [
+        | inl at ↦ subst (λ k. p k ≡ false) at i.0
+        | inr before ↦ none_before p (a + 1) n c i.1 d (omega (arith, before)) m
+      ]
+    ]
 
 not_found_at : (b : Bool) (a : ℕ) (o : Option ℕ) → cond b (Some a) o ≡ None
     → (b ≡ false) × (o ≡ None)
 not_found_at true a o e = absurd (cc)
 not_found_at false a o e = (refl, e)
 
-not_found : (p : ℕ → Bool) (a n : ℕ) → find p (range_with_len a n) ≡ None → (c : ℕ) → a ≤ c
+pub not_found : (p : ℕ → Bool) (a n : ℕ) → find p (range_with_len a n) ≡ None → (c : ℕ) → a ≤ c
     → c < a + n → p c ≡ false
 not_found p a zero e c l m = absurd (omega (arith, l, m))
 not_found p a (suc n) e c l m =
@@ -180,7 +192,7 @@ counted_same p f n old new here e kept =
     omega (arith, more, at, e, kept)
 
 -- an event that no cause speaks against, and that is a step of the way out
-record Taken (s : Size) (h : History) (e : Event) : Type 0 where
+pub record Taken (s : Size) (h : History) (e : Event) : Type 0 where
   pub surely : Surely s h e
   pub step : IsStepOut s h e
 
@@ -207,7 +219,7 @@ goes_on s h e u k n as_before r less = record {
 last_one : (b c : Bool) (m n : ℕ) → b ≡ false → c ≡ true → n ≡ 1 → cond b m 0 + 1 ≡ cond c n 0
 last_one b c m n i j e = rw (i, j, e) refl
 
-ends : (s : Size) (h : History) → AreAccepted s h → running h ≡ true
+pub ends : (s : Size) (h : History) → AreAccepted s h → running h ≡ true
     → ((c : ℕ) → c < s.cpus → awaits c h ≡ false) → Taken s h End
 ends s h p r a =
     let u = ends_now s h r a in
@@ -248,34 +260,40 @@ deep n l = grind (arith, nat_tests, l)
 shallow : (n : ℕ) → n ≡ 0 → nat_lt 0 n ≡ false
 shallow n e = ap (λ k. nat_lt 0 k) e
 
-of_one : (s : Size) (h : History) (c : ℕ) → AreAccepted s h → running h ≡ true
-    → awaits c h ≡ true → c < s.cpus → Taken s h (retiring_event_of (situation h) c)
-of_one s h c p r a l = elim (cases_eq (depth c h) 0) [
+pub of_cases : (P : Event → Type 0) (h : History) (c : ℕ) → (0 < depth c h → P (Exit c))
+    → (depth c h ≡ 0 → is_idle c h ≡ true → P (Scan c))
+    → (depth c h ≡ 0 → is_idle c h ≡ false → P (Idle c))
+    → P (retiring_event_of (situation h) c)
+of_cases P h c exit scan idle = elim (cases_eq (depth c h) 0) [
   | inr d ↦
       let some : 0 < depth c h = omega (arith, d) in
-      subst (λ x. Taken s h x)
-      (sym (inside (nat_lt 0 (depth c h)) (is_idle c h) c (deep (depth c h) some)))
-      (exits s h c p r a l some)
+      subst P (sym (inside (nat_lt 0 (depth c h)) (is_idle c h) (deep (depth c h) some)))
+      (exit some)
   | inl d ↦ elim (cases_Bool (is_idle c h)) [
     | inl i ↦
-        subst (λ x. Taken s h x)
-        (sym (at_rest (nat_lt 0 (depth c h)) (is_idle c h) true c (shallow (depth c h) d) i))
-        (scans s h c p r a l i)
+        subst P
+        (sym (at_rest (nat_lt 0 (depth c h)) (is_idle c h) true (shallow (depth c h) d) i))
+        (scan d i)
     | inr i ↦
-        subst (λ x. Taken s h x)
-        (sym (at_rest (nat_lt 0 (depth c h)) (is_idle c h) false c (shallow (depth c h) d) i))
-        (goes_idle s h c p r a l d i)
+        subst P
+        (sym (at_rest (nat_lt 0 (depth c h)) (is_idle c h) false (shallow (depth c h) d) i))
+        (idle d i)
   ]
 ]
   where
-    inside : (b i : Bool) (c : ℕ) → b ≡ true
-        → cond b (Exit c) (cond i (Scan c) (Idle c)) ≡ Exit c
-    inside true i c e = refl
-    inside false i c e = absurd (cc)
+    inside : (b i : Bool) → b ≡ true → cond b (Exit c) (cond i (Scan c) (Idle c)) ≡ Exit c
+    inside true i e = refl
+    inside false i e = absurd (cc)
 
-    at_rest : (b i j : Bool) (c : ℕ) → b ≡ false → i ≡ j
+    at_rest : (b i j : Bool) → b ≡ false → i ≡ j
         → cond b (Exit c) (cond i (Scan c) (Idle c)) ≡ cond j (Scan c) (Idle c)
-    at_rest b i j c e k = rw (e, k) refl
+    at_rest b i j e k = rw (e, k) refl
+
+pub of_one : (s : Size) (h : History) (c : ℕ) → AreAccepted s h → running h ≡ true
+    → awaits c h ≡ true → c < s.cpus → Taken s h (retiring_event_of (situation h) c)
+of_one s h c p r a l =
+    of_cases (λ e. Taken s h e) h c (λ d. exits s h c p r a l d) (λ d i. scans s h c p r a l i)
+    (λ d i. goes_idle s h c p r a l d i)
 
 of_first : (s : Size) (h : History) (o : Option ℕ) → AreAccepted s h → running h ≡ true
     → first_awaited s (situation h) ≡ o → Taken s h (retiring_event_for (situation h) o)

@@ -1,7 +1,7 @@
 -- The way out of a running grace period, event by event.
 use Rattle.std.specs.Prelude.{ℕ, ◌+◌, ◌≡◌, true, if◌then◌else◌, List, [], ◌∷◌, Option, None, Some}
-use Rattle.std.specs.Prelude.{nat_lt}
-use Rattle.std.specs.List.{find, range_with_len}
+use Rattle.std.specs.Prelude.{◌++◌, nat_lt, replicate}
+use Rattle.std.specs.List.{find, flat_map, range_with_len}
 use Rattle.rcu_core.specs.History.{History, running}
 use Rattle.rcu_core.specs.Progress.{HasEnded, SurelyLeads, retires, steps_left}
 use Rattle.rcu_core.specs.Replies.{Size}
@@ -30,6 +30,19 @@ retiring_event_for v (Some cpu) = retiring_event_of v cpu
 abbrev pub next_retiring_event : Size → Situation → Option Event
 next_retiring_event s v =
     if v.periods.running then Some (retiring_event_for v (first_awaited s v)) else None
+
+-- the events of a processor, if it is awaited: an exit for each open enter, one to go idle if it is
+-- not, and the scan that finds it idle
+abbrev pub retiring_events_of : Situation → ℕ → List Event
+retiring_events_of v cpu =
+    if v.cpus.awaits cpu
+    then replicate (v.cpus.depth cpu) (Exit cpu)
+    ++ ((if v.cpus.idle cpu then [] else Idle cpu ∷ []) ++ Scan cpu ∷ [])
+    else []
+
+-- the whole way out: the events of each processor, by their numbers, and the end
+abbrev pub way_out : Size → Situation → List Event
+way_out s v = flat_map (retiring_events_of v) (range_with_len 0 s.cpus) ++ End ∷ []
 
 -- how many events take an awaited processor out of the running grace period
 abbrev pub retiring_steps_of : Situation → ℕ → ℕ

@@ -13,6 +13,7 @@ ghost use Rattle.rcu_core.specs.Progress.{retires, steps_left};
 ghost use Rattle.rcu_core.specs.Replies.{AreAccepted, IsLegalReply, Size, answer};
 ghost use Rattle.rcu_core.specs.Situation.{situation};
 ghost use Rattle.rcu_core.specs.WayOut.{IsStepOut, IsWayOut, next_retiring_event, steps_out};
+ghost use Rattle.rcu_core.specs.WayOut.{way_out};
 ghost use Rattle.rcu_core.specs.Runs.{IsLegalRun, Run, history, takes};
 
 use crate::event::Event;
@@ -241,6 +242,24 @@ pub fn the_next_event_out_is_of_the_first_awaited()
         ≡ Some Event.End }
     ensures none { (last most : ℕ) →
         next_retiring_event (record { cpus = 2; last = last; most = most }) (situation []) ≡ None }
+{}
+
+/// A way out lists two events for each awaited processor, one if it is idle, and an exit for each
+/// open enter, by the processors' numbers; none for a processor that is not awaited; then the end.
+pub fn a_way_out_lists_the_events_of_each_processor()
+    ensures stalled { (last most : ℕ) → way_out (record { cpus = 2; last = last; most = most })
+        (situation (Event.Quiesce 0 ∷ Event.Note 0 ∷ Event.Enter 1 ∷ Event.Begin
+        ∷ Event.Online 1 ∷ []))
+        ≡ Event.Idle 0 ∷ Event.Scan 0 ∷ Event.Exit 1 ∷ Event.Idle 1 ∷ Event.Scan 1
+        ∷ Event.End ∷ [] }
+    ensures nested { (last most : ℕ) → way_out (record { cpus = 1; last = last; most = most })
+        (situation (Event.Enter 0 ∷ Event.Enter 0 ∷ Event.Begin ∷ []))
+        ≡ Event.Exit 0 ∷ Event.Exit 0 ∷ Event.Idle 0 ∷ Event.Scan 0 ∷ Event.End ∷ [] }
+    ensures idle { (last most : ℕ) → way_out (record { cpus = 1; last = last; most = most })
+        (situation (Event.Idle 0 ∷ Event.Begin ∷ [])) ≡ Event.Scan 0 ∷ Event.End ∷ [] }
+    ensures late { (last most : ℕ) → way_out (record { cpus = 2; last = last; most = most })
+        (situation (Event.Enter 1 ∷ Event.Online 1 ∷ Event.Begin ∷ []))
+        ≡ Event.Idle 0 ∷ Event.Scan 0 ∷ Event.End ∷ [] }
 {}
 
 /// A step to idle of an awaited processor is a step out. A note is not, nor is a scan that is

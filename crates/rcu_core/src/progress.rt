@@ -21,6 +21,7 @@ ghost use Rattle.rcu_core.specs.Replies.{AreAccepted, IsLegalReply, Size, answer
 ghost use Rattle.rcu_core.specs.Runs.{IsLegalRun, Run, RunsLegally, history, takes};
 ghost use Rattle.rcu_core.specs.Situation.{situation};
 ghost use Rattle.rcu_core.specs.WayOut.{IsStepOut, IsWayOut, next_retiring_event, steps_out};
+ghost use Rattle.rcu_core.specs.WayOut.{way_out};
 
 use crate::event::Event;
 use crate::reply::Reply;
@@ -100,6 +101,13 @@ pub fn the_way_out_ends_a_grace_period()
         → IsWayOut size h events reached → list_all retires events ≡ true }
     ensures ended { (size : Size) (events : List Event) (h reached : History) → AreAccepted size h
         → running h ≡ true → IsWayOut size h events reached → HasEnded h reached }
+{}
+
+/// The way out goes by the awaited processors in ascending order: for each an exit for each open
+/// enter, a step to idle if it is not idle, and a scan. Then it has the end.
+pub fn the_way_out_goes_by_the_processors()
+    ensures { (size : Size) (h : History) → AreAccepted size h → running h ≡ true
+        → (reached : History) × IsWayOut size h (way_out size (situation h)) reached }
 {}
 
 /// Until the next grace period begins, only an enter or a wake of an awaited processor adds to the
