@@ -219,7 +219,7 @@ goes_on s h e u k n as_before r less = record {
 last_one : (b c : Bool) (m n : ℕ) → b ≡ false → c ≡ true → n ≡ 1 → cond b m 0 + 1 ≡ cond c n 0
 last_one b c m n i j e = rw (i, j, e) refl
 
-pub ends : (s : Size) (h : History) → AreAccepted s h → running h ≡ true
+ends : (s : Size) (h : History) → AreAccepted s h → running h ≡ true
     → ((c : ℕ) → c < s.cpus → awaits c h ≡ false) → Taken s h End
 ends s h p r a =
     let u = ends_now s h r a in

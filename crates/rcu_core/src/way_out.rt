@@ -75,8 +75,8 @@ impl<A: Awaited> Core<A, u64> {
     /// step to idle, and once it is idle a scan. If no processor is awaited, it is the end.
     ///
     /// [`Core::step`] does not refuse it, not even for lack of memory. If the caller takes each
-    /// next event, [`Core::steps_left`] of them end the grace period, and no other way is shorter.
-    /// It costs a step a processor at most, and no memory.
+    /// next event, [`Core::steps_left`] of them end the grace period. It costs a step a processor
+    /// at most, and no memory.
     pub fn next_retiring_event(&self) -> Option<Event>
         ensures next { (h : History) → Represents self.now h
             → result ≡ next_retiring_event (size_at self.now) (situation h) }
