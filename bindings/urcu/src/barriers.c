@@ -42,11 +42,6 @@ static void look_for_own_worker(void) {
     let_go();
 }
 
-static bool is_in_section(void) {
-    struct place *place = self.place;
-    return self.beside || (place && atomic_load_explicit(&place->depth, memory_order_relaxed));
-}
-
 /* As liburcu's it does not wait in a section, but says so. */
 void CALL(barrier)(void) {
     if (is_in_section()) {

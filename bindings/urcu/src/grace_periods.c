@@ -50,6 +50,7 @@ static bool goes_on(struct engine *engine, void (*visit)(struct place *place)) {
 }
 
 static bool begin(struct engine *engine) {
+    if (BY_WORD) close_free_places(engine);
     engine->cookie = rcu_take(&engine->rcu);
     return goes_on(engine, 0);
 }

@@ -4,8 +4,9 @@
  * those of liburcu's interface.
  *
  * A reader, a thread that is registered, has a place: the open seat of a processor that is online.
- * A place that is free is idle, so no grace period waits for it. A grace period of the layer is one
- * of each engine that has a reader; its gp_thread is the thread that waits for it. */
+ * A place that is free is idle when a grace period begins, so none waits for it. A grace period of
+ * the layer is one of each engine that has a reader; its gp_thread is the thread that waits for
+ * it. */
 #ifndef URCU_LAYER_H
 #define URCU_LAYER_H
 #ifndef _GNU_SOURCE
@@ -35,7 +36,7 @@ struct place {
     _Alignas(64) rcu_seat_t seat;
     atomic_ulong depth;         /* how deep the thread's sections nest; in qsbr 0 */
     atomic_bool wake_requested; /* the gp_thread asks to be woken when it is quiet */
-    int thread;                 /* the system's number of the thread; 0 where the place is free */
+    int thread;                 /* the system's number of the thread that registered last */
     const void *registered_at;  /* the code that registered it */
     struct engine *engine;
     struct place *next; /* among those of the engine that are free */
@@ -81,12 +82,14 @@ SEEN_BY_PROGRAMS extern __thread struct reader self __attribute__((tls_model("in
 
 /* By state a thread learns from one word that a grace period has begun. */
 #ifdef URCU_BY_STATE
+enum { BY_STATE = 1 };
 #define latest_begun CALL(begun_1)
 SEEN_BY_PROGRAMS extern atomic_ulong latest_begun;
 static inline void tell_begun(unsigned long grace_period) {
     atomic_store_explicit(&latest_begun, grace_period, memory_order_release);
 }
 #else
+enum { BY_STATE = 0 };
 static inline void tell_begun(unsigned long grace_period) {
     (void)grace_period;
 }
@@ -121,6 +124,16 @@ enum { BY_WORD = 1 };
 #endif
 /* readers_by_word.c: membarrier(2) makes the readers' fences */
 extern bool by_system;
+
+/* In qsbr no section has a depth. Relaxed: the thread looks at its own word. */
+static inline bool is_in_section(void) {
+    struct place *place = self.place;
+    return self.beside || (place && atomic_load_explicit(&place->depth, memory_order_relaxed));
+}
+
+static inline void refuse_in_section(const char *call) {
+    if (unlikely(is_in_section())) fail(call, "the thread is in a section");
+}
 
 /* ---- the lock. A signal handler that finds the thread busy keeps away from its place and from the
  * lock. No cancellation takes effect where the lock is held. */
@@ -174,6 +187,7 @@ void restore_online(bool was_online);
 /* places.c */
 void take_place(const void *registered_at);
 void give_back_place(void);
+void close_free_places(struct engine *engine);
 
 /* sections.c or readers_by_state.c */
 void stay_as_in(struct place *old);

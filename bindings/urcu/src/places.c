@@ -56,7 +56,8 @@ static void take_free_place(const void *registered_at) {
     if (!self.thread) self.thread = (int)syscall(SYS_gettid);
     place->thread = self.thread;
     place->registered_at = registered_at;
-    if (BY_WORD) open_seat(place); /* from here on grace periods that begin wait for the place */
+    /* From here on grace periods that begin wait for the reader. */
+    if (BY_WORD && rcu_seat_is_idle(&place->seat)) open_seat(place);
     self.place = place; /* the last step: a section may open in it */
 }
 
@@ -67,13 +68,21 @@ void take_place(const void *registered_at) {
     let_go();
 }
 
+/* With the lock held, before a grace period begins: it waits for no free place. By word a thread
+ * leaves its seat as it is, open, so that the next one to register makes no call on it. The open
+ * ones are the first in the list. */
+void close_free_places(struct engine *engine) {
+    struct place *place = engine->free_places;
+    for (; place && !rcu_seat_is_idle(&place->seat); place = place->next) close_seat(place);
+}
+
 /* The thread's end, or its word that it ends. A thread that ends in a section, as by its
  * cancellation, reads no more. */
 void give_back_place(void) {
     struct place *place = self.place;
     if (!place) return;
     hold();
-    if (BY_WORD || !rcu_seat_is_idle(&place->seat)) close_seat(place);
+    if (!BY_WORD && !rcu_seat_is_idle(&place->seat)) close_seat(place);
     atomic_store_explicit(&place->depth, 0, memory_order_relaxed); /* the lock orders it */
     place->next = place->engine->free_places;
     place->engine->free_places = place;

@@ -30,8 +30,8 @@ void fence_readers(void) {
         fail("wait for a grace period", "membarrier(2) was refused");
 }
 
-/* With the lock held. A seat is idle where its place is free, or its thread waits for a grace
- * period. */
+/* With the lock held. A seat is idle if its place was free as the grace period began, or its thread
+ * waits for one. */
 void pass_if_out(struct place *place) {
     uint64_t number;
     if (atomic_load_explicit(&place->depth, memory_order_acquire) == 0 &&

@@ -104,7 +104,7 @@ _Static_assert(offsetof(struct reader, shown) == 0, "urcu_reader_1 of urcu/secti
 #endif
 
 int CALL(read_ongoing)(void) {
-    return self.beside || (self.place && depth_of(self.place));
+    return is_in_section();
 }
 
 /* In the child of a fork: its sections go on. */
@@ -120,6 +120,6 @@ void CALL(thread_online)(void) {}
 
 /* A wait in a section of the caller's own would never end. */
 bool leave(const char *call) {
-    if (unlikely(CALL(read_ongoing)())) fail(call, "the thread is in a section");
+    refuse_in_section(call);
     return false;
 }

@@ -61,7 +61,7 @@ void restore_online(bool was_online) {
 void CALL(register_thread)(void) {
     /* Its first section, or that of a signal handler, may have taken one. */
     if (!self.place) take_place(__builtin_return_address(0));
-    CALL(thread_online)();
+    if (BY_STATE) CALL(thread_online)();
 }
 
 #ifdef URCU_BP
@@ -71,7 +71,7 @@ void CALL(register)(void) {
 
 /* As liburcu's, a thread of bp stays registered until its end. */
 void CALL(unregister_thread)(void) {
-    leave("rcu_unregister_thread");
+    refuse_in_section("rcu_unregister_thread");
 }
 #else
 void CALL(unregister_thread)(void) {

@@ -54,6 +54,9 @@ FAULTS = {
         "places.c", "if (place) engine->free_places = place->next;\n    else place",
         "if (engine->opened) place = &engine->places[0];\n    else place",
         "memb", "engines", False),
+    "a thread that registers leaves its seat idle": (
+        "places.c", "    if (BY_WORD && rcu_seat_is_idle(&place->seat)) open_seat(place);\n", "",
+        "memb", "sections", False),
     "a thread that ends keeps its place": (
         "threads.c", "    give_back_place();\n}\n\nstatic void set_up_once",
         "}\n\nstatic void set_up_once", "memb", "forgets", False),
