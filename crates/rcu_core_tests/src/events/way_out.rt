@@ -51,12 +51,12 @@ fn the_way_out_is_as_printed(rt: HostRuntime) {
     compare(&rt, "left at last", core.steps_left(), 0);
 }
 
-/// What a run has said of the processors, by its replies.
+/// The state of the processors, by the replies of a run.
 #[derive(Drop)]
 struct Seen {
-    /// How deep the sections of each nest.
+    /// The depth of each processor.
     depths: [u32; CPUS as usize],
-    /// Which are idle.
+    /// The idle processors.
     idle: [bool; CPUS as usize],
     /// A grace period runs.
     is_running: bool,
