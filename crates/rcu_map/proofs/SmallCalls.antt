@@ -26,7 +26,7 @@ use Rattle.rcu_map.proofs.SmallMap.{five, free_is_not_live, led_1, led_2, led_4,
 use Rattle.rcu_map.proofs.SmallMap.{map_3, map_5, map_6, reached_1, reached_3, reached_5}
 use Rattle.rcu_map.proofs.SmallMap.{unlinked_is_not_live}
 
--- what a call unlinked, behind its store: nothing, the node 2, the node 3
+-- the node that a call unlinked, behind its store: none, the node 2, the node 3
 abbrev Collected : ℕ → ℕ → Type 0
 Collected n m = AreCollected 2 1 (small_nodes n) (small_nodes m)
 

@@ -16,7 +16,7 @@ use Rattle.rcu_map.specs.SmallMap.{nodes_by, small_holds}
 use Rattle.rcu_map.specs.SmallMap.{small_node, small_nodes}
 use Rattle.rcu_map.specs.SmallMap.{small_plan}
 
--- what is so of each of five nodes, and of none behind them
+-- a property of each of five nodes, and of none behind them
 pub five : (P : ℕ → Type 0) → P 0 → P 1 → P 2 → P 3 → P 4
     → ((i : ℕ) → P (suc (suc (suc (suc (suc i)))))) → (i : ℕ) → P i
 five P a b c d e behind zero = a
@@ -153,7 +153,7 @@ module _ (root first last : ℕ) (a b c : NodeState) where
   abbrev Apart : ℕ → ℕ → Type 0
   Apart i j = AreOfOneBucket 2 seed N i j → key_at N i ≡ key_at N j → i ≡ j
 
-  -- of two live nodes of one bucket and one key both are the same
+  -- two live nodes of one bucket and one key are the same
   apart : (a ≡ Live → c ≡ Live → ⊥) → (i j : ℕ) → Apart i j
   apart ne = five (λ i. (j : ℕ) → Apart i j)
       (five (Apart 0) (λ one e. refl)
@@ -188,7 +188,7 @@ module _ (root first last : ℕ) (a b c : NodeState) where
       (λ j one e. absurd (free_is_not_live one.second)))
       (λ i j one e. absurd (free_is_not_live one.first))
 
--- where the nodes of each moment lead
+-- the targets of the nodes of each moment
 pub led_0 : AreLed (λ _ from to. GoesUp 2 seed from to) 1 (small_nodes 0)
 led_0 = led_by 3 0 4 Live Free Free
     (to_node (small_nodes 0) (0 ∷ 1 ∷ []) 2 (small_node Live 0 (3 ∷ 30 ∷ [])) refl refl

@@ -30,7 +30,7 @@ use Rattle.rcu_map.specs.SmallMap.{small_words, small_writer, words_by}
 use Rattle.rcu_map.proofs.SmallMap.{Up, seed, up_to_3, up_to_6}
 use Rattle.rcu_map.proofs.SmallPlaces.{three, told}
 
--- what is so of each of five nodes
+-- a property of each of five nodes
 each : (a b c d e : Node) (P : ℕ → Node → Type 0) → P 0 a → P 1 b → P 2 c → P 3 d → P 4 e
     → (i : ℕ) (v : Node) → get_elem? (a ∷ b ∷ c ∷ d ∷ e ∷ []) i ≡ some v → P i v
 each a b c d e P p q r s t zero v is = subst (P 0) (some-injective _ _ is) p
@@ -76,7 +76,7 @@ module _ (root first last : ℕ) (a b c : NodeState) (latest : ℕ) where
   rooted (suc zero) low = (small_node Live root (0 ∷ 1 ∷ []), refl, refl, refl)
   rooted (suc (suc i)) low = absurd (omega (arith, low))
 
-  -- what holds of the nodes and of their words
+  -- the facts of the nodes and of their words
   kept_by_words : IsBy latest a → IsBy latest b → IsBy latest c
       → IsLed Joins 1 N (small_node Live root (0 ∷ 1 ∷ []))
       → (IsUsed a → IsLed Joins 1 N (small_node a first (3 ∷ 30 ∷ [])))
@@ -158,7 +158,7 @@ kept_6 = kept_by_words 5 4 0 (Retired 5) (Retired 5) Live 5 (omega arith) (omega
     (omega arith) (up_to_6 30))
     (λ used. leads_nowhere (small_nodes 6) _ refl)
 
--- what a section with these hops knows is so of these nodes, where it is so of each hop
+-- a section with these hops knows only facts of these nodes, if each hop is such a fact
 abbrev Holds : List Node → List Hop → Type 0
 Holds nodes hops = (i : ℕ) (words : List ℕ) → IsHeld (Reader hops) i words
     → Reading nodes (Some 4) i words
@@ -210,7 +210,7 @@ holds_3 = one_hop (small_nodes 6) hop_2 (small_hops 2)
 holds_4 : Holds (small_nodes 6) (small_hops 4)
 holds_4 = one_hop (small_nodes 6) hop_3 (small_hops 3) (to_none (small_nodes 6) []) holds_3
 
--- what is so of each of two seats
+-- a property of each of two seats
 seated : {C : Type 0} (x y : ClientView C) (P : ℕ → ClientView C → Type 0) → P 0 x → P 1 y
     → (id : ℕ) (z : ClientView C) → get_elem? (x ∷ y ∷ []) id ≡ some z → P id z
 seated x y P p q zero z e = subst (P 0) (some-injective _ _ e) p
@@ -285,7 +285,7 @@ moments_at (suc (suc (suc (suc (suc (suc (suc (suc (suc zero))))))))) =
 moments_at (suc (suc (suc (suc (suc (suc (suc (suc (suc (suc t)))))))))) =
     moment_at 6 4 5 kept_6 holds_4 (refl, refl, refl) tt
 
--- what a store tells that the writer made at the link 0 of a node
+-- the fact of a store that the writer made at the link 0 of a node
 publish_told : (from to : ℕ) (was now : Known)
     → now
     ≡ storing was (renewed (renewed (nodes_in was) to (in_state Live)) from

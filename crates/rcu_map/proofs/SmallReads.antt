@@ -1,4 +1,4 @@
--- What the section of the small run reads: its hops are loads of the run, and they search both
+-- The reads of the section of the small run: its hops are loads of the run, and they search both
 -- chains and list all entries.
 use Rattle.std.proofs.Common.{Option, ⊎_elim}
 use Rattle.std.proofs.Common.{◌≡◌, ℕ, zero, suc, ◌<◌, ◌≤◌, List, [], ◌∷◌, length, Some, inl, inr}
@@ -24,12 +24,12 @@ use Rattle.rcu_map.proofs.SmallMap.{Up, seed, up_to_3, up_to_6}
 use Rattle.rcu_map.proofs.SmallMoments.{First, Fits, JoinsIn}
 use Rattle.rcu_map.proofs.SmallPlaces.{told}
 
--- what the load of a hop tells
+-- the fact of the load of a hop
 abbrev Tells : List Hop → Hop → Type 0
 Tells hops hop = IsFollowed (IsWhole small_holds 2) (λ l from to. Up from to) (root_words 2) 2 1 2 5
     (place_of 2 1 2 hop.from 0) (Reader hops) hop.to (Reader (hop ∷ hops))
 
--- of a hop along the link 0 it tells where that leads
+-- of a hop along the link 0 it is the target
 followed_by : (hops : List Hop) (hop : Hop) → hop.link ≡ 0
     → ((words : List ℕ) → IsOn (root_words 2) 2 (Reader hops) hop.from words
     → Followed (IsWhole small_holds 2) (λ to. Up words to) 2 5 (Reader hops) hop.from 0 hop.to
@@ -378,7 +378,7 @@ pub not_ended : IsAtEnd 2 seed (Reader (small_hops 0)) (at_root 0) (Reader (smal
     (at_root 1) → ⊥
 not_ended end = let ended : 1 ≡ 2 = end.ended in omega (arith, ended)
 
--- a section that comes to the node of the key 6 is told its entry
+-- a section that comes to the node of the key 6 reads its entry
 no_entry : (node : Option ℕ)
     → IsSearched (bucket_of 2 seed 6) 6 (Reader (small_hops 1)) node (Reader (small_hops 3))
     → IsOfNode (λ i entry.

@@ -1,7 +1,7 @@
 -- A map of two buckets beside an open section. The section reads the first bucket, which has no
 -- entry, and goes on to the only entry of the second. Then the writer inserts an entry behind that
 -- one, replaces that one, removes the inserted one, and looks at the number. The section goes on
--- from where it stood, to the entry that was inserted and removed, and to the end.
+-- from its place, to the entry that was inserted and removed, and to the end.
 use Rattle.std.specs.Prelude.{ℕ, zero, suc, ◌<◌, List, [], ◌∷◌, ◌++◌, None, Some, replicate}
 use Rattle.std.specs.Prelude.{slice_index}
 use Rattle.rcu_live.specs.Watcher.{Watching, after_word_step}
@@ -70,7 +70,7 @@ small_words (suc (suc zero)) = words_by 5 4 4
 small_words (suc (suc (suc zero))) = words_by 5 4 4
 small_words (suc (suc (suc (suc n)))) = words_by 5 4 0
 
--- what the writer knows then
+-- the knowledge of the writer then
 abbrev pub small_writer : ℕ → Known
 small_writer zero = Writer 0 (small_nodes 0) []
 small_writer (suc zero) = Writer 0 (small_nodes 1) (small_nodes 1 ∷ [])
@@ -106,7 +106,7 @@ small_hops (suc (suc (suc zero))) = hop_2 ∷ hop_1 ∷ hop_0 ∷ []
 small_hops (suc (suc (suc (suc n)))) = hop_3 ∷ hop_2 ∷ hop_1 ∷ hop_0 ∷ []
 
 -- a moment at which processor 0 has the first seat, with a section that began at the number 4 and
--- made so many hops, and the writer has the second seat
+-- made a number of hops, and the writer has the second seat
 abbrev pub small_moment : ℕ → ℕ → Moment
 small_moment n hops = record {
   words = small_words n;

@@ -33,6 +33,8 @@ enum Call {
     CompareRemove(u32, u32, Option<u32>),
     /// A grace period passes, and the caller looks before it and behind it.
     Reclaim,
+    /// One passes, and the caller does not look.
+    Pass,
 }
 
 /// How many networks there are. A network with the port 0 has no route.
@@ -46,9 +48,10 @@ static ORDER: Order = (0, [0, 2, 4, 5, 7, 1, 3, 6, 8, 9]);
 static OTHER_ORDER: Order = (0x6A09_E667_F3BC_C908, [0, 1, 3, 5, 7, 9, 2, 4, 6, 8]);
 
 /// Entries in front of others, behind them and between them; each call with a key that is there,
-/// and with one that is not; a full map, and one of which no node is free yet; updates if the port
-/// is as it was read, and if it is another one.
-static SCRIPT: [Call; 50] = [
+/// and with one that is not; a full map, and one of which no node is free yet, since no other call
+/// than `reclaim` looks at the number; updates if the port is as it was read, and if it is another
+/// one.
+static SCRIPT: [Call; 53] = [
     Call::Remove(5, None),
     Call::Compare(5, 1, 1, Ok(None)),
     Call::CompareRemove(5, 1, None),
@@ -74,6 +77,9 @@ static SCRIPT: [Call; 50] = [
     Call::CompareRemove(7, 6, None),
     Call::Remove(7, None),
     Call::Put(Insert, 3, 6, Err(Full)),
+    Call::Pass,
+    Call::Put(Upsert, 3, 6, Err(Full)),
+    Call::Compare(9, 3, 8, Err(Full)),
     Call::Reclaim,
     Call::Put(Insert, 3, 6, Ok(None)),
     Call::Remove(3, Some(6)),
@@ -179,16 +185,22 @@ impl<'a, C: Caller + Drop> Scene<'a, C> {
         let _ = self.seat.quiesce(self.live);
     }
 
-    /// A grace period passes: the nodes that were unlinked are free. The caller looks at its number
-    /// before, which is 4 less than after it.
-    fn reclaim<R: Abort + Wait>(&mut self, rt: &R) {
+    /// A grace period passes. Returns the number behind it.
+    fn pass<R: Wait>(&mut self, rt: &R) -> u64 {
         let cookie = self.watcher.take(self.live);
-        let before = self.caller.reclaim(rt);
-        compare(rt, "reclaim", before.saturating_add(4), cookie.number);
         for _ in 0..4u32 {
             self.drive(rt, cookie);
         }
-        compare(rt, "reclaim", self.caller.reclaim(rt), cookie.number);
+        cookie.number
+    }
+
+    /// A grace period passes: the nodes that were unlinked are free. The caller looks at its number
+    /// before, which is 4 less than after it.
+    fn reclaim<R: Abort + Wait>(&mut self, rt: &R) {
+        let before = self.caller.reclaim(rt);
+        let number = self.pass(rt);
+        compare(rt, "reclaim", before.saturating_add(4), number);
+        compare(rt, "reclaim", self.caller.reclaim(rt), number);
     }
 
     /// Makes a row's call, compares what it returns, and writes it into the table.
@@ -227,6 +239,9 @@ impl<'a, C: Caller + Drop> Scene<'a, C> {
                 self.note(network, 0);
             }
             Call::Reclaim => self.reclaim(rt),
+            Call::Pass => {
+                self.pass(rt);
+            }
         }
     }
 

@@ -1,14 +1,14 @@
 //! Entries that wait for a free node: by a script on one thread, and by several threads.
+mod caller;
+mod locked;
 mod threads;
-
-ghost use Rattle.std.specs.Prelude.{◌<◌};
-ghost use Rattle.rcu_graph.specs.Graph.{IsSeatOf, IsWatcherOf};
 
 use crate::compare::compare;
 use crate::map::route::Route;
-use crate::map::{Engine, Routes, Seat};
+use crate::map::waits::caller::{Alone, Shared, WaitingCaller};
+use crate::map::{Control, Routes};
 use rcu_map::Put::{Insert, Replace, Upsert};
-use rcu_map::{MapWriter, NotPut, Put};
+use rcu_map::{NotPut, Put};
 use rcu_seq::Fault;
 use std::alloc::Global;
 use std::process::Abort;
@@ -23,62 +23,73 @@ enum Call {
     Exit,
 }
 
-/// A writer of a map, with the seat of its one processor.
-#[derive(Drop)]
-struct Scene<'a> {
-    live: &'a Engine,
-    writer: MapWriter<Route, 2>,
-    seat: Seat,
-    ghost writer_of: { IsWatcherOf live.now writer },
-    ghost seat_of: { IsSeatOf live.now seat },
-}
-
-impl<'a> Scene<'a> {
-    fn put<R: Wait>(&mut self, rt: &R, how: Put, route: Route) -> Result<Option<Route>, NotPut>
-        requires { 0 < route.network }
-    {
-        self.writer
-            .put_or_wait(rt, self.live, &mut self.seat, how, route)
-    }
-
-    /// Makes a row's call, and compares what it returns.
-    fn call<R: Abort + Wait>(&mut self, rt: &R, row: usize, call: Call) {
-        match call {
-            Call::Put(how, network, port, wanted) => {
-                if let Some(route) = Route::to(network, port) {
-                    let found = self.put(rt, how, route);
-                    let found = found.map(|old| old.map(|route| route.port));
-                    compare(rt, row, found, wanted);
-                }
+/// Makes a row's call, and compares what it returns.
+fn make<R: Abort + Wait, C: WaitingCaller>(rt: &R, caller: &mut C, row: usize, call: Call) {
+    match call {
+        Call::Put(how, network, port, wanted) => {
+            if let Some(route) = Route::to(network, port) {
+                let found = caller.put(rt, how, route);
+                let found = found.map(|old| old.map(|route| route.port));
+                compare(rt, row, found, wanted);
             }
-            Call::Remove(network, wanted) => {
-                let found = self.writer.remove(u64::from(network));
-                compare(rt, row, found.map(|route| route.port), wanted);
-            }
-            Call::Enter => compare(rt, row, self.seat.enter(self.live), Ok(1)),
-            Call::Exit => compare(rt, row, self.seat.exit(self.live), Ok(0)),
         }
+        Call::Remove(network, wanted) => {
+            let found = caller.remove(rt, u64::from(network));
+            compare(rt, row, found.map(|route| route.port), wanted);
+        }
+        Call::Enter => compare(rt, row, caller.enter(), Ok(1)),
+        Call::Exit => compare(rt, row, caller.exit(), Ok(0)),
     }
 }
 
-/// Makes the calls in their order, up to this last number, on a map of two routes at most, in one
-/// bucket. Compares the routes to the networks 1 to 4 in the end: a port of 0 is none.
+/// Makes the calls in their order. Compares the routes to the networks 1 to 4 in the end: a port of
+/// 0 is none.
+fn make_all<R: Abort + Wait, C: WaitingCaller>(
+    rt: &R,
+    caller: &mut C,
+    calls: &[Call],
+    ports: [u32; 4],
+) {
+    for (row, call) in calls.iter().enumerate() {
+        make(rt, caller, row, *call);
+    }
+    for (network, port) in (1..=4u64).zip(ports) {
+        let found = caller.get(rt, network).map(|route| route.port);
+        compare(rt, network, found.unwrap_or(0), port);
+    }
+}
+
+/// The writer of a map makes the calls, up to this last number: of two routes at most, in one
+/// bucket.
 fn makes<R: Abort + Wait>(rt: &R, alloc: Global, last: u64, calls: &[Call], ports: [u32; 4]) {
     let Ok(mut opened) = Routes::open(alloc, 1, last, 1, 2, 0) else {
         return;
     };
-    let mut scene = Scene {
+    let mut caller = Alone {
         writer: opened.writer,
         seat: opened.seats.pop().unwrap(),
         live: &opened.live,
     };
-    for (row, call) in calls.iter().enumerate() {
-        scene.call(rt, row, *call);
-    }
-    for (network, port) in (1..=4u64).zip(ports) {
-        let found = scene.writer.get(network).map(|route| route.port);
-        compare(rt, network, found.unwrap_or(0), port);
-    }
+    make_all(rt, &mut caller, calls, ports);
+}
+
+/// An updater of such a map makes them.
+fn shared_makes<R: Abort + Wait>(
+    rt: &R,
+    alloc: Global,
+    last: u64,
+    calls: &[Call],
+    ports: [u32; 4],
+) {
+    let Ok(mut opened) = Routes::open(alloc, 1, last, 1, 2, 0) else {
+        return;
+    };
+    let mut caller = Shared {
+        updater: Control::new(opened.writer),
+        seat: opened.seats.pop().unwrap(),
+        live: &opened.live,
+    };
+    make_all(rt, &mut caller, calls, ports);
 }
 
 /// A map that is full, and one that is not: each way to put a route in: one that is one too many,
@@ -114,6 +125,14 @@ fn entries_wait_if_they_are_not_one_too_many(rt: HostRuntime) {
     makes(&rt, rt.alloc(), 4_000, &FULL, [0, 0, 11, 13]);
 }
 
+/// If the call put in another way, gave up, or said that the map is full while a node may become
+/// free, a row would differ. If it drove no grace period, or never looked at the number, it would
+/// not return.
+#[test]
+fn updater_waits_if_an_entry_is_not_one_too_many(rt: HostRuntime) {
+    shared_makes(&rt, rt.alloc(), 4_000, &FULL, [0, 0, 11, 13]);
+}
+
 /// In a section no call is made, whether a node is free or not.
 static IN_A_SECTION: [Call; 12] = [
     Call::Enter,
@@ -133,6 +152,11 @@ static IN_A_SECTION: [Call; 12] = [
 #[test]
 fn no_entry_waits_in_a_section(rt: HostRuntime) {
     makes(&rt, rt.alloc(), 4_000, &IN_A_SECTION, [0, 3, 5, 0]);
+}
+
+#[test]
+fn no_updater_waits_in_a_section(rt: HostRuntime) {
+    shared_makes(&rt, rt.alloc(), 4_000, &IN_A_SECTION, [0, 3, 5, 0]);
 }
 
 /// A grace period passes, and then no other one: what needs a node is refused from then on.
@@ -158,4 +182,9 @@ static LAST_NUMBER: [Call; 16] = [
 #[test]
 fn entries_wait_up_to_the_last_number(rt: HostRuntime) {
     makes(&rt, rt.alloc(), 4, &LAST_NUMBER, [0, 0, 4, 0]);
+}
+
+#[test]
+fn updater_waits_up_to_the_last_number(rt: HostRuntime) {
+    shared_makes(&rt, rt.alloc(), 4, &LAST_NUMBER, [0, 0, 4, 0]);
 }
