@@ -11,8 +11,8 @@ HIDDEN = "(____ptrval____)"
 
 
 def list_of(event):
-    """The CPU whose callbacks an event is about."""
-    found = INVOKES.match(event.task)
+    """The CPU whose callbacks an event is about. (A softirq may interrupt such a kthread.)"""
+    found = INVOKES.match(event.task) if event.context != "s" else None
     return int(found[1]) if found else event.cpu
 
 
@@ -23,12 +23,14 @@ class Callbacks:
     def __init__(self):
         self.ids = 0
         self.queued = {}  # of a callback's address: its id (0: in no list), its cookie, the event
+        self.left = set()  # ids that Linux has invoked, of a list that the engine moved
         self.handed = []  # ids that the engine handed out, and Linux has not invoked yet
         # Of a CPU that went offline: the last id that was queued before. The engine moved its list
         # to CPU 0; Linux moves it to another CPU, or leaves it if the callbacks are offloaded.
         self.moved = {}
         self.taken_at = None  # the number at which a cookie was taken last
         self.in_barrier = False
+        self.early_visits = []  # that come before the barrier in the trace, at the same time
 
     def take(self, event):
         """The cookie of a snapshot that Linux takes now."""
@@ -41,8 +43,9 @@ class Callbacks:
 
     def accelerate(self, event, needs):
         cookie, wanted = self.take(event), needs - self.base
-        first_known = any(low <= event.cpu <= high for low, high in self.begun) \
-            if not ACCELERATES.match(event.task) else len(self.begun) == len(self.tree.leaves)
+        is_of_group = ACCELERATES.match(event.task) and event.context != "s"
+        first_known = len(self.begun) == len(self.tree.leaves) if is_of_group else \
+            any(low <= event.cpu <= high for low, high in self.begun)
         if wanted != cookie and wanted == self.before and not first_known:
             self.seen["AccWaitCB, AccReadyCB: number read just before a start"] += 1
             cookie = self.before
@@ -80,7 +83,9 @@ class Callbacks:
 
     def hand_out_list(self, cpu, kind, event):
         def take_ids(reply):
-            self.handed.extend(int(it) for it in reply.split()[1:] if it != "none")
+            ids = [int(it) for it in reply.split()[1:] if it != "none"]
+            self.handed.extend(it for it in ids if it not in self.left)
+            self.left.difference_update(ids)
         self.say(f"tend {cpu}")
         self.say(f"run {cpu} 1000000", kind, event, take_ids)
 
@@ -89,7 +94,9 @@ class Callbacks:
         return bool(self.period and (self.period.rooted or self.may_be_over()))
 
     def rcu_batch_start(self, event):
-        if not self.is_early_leaf():
+        if self.is_early_leaf():
+            self.late.append(lambda: self.hand_out(event))
+        else:
             self.hand_out(event)
 
     def rcu_invoke_callback(self, event):
@@ -115,14 +122,28 @@ class Callbacks:
                  f"{at.line}")
         self.want(f"poll {cookie}", "callbacks invoked", event, "done",
                   f"{words}, before grace period {waits_for} has ended")
-        if number:
-            if number <= self.moved.get(at.cpu, 0) and list_of(event) != 0:
+        is_moved = 0 < number <= self.moved.get(at.cpu, 0)
+        if is_moved and INVOKES.match(event.task) and list_of(event) == at.cpu:
+            self.say("", None, event, lambda _: self.leave(number))
+        elif number:
+            if is_moved and list_of(event) != 0:
                 self.hand_out_list(0, None, event)
+            if INVOKES.match(event.task) and not event.context:
+                self.hand_out_list(event.cpu, None, event)  # (it may be a softirq there)
             self.say("", "callbacks handed out", event,
                      lambda _: None if number in self.handed else
                      f"{words} on CPU {at.cpu}; in the engine's list it still waits, for grace "
                      f"period {waits_for} or a later one")
             self.say("", None, event, lambda _: self.note_order(event.cpu, number))
+
+    def leave(self, number):
+        """An offloaded callback of a CPU that went offline: Linux left it on its list, and the
+        engine's list, to which it moved, may hold it for longer."""
+        self.seen["offloaded callbacks invoked of a CPU that went offline"] += 1
+        if number in self.handed:
+            self.handed.remove(number)
+        else:
+            self.left.add(number)
 
     def note_order(self, cpu, number):
         """Whether Linux's order is that of the engine's lists (it is another one after a
@@ -139,10 +160,18 @@ class Callbacks:
         if what == "Inc1":
             self.in_barrier = True
             self.want("bar", "barriers begun", event, "barrier begun", "rcu_barrier begins")
+            for readers in self.tree.readers.values():
+                self.say(f"visit {readers}")
+            for visit in self.early_visits:
+                if visit.time == event.time:
+                    self.rcu_barrier(visit)
+            self.early_visits = []
         elif what in ("IRQ", "IRQNQ", "NQ", "OfflineNoCBQ") and self.in_barrier:
             self.say(f"visit {event.cpu if cpu < 0 else cpu}", "visits of a barrier", event,
                      lambda it: None if it in ("marked", "empty", "already") else
                      f"rcu_barrier looks at a CPU; the engine says '{it}'")
+        elif what == "IRQ":
+            self.early_visits = [event]
         elif what == "Inc2" and self.in_barrier:
             self.in_barrier = False
             self.want("bartest", "barriers done", event, "barrier done",

@@ -7,7 +7,7 @@ import gzip
 import re
 import sys
 
-LINE = re.compile(r"^\s*(.+?)-(\d+)\s+(?:\(\s*[\d-]+\)\s+)?\[(\d+)\]\s+(?:\S+\s+)?([\d.]+):\s+"
+LINE = re.compile(r"^\s*(.+?)-(\d+)\s+(?:\(\s*[\d-]+\)\s+)?\[(\d+)\]\s+(?:(\S+)\s+)?([\d.]+):\s+"
                   r"(\w+):\s*(.*)$")
 # Before the next event of a CPU: events of it were lost, as Linux and trace-cmd say it, or those
 # before were overwritten.
@@ -18,8 +18,8 @@ GZIP = b"\x1f\x8b"
 OPPOSITE = {"Start": "End", "End": "Start", "Startirq": "Endirq", "Endirq": "Startirq"}
 # Kernels before 4.20 have two or three flavours at a time, each with grace periods of its own.
 FLAVOURS = {"rcu_sched", "rcu_preempt", "rcu_bh"}
-# How many words these events have at least: the last line of a trace may be cut off. (Linux 6.1 with
-# trace_options nohash-ptr writes no words of them, and the next event in the same line.)
+# How many words these events have at least: a trace's last line may be cut off. (With the trace
+# option nohash-ptr, Linux 6.1 writes no words of them, and the next event in the same line.)
 WORDS = {"rcu_grace_period": 3, "rcu_grace_period_init": 6, "rcu_quiescent_state_report": 7,
          "rcu_future_grace_period": 7, "rcu_fqs": 4, "rcu_watching": 4, "rcu_dyntick": 4,
          "rcu_callback": 3, "rcu_invoke_callback": 3, "rcu_barrier": 4, "rcu_sr_normal": 3,
@@ -27,7 +27,8 @@ WORDS = {"rcu_grace_period": 3, "rcu_grace_period_init": 6, "rcu_quiescent_state
 # A window grows no further than this, although a grace period runs. (Then the look ahead is cut.)
 MOST = 50_000
 
-Event = collections.namedtuple("Event", "line task cpu time name text words")
+# `context`: 's' in a softirq and 'H' in an interrupt of one, if the trace says it.
+Event = collections.namedtuple("Event", "line task cpu time name text words context")
 
 
 def opened(path):
@@ -43,18 +44,19 @@ def parsed(number, line):
     """The event of a line, or None. One of the name 'lost' stands for events that are not there."""
     lost = LOST.match(line) if line[:1] in "C#" else None
     if lost:
-        return Event(number, "", int(lost[1] or lost[2]), "", "lost", line.strip(), [])
+        return Event(number, "", int(lost[1] or lost[2]), "", "lost", line.strip(), [], "")
     found = None if line.startswith("#") else LINE.match(line)
     if not found:
         return None
-    task, pid, cpu, time, name, text = found.groups()
+    task, pid, cpu, flags, time, name, text = found.groups()
     text = text.rstrip()
     words = text.split()
     if len(words) < WORDS.get(name, 0) or "] " in text:
         return None
     if name == "rcu_dyntick":
         words[0] = OPPOSITE.get(words[0], words[0])
-    return Event(number, f"{task.strip()}-{pid}", int(cpu), time, name, text, words)
+    return Event(number, f"{task.strip()}-{pid}", int(cpu), time, name, text, words,
+                 (flags or "")[2:3])
 
 
 def read(path):

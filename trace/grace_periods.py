@@ -25,7 +25,7 @@ class GracePeriods:
         handle = {"start": self.start, "end": self.end, "cpustart": self.note,
                   "cpuqs": self.quiesce, "cpuonl": self.name_arrival, "cpuofl": self.go_offline,
                   "cpuofl-bgp": self.go_offline, "AccWaitCB": self.accelerate,
-                  "AccReadyCB": self.accelerate}.get(what)
+                  "AccReadyCB": self.accelerate, "fqsstart": self.scan}.get(what)
         if handle:
             handle(event, number)
         else:
@@ -43,7 +43,7 @@ class GracePeriods:
         if tag > SECOND:
             self.dying -= self.may_die
             self.may_die = set()
-        self.begun = set()
+        self.begun, self.scans, self.expedited = set(), 0, self.expedites
         self.before = snapshot(self.number - 1)
         self.waits = awaited | set(self.tree.readers.values())
         self.say("begin", "starts", event, lambda it: None if it.startswith(f"begun {tag} ") else
@@ -78,12 +78,16 @@ class GracePeriods:
                          f"grace period {number}: node {first}-{last} of level {level} begins with "
                          f"qsmask {mask:#x}, and its children's masks make {ought:#x}")
 
+    def scan(self, _, __):
+        self.scans += 1
+
     def note(self, event, number):
         cpu, tag = event.cpu, number - self.base
         if number % 4 == 0:
             self.seen["not used: cpustart of an idle number"] += 1
             return
         self.quiet.pop(cpu, None)
+        self.noted[cpu] = tag
         self.say(f"note {cpu}", "notes", event,
                  lambda it: None if it.startswith(f"noted {tag} ") else
                  f"CPU {cpu} notes grace period {number} in Linux; the engine says '{it}', so "

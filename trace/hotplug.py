@@ -21,7 +21,7 @@ class Hotplug:
             return
         cpu, target, step = map(int, found.groups())
         self.named[event.cpu] = cpu
-        # (In Linux 6.1 the boot CPU has the target 0 while it is up, when a driver sets up a state.)
+        # (In Linux 6.1 the boot CPU has the target 0 while it is up, as a driver sets up a state.)
         is_down = target == 0 < step and (cpu > 0 or "(takedown_cpu)" in event.text)
         if is_down and cpu != event.cpu and cpu in self.online:
             self.dying.add(cpu)

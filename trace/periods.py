@@ -152,11 +152,15 @@ class Standing:
 
     def __init__(self):
         self.watched, self.dying, self.blocked = {}, set(), {}
+        self.periods = 0  # how many have started: what came before is over after some
 
     def take(self, event):
         take = getattr(self, event.name, None)
         if take:
             take(event)
+
+    def rcu_grace_period(self, event):
+        self.periods += event.words[2] == "start"
 
     def rcu_watching(self, event):
         if event.words[0] in ("End", "Endirq", "Start", "Startirq"):

@@ -6,6 +6,10 @@ from comparison import apart, cpus, members
 from periods import bits
 
 NO_READERS = "no reader was preempted in the leaf"
+# Tasks that call rcu_momentary_eqs, which leaves no event: multi_cpu_stop again and again, and
+# those that invoke offloaded callbacks. From its second scan on, Linux asks a CPU to call it, too
+# (rcu_need_heavy_qs), in a context switch or in cond_resched.
+CALL_MOMENTARY_EQS, ASKING_SCAN = ("migration/", "rcuos/", "rcuop/"), 2
 
 
 class QuiescentStates:
@@ -14,6 +18,8 @@ class QuiescentStates:
 
     def __init__(self):
         self.quiet = {}  # of a CPU: its last report
+        self.noted = {}  # of a CPU: the number that it noted last
+        self.scans = 0  # of the grace period that runs
         self.waking = {}  # of a CPU: the report of a waking that a later scan counts
         self.scanned = collections.defaultdict(set)  # by task: who was found idle (dti)
         self.task = {}  # of a CPU: the task of its last event
@@ -22,6 +28,8 @@ class QuiescentStates:
         self.blocked = {leaf: {} for leaf in self.tree.readers}
         self.blockers = {leaf: set() for leaf in self.tree.readers}
         self.older = set()  # the leaves that may have readers of before the trace began
+        # Whether an expedited grace period runs, or did since the start of the one that runs.
+        self.expedites, self.expedited = False, False
 
     def without_readers(self, found):
         """The CPUs, without the processors that stand for preempted readers."""
@@ -112,6 +120,10 @@ class QuiescentStates:
         elif not readers and leaf in self.older:
             self.seen["leaves that are blocked by readers of before the trace began"] += 1
             return
+        if blocked and not readers and self.expedited and self.blocked[leaf]:
+            # (rcu_preempt_ctxt_queue: one that blocks an expedited grace period blocks this one.)
+            self.seen["leaves that are blocked by readers of an expedited grace period"] += 1
+            return
         named = ", ".join(f"task {it}" for it in sorted(readers)) or "none"
         self.compare("blocked readers (gp_tasks)", event, blocked == bool(readers),
                      f"grace period {event.words[1]}: Linux says that leaf {leaf[0]}-{leaf[1]} is "
@@ -133,14 +145,14 @@ class QuiescentStates:
                       f"deliver {self.waking.pop(cpu)}")
         elif cpu in self.dying - self.may_die and event.cpu != cpu:
             self.report_for_departed(cpu, event)
-        elif cpu in self.quiet:
+        elif cpu in self.quiet and (self.noted.get(cpu) == self.number
+                                    or not self.may_be_momentary(cpu, scanned)):
             how = "scan: of one that was quiet meanwhile (rcu_fqs dti)" if scanned else \
                 "its own report" if event.cpu == cpu else f"a report by CPU {event.cpu}"
             self.hear(cpu, event, how, f"deliver {self.quiet[cpu]}")
-        elif scanned and self.task.get(cpu, "").startswith("migration/"):
-            # multi_cpu_stop calls rcu_momentary_eqs again and again, which leaves no event.
-            self.hear(cpu, event, "scan: a stopper's rcu_momentary_eqs, which has no event "
-                      "(rcu_fqs dti)", f"deliver {self.make_report(cpu)}")
+        elif self.may_be_momentary(cpu, scanned):
+            self.hear(cpu, event, "scan: rcu_momentary_eqs, which has no event (rcu_fqs dti)",
+                      f"deliver {self.make_report(cpu)}")
         elif cpu in self.may_die and event.cpu != cpu:
             self.report_for_departed(cpu, event)
         else:
@@ -148,6 +160,11 @@ class QuiescentStates:
                          f"grace period {number}: Linux takes a report of CPU {cpu}, made on CPU "
                          f"{event.cpu}, but in the trace that CPU passed no quiescent state since "
                          "it noted the grace period (no cpuqs, no idle time)")
+
+    def may_be_momentary(self, cpu, scanned):
+        """Whether a scan may have found a quiescent state that leaves no event."""
+        return scanned and (self.scans > ASKING_SCAN
+                            or self.task.get(cpu, "").startswith(CALL_MOMENTARY_EQS))
 
     def report_for_departed(self, cpu, event):
         self.seen["reports on behalf of a CPU that went offline (rcu_gp_init)"] += 1

@@ -9,6 +9,8 @@ FIRST = -300 * 4  # rcu_state.gp_seq as a kernel boots
 # A script takes 1,000,000 callbacks, and its program keeps each report: some before that a replay
 # begins anew.
 MOST_CALLBACKS = 900_000
+# A CPU that is being taken down is gone after as many grace periods.
+SETTLED = 2
 
 
 def is_boot(period):
@@ -45,7 +47,8 @@ class Replay(GracePeriods, Hotplug, QuiescentStates, Callbacks, Comparison):
                 self.idle.add(cpu)
                 self.say(f"idle {cpu}")
         self.may_arrive = set(range(self.tree.cpus)) - self.online
-        self.dying = self.online - {0}
+        is_settled = standing.periods > SETTLED
+        self.dying = (self.online & standing.dying if is_settled else self.online) - {0}
         self.may_die = self.dying - standing.dying
         self.older = set(self.tree.readers)
         for event in standing.blocked.values() if self.tree.readers else ():
@@ -64,6 +67,9 @@ class Replay(GracePeriods, Hotplug, QuiescentStates, Callbacks, Comparison):
             self.seen[f"not used: {event.name}"] += 1
 
     def rcu_exp_grace_period(self, event):
+        if event.words[2] in ("start", "end"):
+            self.expedites = event.words[2] == "start"
+            self.expedited |= self.expedites
         if event.words[2] == "start":
             self.seen["expedited grace periods, which are not compared"] += 1
 
