@@ -22,11 +22,10 @@ DELAYED = (
      "    nanosleep(&(struct timespec){0, 1000000}, 0);\n"),
 )
 NO_WAIT = "a wait does not wait"
-# What the sanitizer says of memory that was freed too early or twice.
-REPORTS = "AddressSanitizer: (?:heap-use-after-free|attempting double-free)"
-# The servers that have to show a fault by such a report. That they fail is not enough: lttng-tools
-# has faults of its own, and a server that does not start fails, too.
-REPORTED = ("gdnsd", "lttng")
+# The report by which a server has to show its fault. A failure is not enough: a server that does not
+# start fails, too, and the daemons of lttng-tools have faults of their own, with such reports.
+REPORTS = {"gdnsd": r"AddressSanitizer: heap-use-after-free",
+           "lttng": r"AddressSanitizer: heap-use-after-free \S+ in run_all\b"}
 
 
 def edits_of(faults, is_delayed):
@@ -56,6 +55,6 @@ def build_layer(run, prefix, laid, edits=()):
     if status == 0:
         status, said = run(
             ["make", "-s", "-C", BINDING, f"OUT={laid}/out", f"SRC={laid}/src", f"RCU={laid}/rcu.o",
-             f"CPPFLAGS=-I{laid}/include -I{BINDING}/../../include", f"CFLAGS={SANITIZER}", "WARNINGS=-w",
-             f"{laid}/out/lib/liburcu.so", f"{laid}/out/lib/liburcu-qsbr.so"], laid)
+             f"CPPFLAGS=-I{laid}/include -I{BINDING}/../../include", f"CFLAGS={SANITIZER}",
+             "WARNINGS=-w", f"{laid}/out/lib/liburcu.so", f"{laid}/out/lib/liburcu-qsbr.so"], laid)
     return f"{laid}/out/lib" if status == 0 else None, said

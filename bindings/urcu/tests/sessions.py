@@ -38,8 +38,8 @@ int main(void) {
 # (cmd_list_channels), if lttng-consumerd ends meanwhile.
 OWN = ("`channel->trace_chunk'", "`session->rotate_trigger'",
        "`(trace_chunk->timestamp_close).is_set'", "`!rcu_read_ongoing()'")
-# (lttng-tools links one of its libraries into its daemons and into its shared object, so that globals
-# of it are there twice: the sanitizer does not look for that, or no daemon would start.)
+# (lttng-tools links one of its libraries into its daemons and into its shared object, so globals of
+# it are there twice: the sanitizer does not look for that, or no daemon would start.)
 # The kinds of sessions: what creates one, and what is done with it while it runs.
 KINDS = {
     "sent": (["--set-url=net://127.0.0.1"], "rotate"),
