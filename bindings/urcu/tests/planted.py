@@ -22,8 +22,8 @@ DELAYED = (
      "    nanosleep(&(struct timespec){0, 1000000}, 0);\n"),
 )
 NO_WAIT = "a wait does not wait"
-# The report by which a server has to show its fault. A failure is not enough: a server that does not
-# start fails, too, and the daemons of lttng-tools have faults of their own, with such reports.
+# The report by which a server has to show its fault. A failure is not enough: a server that does
+# not start fails too, and the daemons of lttng-tools have faults of their own, with such reports.
 REPORTS = {"gdnsd": r"AddressSanitizer: heap-use-after-free",
            "lttng": r"AddressSanitizer: heap-use-after-free \S+ in run_all\b"}
 
