@@ -122,6 +122,29 @@ static void *read_on(void *it) {
     return it;
 }
 
+static int compare(const void *one, const void *other) {
+    unsigned long a = *(const unsigned long *)one, b = *(const unsigned long *)other;
+    return (a > b) - (a < b);
+}
+
+/* The median of single calls. On a busy machine too it is that of calls whose readers ran: the mean
+ * is made by those calls that waited until a reader was scheduled again. */
+static void median_of_calls(void) {
+    static unsigned long took[20000];
+    double begun = wall_time();
+    unsigned long first = __builtin_ia32_rdtsc();
+    long n = 0;
+    for (; n < 20 || (n < 20000 && wall_time() - begun < 2e8); n++) {
+        unsigned long at = __builtin_ia32_rdtsc();
+        synchronize_rcu();
+        took[n] = __builtin_ia32_rdtsc() - at;
+    }
+    double ticks = (double)(__builtin_ia32_rdtsc() - first);
+    qsort(took, (size_t)n, sizeof *took, compare);
+    printf("median-synchronize-beside-3 %.3f\n",
+           (double)took[n / 2] * (wall_time() - begun) / ticks);
+}
+
 static void beside_readers(void) {
     pthread_t threads[3];
     for (int i = 0; i < 3; i++) pthread_create(&threads[i], 0, read_on, 0);
@@ -130,6 +153,7 @@ static void beside_readers(void) {
     long n = 0;
     for (; n < 20 || (n < 20000 && wall_time() - begun < 2e8); n++) synchronize_rcu();
     printf("synchronize-beside-3-readers %.3f\n", (wall_time() - begun) / (double)n);
+    median_of_calls();
     uatomic_set(&over, 1);
     for (int i = 0; i < 3; i++) pthread_join(threads[i], 0);
 }

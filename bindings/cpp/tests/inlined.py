@@ -61,8 +61,8 @@ WITH_HANDLER = f"""
     lock
     wake_requested = 0
     quiet = 1
-    signal
     unlock
+    signal
     busy = 0             | memory_order_relaxed); .. show_place();
     hidden = 0           | by_calls ? 0 : self.place, memory_order_relaxed);
 over:
@@ -84,8 +84,8 @@ inlined:
     lock
     wake_requested = 0
     quiet = 1
-    signal
     unlock
+    signal
     goto over
 nests:
     depth = 2

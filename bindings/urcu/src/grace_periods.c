@@ -18,7 +18,7 @@
 #include "seats.h"
 #include <sched.h>
 
-enum { LOOKS = 100 };
+enum { LOOKS = 20 };
 
 static void request_wake(struct place *place) {
     atomic_store(&place->wake_requested, true);
@@ -28,8 +28,9 @@ static SLOW void wake_gp_thread(struct place *place) {
     hold();
     atomic_store_explicit(&place->wake_requested, false, memory_order_relaxed);
     if (BY_WORD) pass_if_out(place);
-    pthread_cond_signal(&all.quiet);
-    let_go();
+    pthread_mutex_unlock(&all.lock);
+    pthread_cond_signal(&all.quiet); /* the gp_thread takes the lock as it wakes: free it first */
+    set_busy(-1u);
 }
 
 void got_quiet(struct place *place) {

@@ -156,7 +156,7 @@ static inline void set_busy(unsigned more) {
     unsigned was = atomic_load_explicit(&self.busy, memory_order_relaxed);
     atomic_store_explicit(&self.busy, was + more, memory_order_relaxed);
     atomic_signal_fence(memory_order_seq_cst);
-    show_place();
+    if (more != 1) show_place(); /* else it is busy from here on */
 }
 
 static inline void hold(void) {

@@ -14,7 +14,7 @@
 #include <sys/syscall.h>
 #include <unistd.h>
 
-enum { SMALLEST_ENGINE = 4 };
+enum { SMALLEST_ENGINE = 8 };
 static const uint64_t NO_LAST_NUMBER = UINT64_C(1) << 62;
 
 static struct engine *new_engine(uint32_t cpus) {

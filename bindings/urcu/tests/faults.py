@@ -86,7 +86,7 @@ FAULTS = {
         "deferral.c", "CALL(call_rcu)(&ring->head, drain);", "drain(&ring->head);",
         "memb", "defers", False),
     "the child of a fork keeps the parent's engines": (
-        "fork.c", "    all.engines = 0;\n", "", "qsbr", "forks", HANGS),
+        "fork.c", "    all.engines = 0;\n    all.used = 0;\n", "", "qsbr", "forks", HANGS),
     "the child of a fork in a section is in none": (
         "fork.c", "        stay_as_in(old);\n", "", "memb", "forks_in_sections", False),
     "the child of a bare fork keeps the parent's worker": (

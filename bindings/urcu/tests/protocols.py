@@ -12,8 +12,8 @@ WAKE_THE_GP_THREAD = """
     lock
     wake_requested = 0                    | atomic_store_explicit(&place->wake_requested, false
     {passes}
+    unlock                                | pthread_mutex_unlock(&all.lock); .. set_busy(-1u);
     signal !                              | pthread_cond_signal(&all.quiet)
-    unlock
 """
 LOOK_FOR_A_REQUEST = """
     w = wake_requested !                  | atomic_load(&place->wake_requested)
@@ -169,8 +169,8 @@ WITH_HANDLER = f"""
     lock
     wake_requested = 0
     quiet = 1
-    signal
     unlock
+    signal
     busy = 0
 over:
 """
@@ -190,8 +190,8 @@ HANDLER = f"""
     lock
     wake_requested = 0
     quiet = 1
-    signal
     unlock
+    signal
     goto over
 nests:
     depth = 2
