@@ -56,7 +56,7 @@ void CALL(barrier)(void) {
     for (struct call_rcu_data *it = first; it; it = it->next) markers_left++;
     let_go(); /* all markers are counted before the first one can run */
     for (struct call_rcu_data *it = first; it; it = it->next) mark(it);
-    hold();
+    hold(); /* pass_marker has it too: no wake-up comes between the look and the sleep */
     while (markers_left) sleep_on(&barrier_over);
     let_go();
     pthread_mutex_unlock(&visits);

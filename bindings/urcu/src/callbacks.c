@@ -125,14 +125,14 @@ static void run_batch(struct call_rcu_data *worker) {
     CALL(thread_online)(); /* with no lock held: a callback may call call_rcu, or wait */
     run_all(worker, first);
     CALL(thread_offline)();
-    hold();
+    hold(); /* for the count, and for the loop of work(), which looks for more under it */
     callbacks_run += count;
 }
 
 /* With the lock held: who forks knows that the worker is in no change of its list. */
 static void pause_for_fork(struct call_rcu_data *worker) {
     worker->paused = true;
-    pthread_cond_broadcast(&all.paused);
+    pthread_cond_broadcast(&all.paused); /* who forks looks at every worker again */
     while (all.pausing) sleep_on(&all.resumed); /* the fork is over, or another one has begun */
     worker->paused = false;
 }

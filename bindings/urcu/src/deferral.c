@@ -93,7 +93,7 @@ static struct ring *add_ring(void) {
     atomic_init(&ring->added, 0);
     atomic_init(&ring->made, 0);
     atomic_init(&ring->queued, false);
-    ring->taken = true;
+    ring->taken = true; /* before the lock, with the words above: no other thread sees it yet */
     hold(); /* the ring is whole before it is listed: a barrier walks the list with no lock */
     ring->next = rings;
     rings = ring;
@@ -112,7 +112,7 @@ static SLOW struct ring *take_ring(void) {
 /* What is in it still is made by its callback. */
 void give_back_ring(void) {
     if (!self.deferred) return;
-    hold();
+    hold(); /* `taken` is read by find_ring, which has it too */
     self.deferred->taken = false; /* by the lock the next thread sees what was added */
     self.deferred = 0;
     let_go();
@@ -188,7 +188,7 @@ void renew_deferral(void) {
 /* In the child of a fork without liburcu's handlers: no callback of a ring is queued there, and the
  * rings of the other threads are free. */
 void forget_deferred_calls(void) {
-    for (struct ring *it = rings; it; it = it->next) {
+    for (struct ring *it = rings; it; it = it->next) { /* with no lock: the child has one thread */
         atomic_store(&it->made, atomic_load(&it->added));
         atomic_store(&it->queued, false);
         it->taken = it == self.deferred;

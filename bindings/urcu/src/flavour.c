@@ -28,27 +28,33 @@ void CALL(exit)(void) {}
 /* Several flavours may be linked together, and each has these: weak, so that one is taken. */
 #define SHARED_NAME __attribute__((weak))
 
+/* The caller has loaded the pointer: no order is left to make here. */
 SHARED_NAME void *rcu_dereference_sym(void *p) {
     return p;
 }
 
+/* Acquire: the reader sees the node as it was when it was published. */
 SHARED_NAME void *rcu_dereference_sym2(void **at) {
     return rcu_dereference(*at);
 }
 
+/* Release: the node is whole before a reader can find it. */
 SHARED_NAME void *rcu_set_pointer_sym(void **at, void *v) {
     rcu_set_pointer(at, v);
     return v;
 }
 
+/* Sequentially consistent, so a release too. Of two updaters each gets another old node. */
 SHARED_NAME void *rcu_xchg_pointer_sym(void **at, void *v) {
     return rcu_xchg_pointer(at, v);
 }
 
+/* In the same order. If the old node is no longer there, nothing is published. */
 SHARED_NAME void *rcu_cmpxchg_pointer_sym(void **at, void *old, void *v) {
     return rcu_cmpxchg_pointer(at, old, v);
 }
 
+/* Their older names in bp, in the same orders. */
 #ifdef URCU_BP
 void *urcu_bp_dereference_sym(void *p) {
     return p;

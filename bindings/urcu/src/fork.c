@@ -22,7 +22,7 @@ static pid_t owner; /* the child that has all of its own, where this is one */
 /* ---- what each fork does */
 
 /* The parent's workers are threads that the child does not have. What they hold stays as it is, as
- * it may be half changed. */
+ * it may be half changed. With no lock: the child has one thread. */
 static void start_without_workers(void) {
     pthread_mutex_init(&visits, 0);
     pthread_mutex_init(&making_default, 0);
@@ -46,7 +46,7 @@ static void renew(bool keeps_workers) {
     all.making = all.pausing = false;
     all.engines = 0;
     all.used = 0;
-    atomic_store(&all.beside, 0);
+    atomic_store(&all.beside, 0); /* sections of threads that the child does not have */
     atomic_store(&self.busy, 0);
     self.thread = 0;
     self.place = 0;
@@ -83,20 +83,20 @@ static void pause_workers(void) {
             it = it->next;
             continue;
         }
-        pthread_cond_signal(&it->work);
-        sleep_on(&all.paused);
+        pthread_cond_signal(&it->work); /* it sleeps or rests; it looks at all.pausing after each */
+        sleep_on(&all.paused); /* until one says that it is paused (pause_for_fork) */
         it = workers; /* one that was made meanwhile stands before it */
     }
     let_go();
 }
 
-/* The locks in the order in which all take them: those of workers, and within them the layer's. They
- * are held over the fork, so that the child finds no list of workers half changed. */
+/* The locks in the order in which all take them: those of workers, and within them the layer's.
+ * They are held over the fork, so that the child finds no list of workers half changed. */
 void CALL(call_rcu_before_fork)(void) {
     if (self.forks++) return; /* a program may call it, and a library that registered it too */
     self.was_online = leave("call_rcu_before_fork");
     set_up();
-    if (table) table->before_fork(table->priv); /* first, as in liburcu: its worker still may defer */
+    if (table) table->before_fork(table->priv); /* first, as in liburcu: its worker may defer */
     pthread_mutex_lock(&visits);
     pthread_mutex_lock(&making_default);
     pause_workers();
@@ -104,7 +104,7 @@ void CALL(call_rcu_before_fork)(void) {
 
 void CALL(call_rcu_after_fork_parent)(void) {
     if (--self.forks) return;
-    hold();
+    hold(); /* the workers look at it under the lock, behind each sleep */
     all.pausing = false;
     pthread_cond_broadcast(&all.resumed);
     let_go();
@@ -158,14 +158,14 @@ void CALL(after_fork_child)(void) {
 }
 
 void CALL(register_rculfhash_atfork)(struct urcu_atfork *it) {
-    hold();
+    hold(); /* several libraries of a process register it; the first one's serves all */
     if (tables++ == 0) table = it;
     let_go();
 }
 
 void CALL(unregister_rculfhash_atfork)(struct urcu_atfork *it) {
     (void)it;
-    hold();
+    hold(); /* as above: the last one takes it away */
     if (--tables == 0) table = 0;
     let_go();
 }

@@ -20,19 +20,23 @@
 
 enum { LOOKS = 20 };
 
+/* Sequentially consistent, as the reader's look in got_quiet: one of the two sees the other. */
 static void request_wake(struct place *place) {
     atomic_store(&place->wake_requested, true);
 }
 
+/* With the lock held, so the gp_thread sleeps already, or looks at the reader after this. */
 static SLOW void wake_gp_thread(struct place *place) {
     hold();
+    /* Relaxed: the lock orders it before the next request. */
     atomic_store_explicit(&place->wake_requested, false, memory_order_relaxed);
-    if (BY_WORD) pass_if_out(place);
+    if (BY_WORD) pass_if_out(place); /* before the reader's next section */
     pthread_mutex_unlock(&all.lock);
     pthread_cond_signal(&all.quiet); /* the gp_thread takes the lock as it wakes: free it first */
     set_busy(-1u);
 }
 
+/* After the reader got quiet (pairs with request_wake). */
 void got_quiet(struct place *place) {
     if (unlikely(atomic_load(&place->wake_requested))) wake_gp_thread(place);
 }
@@ -84,26 +88,29 @@ static struct engine *begin_all(void) {
     return grace_period;
 }
 
-/* The last fence stands between what came before the grace period and the look at the sections
- * beside. */
 static void make_grace_period(void) {
     all.making = true;
     all.begun++;
     struct engine *grace_period = begin_all();
     tell_begun(all.begun); /* a thread that sees it sees the number of the begun grace period */
     time_grace_period(grace_period != 0);
-    /* A reader whose word says now that it is in no section sees, in its next one, what came before. */
+    /* A reader whose word says after this that it is in no section sees, in its next one, what
+     * came before. */
     if (BY_WORD && grace_period) fence_readers();
     for (struct engine *it = grace_period; it; it = it->next_in_grace_period) finish(it);
+    /* What came before the grace period comes before the look at the sections beside (pairs with
+     * the fence of open_beside). A handler's section is short, so the gp_thread does not sleep. */
     rcu_fence();
     while (atomic_load(&all.beside)) sched_yield();
     atomic_store_explicit(&all.ended, all.begun, memory_order_release); /* for polls: no lock */
     time_end_of_grace_period(grace_period != 0);
-    all.making = false;
+    all.making = false; /* under the lock: each thread that sleeps for it looks again */
     pthread_cond_broadcast(&all.grace_period_over);
 }
 
-/* Until a grace period has ended that began after now. The thread's own seat is idle meanwhile. */
+/* With the lock held, until a grace period has ended that began after now. The thread's own seat is
+ * idle meanwhile: if no other reader is awaited, no fence in all threads is made. Relaxed: `ended` is
+ * stored under the lock. */
 void wait_for_grace_period(void) {
     uint64_t wanted = all.begun + 1; /* one that runs may have begun before the caller's unlink */
     if (BY_WORD && self.place) close_seat(self.place);
@@ -117,7 +124,7 @@ void wait_for_grace_period(void) {
 
 void CALL(synchronize_rcu)(void) {
     bool was_online = leave("synchronize_rcu");
-    hold();
+    hold(); /* one thread makes a grace period; the others sleep for it */
     wait_for_grace_period();
     let_go();
     restore_online(was_online);

@@ -69,7 +69,8 @@ struct reader {
     unsigned forks; /* how often liburcu's handler was called for one that is to come */
     bool was_online;
 };
-/* The names of what inlined sections read stay (urcu/sections.h; flavour.h of the layer under C++). */
+/* The names of what inlined sections read stay (urcu/sections.h; flavour.h of the layer under
+ * C++). */
 #ifndef self
 #define MAY_INLINE_SECTIONS
 #define self CALL(reader_1)
@@ -85,6 +86,7 @@ SEEN_BY_PROGRAMS extern __thread struct reader self __attribute__((tls_model("in
 enum { BY_STATE = 1 };
 #define latest_begun CALL(begun_1)
 SEEN_BY_PROGRAMS extern atomic_ulong latest_begun;
+/* Release: a reader that loads the number (acquire) sees the engines' begun grace period. */
 static inline void tell_begun(unsigned long grace_period) {
     atomic_store_explicit(&latest_begun, grace_period, memory_order_release);
 }
@@ -138,6 +140,7 @@ static inline void refuse_in_section(const char *call) {
 /* ---- the lock. A signal handler that finds the thread busy keeps away from its place and from the
  * lock. No cancellation takes effect where the lock is held. */
 
+/* Relaxed: only the thread and its signal handlers look at the word. */
 static inline bool is_busy(void) {
     return atomic_load_explicit(&self.busy, memory_order_relaxed) != 0;
 }
@@ -149,7 +152,10 @@ static inline void show_place(void) {
     atomic_store_explicit(&self.shown, by_calls ? 0 : self.place, memory_order_relaxed);
 }
 
-/* The place is shown only while the thread is not busy. */
+/* The place is shown only while the thread is not busy. The fences are for the compiler alone: only
+ * the thread's own signal handlers look at the two words. The first one: the place is hidden before
+ * the count changes. The second one: the count is stored before the call that it covers, and the
+ * place is shown after. */
 static inline void set_busy(unsigned more) {
     atomic_store_explicit(&self.shown, 0, memory_order_relaxed);
     atomic_signal_fence(memory_order_seq_cst);
@@ -160,13 +166,13 @@ static inline void set_busy(unsigned more) {
 }
 
 static inline void hold(void) {
-    set_busy(1);
+    set_busy(1); /* before the lock: a handler that took it too would wait for its own thread */
     pthread_mutex_lock(&all.lock);
 }
 
 static inline void let_go(void) {
     pthread_mutex_unlock(&all.lock);
-    set_busy(-1u);
+    set_busy(-1u); /* not before the lock is free */
 }
 
 /* room.c */

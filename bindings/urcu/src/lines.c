@@ -27,7 +27,8 @@ static int is_heard(int file) {
 static void log_line(const char *line, int priority) {
     struct sockaddr_un log = {.sun_family = AF_UNIX, .sun_path = "/dev/log"};
     char text[LONGEST];
-    /* Non-blocking: a log that is full must not hold up a grace period, or an abort. */
+    /* Non-blocking: a log that is full must not hold up a grace period, or an abort. Close-on-exec:
+     * another thread may fork and exec meanwhile. */
     int made = socket(AF_UNIX, SOCK_DGRAM | SOCK_CLOEXEC | SOCK_NONBLOCK, 0);
     if (made < 0) return;
     snprintf(text, sizeof text, "<%d>%s[%d]: %s", LOG_USER | priority,
@@ -37,7 +38,8 @@ static void log_line(const char *line, int priority) {
     close(made);
 }
 
-/* By one write(2), as dprintf(3) makes: lines of two threads do not mix. */
+/* By one write(2), as dprintf(3) makes: lines of two threads do not mix. With no lock: a thread
+ * that holds the layer's may find misuse, and so may a signal handler in it. */
 void tell(const char *line, int priority) {
     if (!is_heard(STDERR_FILENO) || dprintf(STDERR_FILENO, "%s\n", line) < 0)
         log_line(line, priority);

@@ -63,7 +63,7 @@ static void take_free_place(const void *registered_at) {
 
 void take_place(const void *registered_at) {
     tell_end();
-    hold();
+    hold(); /* no grace period begins between the free list and the open seat */
     if (!self.place) take_free_place(registered_at); /* else a signal handler has just taken one */
     let_go();
 }
@@ -81,7 +81,7 @@ void close_free_places(struct engine *engine) {
 void give_back_place(void) {
     struct place *place = self.place;
     if (!place) return;
-    hold();
+    hold(); /* the gp_thread walks the places under it */
     if (!BY_WORD && !rcu_seat_is_idle(&place->seat)) close_seat(place);
     atomic_store_explicit(&place->depth, 0, memory_order_relaxed); /* the lock orders it */
     place->next = place->engine->free_places;

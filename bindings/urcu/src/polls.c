@@ -8,7 +8,7 @@
 struct urcu_gp_poll_state CALL(start_poll_synchronize_rcu)(void) {
     struct urcu_gp_poll_state state;
     struct call_rcu_data *worker = default_worker();
-    hold();
+    hold(); /* the worker looks at what is asked for under the lock, before each sleep */
     state.grace_period_id = all.begun + 1; /* one that runs may have begun before the unlink */
     if (all.asked_for < all.begun + 1) all.asked_for = all.begun + 1;
     worker->hurried = true;

@@ -36,6 +36,7 @@ void CALL(thread_offline)(void) {
 
 void CALL(quiescent_state)(void) {
     struct place *place = self.place;
+    /* Acquire (pairs with tell_begun): the renewal below sees the number of this grace period. */
     unsigned long begun = atomic_load_explicit(&latest_begun, memory_order_acquire);
     uint64_t number;
     if (likely(begun == self.begun) || !self.online) return;

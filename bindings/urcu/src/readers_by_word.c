@@ -20,18 +20,21 @@
 
 bool by_system;
 
+/* The system is asked once: it makes the fence only in processes that have registered. */
 void set_up_readers(void) {
     by_system = syscall(SYS_membarrier, MEMBARRIER_CMD_REGISTER_PRIVATE_EXPEDITED, 0) == 0;
 }
 
+/* Pairs with fence() of sections.c. The thread's own fence is the one where readers make theirs. */
 void fence_readers(void) {
     rcu_fence();
     if (by_system && syscall(SYS_membarrier, MEMBARRIER_CMD_PRIVATE_EXPEDITED, 0))
         fail("wait for a grace period", "membarrier(2) was refused");
 }
 
-/* With the lock held. A seat is idle if its place was free as the grace period began, or its thread
- * waits for one. */
+/* With the lock held. Acquire: the section that has ended comes before the quiescent state (pairs
+ * with the release of exits). A seat is idle if its place was free as the grace period began, or
+ * its thread waits for one. */
 void pass_if_out(struct place *place) {
     uint64_t number;
     if (atomic_load_explicit(&place->depth, memory_order_acquire) == 0 &&

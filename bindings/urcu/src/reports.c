@@ -15,16 +15,19 @@ static unsigned stall_milliseconds = 10000;
 static void (*stall_report)(const struct urcu_stall *stall, void *context);
 static void *stall_context;
 
+/* Under the lock: of the grace period that runs, and of those that ended. */
 static struct timespec begun_at;
 static unsigned reported; /* how often in this grace period */
 static uint64_t last[URCU_LAST_ROUNDS];
 static unsigned next_of_last;
 
+/* By the monotonic clock, as begun_at is. */
 static uint64_t microseconds_since(const struct timespec *then) {
     struct timespec now = after(0);
     return (uint64_t)((now.tv_sec - then->tv_sec) * 1000000 + (now.tv_nsec - then->tv_nsec) / 1000);
 }
 
+/* With the lock held, by the gp_thread. One that waits for no reader reads no clock. */
 void time_grace_period(bool waits) {
     reported = 0;
     if (waits) begun_at = after(0);
@@ -46,6 +49,8 @@ void CALL(on_stall)(unsigned milliseconds,
     let_go();
 }
 
+/* With the lock let go: dladdr(3) takes the loader's, which a thread may hold that registers in a
+ * constructor. */
 static void say_stall(const struct urcu_stall *it) {
     char how[60] = "which passes no quiescent state", line[LONGEST_LINE];
     Dl_info found = {0};
@@ -61,6 +66,7 @@ static void say_stall(const struct urcu_stall *it) {
     tell(line, LOG_WARNING);
 }
 
+/* With the lock held: no reader that is awaited unregisters meanwhile, so its row is its own. */
 static unsigned find_stalls(struct engine *engine, struct urcu_stall *rows) {
     unsigned found = 0;
     for (uint32_t cpu = 0; cpu < engine->cpus && found < MOST_ROWS; cpu++) {
@@ -91,7 +97,7 @@ static void report(struct engine *engine) {
     for (unsigned at = 0; at < found; at++)
         if (to) to(&rows[at], context);
         else say_stall(&rows[at]);
-    hold();
+    hold(); /* the gp_thread looks at the readers anew: some may have got quiet meanwhile */
 }
 
 /* A reader that gets quiet signals under the lock: so it finds the gp_thread asleep, or the look
@@ -99,9 +105,10 @@ static void report(struct engine *engine) {
 void sleep_or_report(struct engine *engine) {
     struct timespec until = begun_at;
     if (!stall_milliseconds) {
-        sleep_on(&all.quiet);
+        sleep_on(&all.quiet); /* the reader that gets quiet ends it (wake_gp_thread) */
         return;
     }
+    /* From the begin on, and not from now: a sleep that ends early makes no report later. */
     uint64_t milliseconds = (uint64_t)stall_milliseconds * (reported + 1);
     until.tv_sec += (time_t)(milliseconds / 1000);
     until.tv_nsec += (long)(milliseconds % 1000) * 1000000;
@@ -109,6 +116,7 @@ void sleep_or_report(struct engine *engine) {
         until.tv_sec++;
         until.tv_nsec -= 1000000000;
     }
+    /* Not by a wake-up: the readers that are awaited still hold the grace period up. */
     if (!sleep_on_until(&all.quiet, &until)) report(engine);
 }
 
@@ -116,6 +124,7 @@ void sleep_or_report(struct engine *engine) {
 
 /* A worker takes its list under the lock: so none of it goes while it is counted. */
 static void count_callbacks(struct call_rcu_data *worker, struct urcu_counters *counters) {
+    /* Beside the worker, which counts them after it let the lock go: at some moment it was so. */
     unsigned long running = atomic_load(&worker->running), waiting = running;
     /* Acquire: the heads are whole once the list shows them (the release of push). */
     for (struct rcu_head *it = atomic_load_explicit(&worker->last, memory_order_acquire); it;
@@ -140,6 +149,7 @@ void CALL(counters)(struct urcu_counters *counters) {
     let_go();
 }
 
+/* With no lock held while the line is written. */
 int CALL(counters_text)(char *text, size_t room) {
     struct urcu_counters now;
     CALL(counters)(&now);

@@ -19,7 +19,8 @@ enum { ALIGNMENT = 16, HEAD = sizeof(size_t), CHUNK = 1 << 18 };
 static char *next, *end; /* of the chunk: the next head, which ends at a multiple of ALIGNMENT */
 static void *unused;
 
-/* In the child of a fork, as another thread may have been in the midst of a change. */
+/* In the child of a fork, as another thread may have been in the midst of a change: the parent's
+ * chunks stay as they are, and the child takes room of its own. */
 void renew_room(void) {
     next = end = 0;
     unused = 0;
@@ -41,7 +42,7 @@ void room_free(void *at) {
     unused = block;
 }
 
-/* From here on, with its head, where it is large enough. */
+/* From here on, with its head, if it is large enough to serve a later opening. */
 static int give_rest(char *from, size_t size) {
     if (size < 4 * ALIGNMENT) return 0;
     *size_of(from + HEAD) = size - HEAD;
@@ -65,6 +66,7 @@ static void cut(char *block, size_t size) {
     if (give_rest(block + size, *size_of(block) - size)) *size_of(block) = size;
 }
 
+/* First fit. A thread that registers pays for the search, and no section does. */
 static void *take_unused(size_t size) {
     for (void **before = &unused, **it = unused; it; before = it, it = *it) {
         if (*size_of(it) < size) continue;
@@ -84,12 +86,14 @@ static int grow(char *block, size_t size) {
     return 1;
 }
 
+/* A block ends at a multiple of ALIGNMENT, so the next one begins at one behind its head. */
 static size_t fitting(size_t size) {
     return rounded(HEAD + (size ? size : 1), ALIGNMENT) - HEAD;
 }
 
+/* Null if the system has no more. The engine answers that by a fault, and stays as it was. */
 void *room_malloc(size_t size) {
-    if (size > SIZE_MAX / 2) return 0;
+    if (size > SIZE_MAX / 2) return 0; /* what is added to it below must not wrap around */
     size = fitting(size);
     char *block = take_unused(size);
     if (block) return block;
@@ -106,7 +110,7 @@ void *room_realloc(void *at, size_t size) {
     if (size <= *size_of(at)) return at;
     if (size <= SIZE_MAX / 2 && grow(at, fitting(size))) return at;
     void *more = room_malloc(size);
-    if (!more) return 0;
+    if (!more) return 0; /* as realloc(3): the old block stays */
     memcpy(more, at, *size_of(at));
     room_free(at);
     return more;

@@ -5,10 +5,12 @@
  * inlined. */
 #include "seats.h"
 
+/* Relaxed: the thread's own word, and its handlers leave it as they find it. */
 static inline unsigned long depth_of(struct place *place) {
     return atomic_load_explicit(&place->depth, memory_order_relaxed);
 }
 
+/* Relaxed: a store that opens or closes a section has its order from the lines around it. */
 static inline void set_depth(struct place *place, unsigned long depth) {
     atomic_store_explicit(&place->depth, depth, memory_order_relaxed);
 }
@@ -24,8 +26,8 @@ static inline void enters(struct place *place) {
 }
 
 static inline void exits(struct place *place) {
-    set_busy(1);
-    set_depth(place, 0); /* before the close: a handler that sees the old depth would nest in none */
+    set_busy(1); /* till the seat is closed, as for enters */
+    set_depth(place, 0); /* before the close: else a handler would nest in a closed section */
     close_seat(place);
     set_busy(-1u);
 }
@@ -60,7 +62,7 @@ static SLOW void open_beside(void) {
 /* The place is shown to inlined sections again before the count goes, which orders the section. */
 static SLOW void close_beside(void) {
     self.beside--;
-    show_place();
+    show_place(); /* hidden while a section of the thread is beside */
     atomic_fetch_sub(&all.beside, 1);
 }
 

@@ -24,7 +24,7 @@ void start_worker(struct call_rcu_data *worker) {
     sigfillset(&every); /* a signal handler of the program's runs in its own threads */
     pthread_sigmask(SIG_SETMASK, &every, &before);
     if (pthread_create(&worker->thread, 0, work, worker)) fail("call_rcu", "no thread is left");
-    pthread_sigmask(SIG_SETMASK, &before, 0);
+    pthread_sigmask(SIG_SETMASK, &before, 0); /* the caller's own, as they were */
 }
 
 struct call_rcu_data *CALL(create_call_rcu_data)(unsigned long flags, int cpu) {
@@ -46,7 +46,7 @@ struct call_rcu_data *CALL(create_call_rcu_data)(unsigned long flags, int cpu) {
 struct call_rcu_data *default_worker(void) {
     struct call_rcu_data *worker = atomic_load_explicit(&main_worker, memory_order_acquire);
     if (likely(worker)) return worker;
-    pthread_mutex_lock(&making_default);
+    pthread_mutex_lock(&making_default); /* not the layer's, which the new thread takes */
     worker = atomic_load(&main_worker); /* once more: else a second one would be made */
     if (!worker) {
         worker = CALL(create_call_rcu_data)(0, -1);
@@ -75,6 +75,7 @@ struct call_rcu_data *CALL(get_cpu_call_rcu_data)(int cpu) {
     return each && cpu >= 0 && cpu < machine_cpus ? atomic_load(&each[cpu]) : 0;
 }
 
+/* The thread's own word, which no other thread reads: it needs no order. */
 struct call_rcu_data *CALL(get_thread_call_rcu_data)(void) {
     return self.worker;
 }
@@ -133,7 +134,7 @@ int CALL(create_all_cpu_call_rcu_data)(unsigned long flags) {
         if (!fault) continue;
         pthread_t thread = worker->thread; /* before the worker's memory goes */
         CALL(call_rcu_data_free)(worker); /* another thread was first, or no memory is left */
-        pthread_join(thread, 0);
+        pthread_join(thread, 0); /* it has said that it is over, and may not have returned yet */
         if (fault == -EEXIST) continue;
         errno = -fault;
         return fault;
@@ -143,6 +144,7 @@ int CALL(create_all_cpu_call_rcu_data)(unsigned long flags) {
 
 /* ---- the end of one */
 
+/* Who frees a worker sleeps on it under the lock: one caller at a time, by `visits`. */
 static pthread_cond_t worker_over = PTHREAD_COND_INITIALIZER;
 
 /* In the child of a fork, where their threads are gone, and those that waited for an end. */
@@ -165,7 +167,8 @@ static void stop(struct call_rcu_data *worker) {
     hold(); /* the worker looks with the lock held before each sleep */
     worker->stop = true;
     pthread_cond_signal(&worker->work);
-    /* Its thread writes in it until then, and the caller frees it. */
+    /* Its thread writes in it until then, and the caller frees it. The grace period that the worker
+     * waits for goes on: the sleep lets the lock go. */
     while (!worker->is_over) sleep_on(&worker_over);
     let_go();
 }
@@ -189,7 +192,7 @@ void CALL(call_rcu_data_free)(struct call_rcu_data *it) {
     /* Before `visits` is let go: a barrier that comes then finds them with the default worker. */
     push_all(default_worker(), atomic_load(&it->last));
     pthread_mutex_unlock(&visits);
-    pthread_cond_destroy(&it->work);
+    pthread_cond_destroy(&it->work); /* nobody signals it: the worker is in no list any more */
     free(it);
     restore_online(was_online);
 }
