@@ -1,7 +1,8 @@
 /* Grace periods of the layer: each is one of every engine that has a thread. Who waits for one
  * makes it, with the lock, or sleeps while another thread does. The gp_thread looks LOOKS times
- * whether each place is quiet. Then it stores a request at each place that is awaited still, looks
- * once more, and sleeps; a thread that gets quiet there wakes it.
+ * whether each place is quiet, the first few times without a pause. Then it stores a request at
+ * each place that is awaited still, looks once more, and sleeps; a thread that gets quiet there
+ * wakes it.
  *
  * It rests on these sentences of include/rcu.h: of rcu_drive_for, "called until the cookie is done
  * it makes one grace period", and "it orders what rcu_begin, rcu_collect and rcu_end order"; and of
@@ -18,7 +19,7 @@
 #include "seats.h"
 #include <sched.h>
 
-enum { LOOKS = 20 };
+enum { LOOKS = 20, LOOKS_AT_ONCE = 4 };
 
 /* Sequentially consistent, as the reader's look in got_quiet: one of the two sees the other. */
 static void request_wake(struct place *place) {
@@ -66,7 +67,7 @@ static bool still_goes_on(struct engine *engine) {
 
 static void finish(struct engine *engine) {
     for (unsigned looks = 1; still_goes_on(engine); looks++) {
-        __builtin_ia32_pause();
+        if (looks > LOOKS_AT_ONCE) __builtin_ia32_pause(); /* it takes longer than most sections */
         if (looks % LOOKS) continue;
         goes_on(engine, request_wake); /* the request comes before the last look, .. */
         if (BY_WORD) fence_readers();  /* .. also for a reader whose fence is this one */
@@ -109,8 +110,8 @@ static void make_grace_period(void) {
 }
 
 /* With the lock held, until a grace period has ended that began after now. The thread's own seat is
- * idle meanwhile: if no other reader is awaited, no fence in all threads is made. Relaxed: `ended` is
- * stored under the lock. */
+ * idle meanwhile: if no other reader is awaited, no fence in all threads is made. Relaxed: `ended`
+ * is stored under the lock. */
 void wait_for_grace_period(void) {
     uint64_t wanted = all.begun + 1; /* one that runs may have begun before the caller's unlink */
     if (BY_WORD && self.place) close_seat(self.place);
