@@ -17,7 +17,7 @@
 #include <unistd.h>
 #include <urcu/uatomic.h>
 
-enum { THREADS = 4, PLACES = 4096 };
+enum { THREADS = 4, REGISTERED = 4096 };
 
 static double own_time(void) {
     struct timespec time;
@@ -180,20 +180,20 @@ static void *stay(void *it) {
 
 static void of_memory(void) {
     pthread_attr_t small;
-    static pthread_t threads[PLACES];
+    static pthread_t threads[REGISTERED];
     pthread_attr_init(&small);
     pthread_attr_setstacksize(&small, 1 << 16);
-    pthread_barrier_init(&steps, 0, PLACES + 1);
-    for (int i = 0; i < PLACES; i++)
+    pthread_barrier_init(&steps, 0, REGISTERED + 1);
+    for (int i = 0; i < REGISTERED; i++)
         if (pthread_create(&threads[i], &small, stay, 0)) exit(1);
     pthread_barrier_wait(&steps);
     pthread_barrier_wait(&steps);
     long before = resident();
     pthread_barrier_wait(&steps);
     pthread_barrier_wait(&steps);
-    printf("bytes-of-a-place %.1f\n", (double)(resident() - before) / PLACES);
+    printf("bytes-of-a-slot %.1f\n", (double)(resident() - before) / REGISTERED);
     pthread_barrier_wait(&steps);
-    for (int i = 0; i < PLACES; i++) pthread_join(threads[i], 0);
+    for (int i = 0; i < REGISTERED; i++) pthread_join(threads[i], 0);
 }
 
 int main(void) {

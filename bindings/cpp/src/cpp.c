@@ -14,10 +14,10 @@ char urcu_cpp_domain;
 /* ---- sections */
 
 void urcu_cpp_wake_maker(void) {
-    got_quiet(self.place);
+    got_quiet(self.slot);
 }
 
-_Static_assert(offsetof(struct place, depth) == 8 && offsetof(struct place, wake_requested) == 16,
+_Static_assert(offsetof(struct slot, depth) == 8 && offsetof(struct slot, wake_requested) == 16,
                "urcu_cpp_place of include/rcu");
 _Static_assert(offsetof(struct reader, shown) == 0, "urcu_cpp_reader of include/rcu");
 

@@ -42,8 +42,8 @@ inlined:
     {WAKES}
 over:
 """
-# A signal handler, which comes at any step of a thread that takes its place and is in a region.
-# While the place is hidden from the inlined regions, the layer's calls are made.
+# A signal handler, which comes at any step of a thread that takes its slot and is in a region.
+# While the slot is hidden from the inlined regions, the layer's calls are made.
 WITH_HANDLER = f"""
     hidden = 1           | atomic_store_explicit(&self.shown, 0, memory_order_relaxed);
     busy = 1             | atomic_store_explicit(&self.busy, was + more
@@ -63,8 +63,8 @@ WITH_HANDLER = f"""
     quiet = 1
     unlock
     signal
-    busy = 0             | memory_order_relaxed); .. show_place();
-    hidden = 0           | by_calls ? 0 : self.place, memory_order_relaxed);
+    busy = 0             | memory_order_relaxed); .. show_slot();
+    hidden = 0           | by_calls ? 0 : self.slot, memory_order_relaxed);
 over:
 """
 HANDLER = f"""

@@ -151,7 +151,7 @@ static void bind_to(int cpu) {
 void *work(void *it) {
     struct call_rcu_data *worker = it;
     bind_to(worker->cpu);
-    take_place((const void *)(uintptr_t)work); /* a report of a stall names this function */
+    take_slot((const void *)(uintptr_t)work); /* a report of a stall names this function */
     self.worker = worker; /* what a callback defers comes to the same worker */
     hold();
     while (!worker->stop) {
@@ -167,7 +167,7 @@ void *work(void *it) {
     }
     let_go();
     self.worker = 0;
-    give_back_place();
+    give_back_slot();
     tell_over(worker); /* the last step: from here on its memory may go */
     return 0;
 }

@@ -1,5 +1,5 @@
 /* fork. The child has one thread: it opens engines of its own, in room of its own, and takes a
- * place there if it had one. So it does not matter in the midst of what the other threads were. By
+ * slot there if it had one. So it does not matter in the midst of what the other threads were. By
  * liburcu's three handlers the workers pause, none is added meanwhile, and the default worker goes
  * on in the child with all callbacks that waited. Without them the callbacks that waited, and the
  * deferred calls, are the parent's alone: a worker may have been in the midst of any. The child
@@ -36,7 +36,7 @@ static void start_without_workers(void) {
 }
 
 static void renew(bool keeps_workers) {
-    struct place *old = self.place;
+    struct slot *old = self.slot;
     /* Threads that the child does not have may hold the lock, or sleep on a condition. */
     pthread_mutex_init(&all.lock, 0);
     make_condition(&all.quiet);
@@ -49,12 +49,12 @@ static void renew(bool keeps_workers) {
     atomic_store(&all.beside, 0); /* sections of threads that the child does not have */
     atomic_store(&self.busy, 0);
     self.thread = 0;
-    self.place = 0;
-    show_place();
+    self.slot = 0;
+    show_slot();
     renew_room(); /* before the first engine of the child takes some */
     if (BY_WORD) set_up_readers(); /* membarrier(2) registers a process, and the child is another */
     if (old) { /* a section that is open goes on, in an engine of the child's own */
-        take_place(old->registered_at);
+        take_slot(old->registered_at);
         stay_as_in(old);
     }
     if (!keeps_workers) start_without_workers();

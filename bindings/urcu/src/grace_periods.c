@@ -1,15 +1,15 @@
 /* Grace periods of the layer: each is one of every engine that has a thread. Who waits for one
  * makes it, with the lock, or sleeps while another thread does. The gp_thread looks LOOKS times
- * whether each place is quiet, the first few times without a pause. Then it stores a request at
- * each place that is awaited still, looks once more, and sleeps; a thread that gets quiet there
+ * whether each slot is quiet, the first few times without a pause. Then it stores a request at
+ * each slot that is awaited still, looks once more, and sleeps; a thread that gets quiet there
  * wakes it.
  *
  * It rests on these sentences of include/rcu.h: of rcu_drive_for, "called until the cookie is done
  * it makes one grace period", and "it orders what rcu_begin, rcu_collect and rcu_end order"; and of
  * rcu_begin, "of each section one of two holds: all of it comes before what follows the end of this
- * grace period, or it sees what came before this call". It adds: that a thread which takes a place
+ * grace period, or it sees what came before this call". It adds: that a thread which takes a slot
  * of an engine that had none took the lock after the grace period began, so its sections see what
- * came before; and the requests. The gp_thread stores a request, and then looks at the place; a
+ * came before; and the requests. The gp_thread stores a request, and then looks at the slot; a
  * thread gets quiet, and then looks for the request. All four steps are sequentially consistent, or
  * have the fence in all threads between them, so one of the two sees the other (tests/model.py). A
  * request may be one of an earlier grace period: its thread wakes the gp_thread then, which looks,
@@ -22,41 +22,41 @@
 enum { LOOKS = 20, LOOKS_AT_ONCE = 4 };
 
 /* Sequentially consistent, as the reader's look in got_quiet: one of the two sees the other. */
-static void request_wake(struct place *place) {
-    atomic_store(&place->wake_requested, true);
+static void request_wake(struct slot *slot) {
+    atomic_store(&slot->wake_requested, true);
 }
 
 /* With the lock held, so the gp_thread sleeps already, or looks at the reader after this. */
-static SLOW void wake_gp_thread(struct place *place) {
+static SLOW void wake_gp_thread(struct slot *slot) {
     hold();
     /* Relaxed: the lock orders it before the next request. */
-    atomic_store_explicit(&place->wake_requested, false, memory_order_relaxed);
-    if (BY_WORD) pass_if_out(place); /* before the reader's next section */
+    atomic_store_explicit(&slot->wake_requested, false, memory_order_relaxed);
+    if (BY_WORD) pass_if_out(slot); /* before the reader's next section */
     pthread_mutex_unlock(&all.lock);
     pthread_cond_signal(&all.quiet); /* the gp_thread takes the lock as it wakes: free it first */
     set_busy(-1u);
 }
 
 /* After the reader got quiet (pairs with request_wake). */
-void got_quiet(struct place *place) {
-    if (unlikely(atomic_load(&place->wake_requested))) wake_gp_thread(place);
+void got_quiet(struct slot *slot) {
+    if (unlikely(atomic_load(&slot->wake_requested))) wake_gp_thread(slot);
 }
 
 /* ---- a grace period, with the lock held */
 
-/* Begins the grace period, or visits each place that is awaited and collects; ends it where none
+/* Begins the grace period, or visits each slot that is awaited and collects; ends it where none
  * is. Returns whether it goes on. */
-static bool goes_on(struct engine *engine, void (*visit)(struct place *place)) {
+static bool goes_on(struct engine *engine, void (*visit)(struct slot *slot)) {
     uint32_t cpus[LARGEST_ENGINE], count = 0;
     rcu_turn_t turn;
     if (visit) must("list", rcu_awaited_list(&engine->rcu, cpus, engine->cpus, &count));
-    for (uint32_t at = 0; at < count; at++) visit(&engine->places[cpus[at]]);
+    for (uint32_t at = 0; at < count; at++) visit(&engine->slots[cpus[at]]);
     must("drive", rcu_drive_for_unfenced(&engine->rcu, engine->cookie, &turn));
     return turn.awaited != 0;
 }
 
 static bool begin(struct engine *engine) {
-    if (BY_WORD) close_free_places(engine);
+    if (BY_WORD) close_free_slots(engine);
     engine->cookie = rcu_take(&engine->rcu);
     return goes_on(engine, 0);
 }
@@ -114,12 +114,12 @@ static void make_grace_period(void) {
  * is stored under the lock. */
 void wait_for_grace_period(void) {
     uint64_t wanted = all.begun + 1; /* one that runs may have begun before the caller's unlink */
-    if (BY_WORD && self.place) close_seat(self.place);
+    if (BY_WORD && self.slot) close_seat(self.slot);
     while (atomic_load_explicit(&all.ended, memory_order_relaxed) < wanted) {
         if (all.making) sleep_on(&all.grace_period_over);
         else make_grace_period();
     }
-    if (BY_WORD && self.place) open_seat(self.place);
+    if (BY_WORD && self.slot) open_seat(self.slot);
     mark_acquire();
 }
 

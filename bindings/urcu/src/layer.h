@@ -3,8 +3,8 @@
  * seats.h how it sees one of mb and qsbr. The Makefile joins the objects, and hides all names but
  * those of liburcu's interface.
  *
- * A reader, a thread that is registered, has a place: the open seat of a processor that is online.
- * A place that is free is idle when a grace period begins, so none waits for it. A grace period of
+ * A reader, a thread that is registered, has a slot: the open seat of a processor that is online.
+ * A slot that is free is idle when a grace period begins, so none waits for it. A grace period of
  * the layer is one of each engine that has a reader; its gp_thread is the thread that waits for
  * it. */
 #ifndef URCU_LAYER_H
@@ -32,14 +32,14 @@
 #define SLOW __attribute__((noinline, cold))
 
 /* The processor of an engine, for one thread at a time. Each has a cache line of its own. */
-struct place {
+struct slot {
     _Alignas(64) rcu_seat_t seat;
     atomic_ulong depth;         /* how deep the thread's sections nest; in qsbr 0 */
     atomic_bool wake_requested; /* the gp_thread asks to be woken when it is quiet */
     int thread;                 /* the system's number of the thread that registered last */
     const void *registered_at;  /* the code that registered it */
     struct engine *engine;
-    struct place *next; /* among those of the engine that are free */
+    struct slot *next; /* among those of the engine that are free */
 };
 
 enum { LARGEST_ENGINE = 128 }; /* processors */
@@ -47,20 +47,20 @@ struct engine {
     struct engine *next; /* the one that was opened after it */
     struct engine *next_in_grace_period;
     rcu_t rcu;
-    uint32_t cpus, opened, taken; /* of its places */
+    uint32_t cpus, opened, taken; /* of its slots */
     uint64_t cookie; /* of the last grace period */
-    struct place *places, *free_places;
+    struct slot *slots, *free_slots;
 };
 
 struct ring;
 
 /* What a thread has. */
 struct reader {
-    _Atomic(struct place *) shown; /* what inlined sections see of the place (show_place) */
-    unsigned long begun;           /* by state: the grace period of its latest quiescent state */
-    struct place *place;           /* null if it is not registered */
-    unsigned long beside;          /* the depth of a signal handler's sections beside the place */
-    atomic_uint busy;              /* the thread is in a call, and may hold the lock */
+    _Atomic(struct slot *) shown; /* what inlined sections see of the slot (show_slot) */
+    unsigned long begun;          /* by state: the grace period of its latest quiescent state */
+    struct slot *slot;            /* null if it is not registered */
+    unsigned long beside;         /* the depth of a signal handler's sections beside the slot */
+    atomic_uint busy;             /* the thread is in a call, and may hold the lock */
     int thread;           /* the system's number, or 0 where it was not asked yet */
     bool online;          /* by state */
     bool has_key;         /* its end is told */
@@ -102,11 +102,11 @@ struct shared {
     pthread_mutex_t lock;
     pthread_cond_t quiet, grace_period_over, paused, resumed;
     struct engine *engines; /* the oldest one first */
-    uint32_t used;          /* how many of them have a place taken */
+    uint32_t used;          /* how many of them have a slot taken */
     bool making, pausing;
     uint64_t begun, asked_for; /* grace periods, each of every engine in use */
     _Atomic uint64_t ended;
-    atomic_uint beside; /* how many sections are open beside places */
+    atomic_uint beside; /* how many sections are open beside slots */
 };
 extern struct shared all;
 
@@ -129,15 +129,15 @@ extern bool by_system;
 
 /* In qsbr no section has a depth. Relaxed: the thread looks at its own word. */
 static inline bool is_in_section(void) {
-    struct place *place = self.place;
-    return self.beside || (place && atomic_load_explicit(&place->depth, memory_order_relaxed));
+    struct slot *slot = self.slot;
+    return self.beside || (slot && atomic_load_explicit(&slot->depth, memory_order_relaxed));
 }
 
 static inline void refuse_in_section(const char *call) {
     if (unlikely(is_in_section())) fail(call, "the thread is in a section");
 }
 
-/* ---- the lock. A signal handler that finds the thread busy keeps away from its place and from the
+/* ---- the lock. A signal handler that finds the thread busy keeps away from its slot and from the
  * lock. No cancellation takes effect where the lock is held. */
 
 /* Relaxed: only the thread and its signal handlers look at the word. */
@@ -147,22 +147,22 @@ static inline bool is_busy(void) {
 
 /* Inlined sections look at one word of their thread. It is null if the library's calls have to open
  * and close them. */
-static inline void show_place(void) {
+static inline void show_slot(void) {
     bool by_calls = is_busy() || self.beside || (BY_WORD && !by_system);
-    atomic_store_explicit(&self.shown, by_calls ? 0 : self.place, memory_order_relaxed);
+    atomic_store_explicit(&self.shown, by_calls ? 0 : self.slot, memory_order_relaxed);
 }
 
-/* The place is shown only while the thread is not busy. The fences are for the compiler alone: only
- * the thread's own signal handlers look at the two words. The first one: the place is hidden before
+/* The slot is shown only while the thread is not busy. The fences are for the compiler alone: only
+ * the thread's own signal handlers look at the two words. The first one: the slot is hidden before
  * the count changes. The second one: the count is stored before the call that it covers, and the
- * place is shown after. */
+ * slot is shown after. */
 static inline void set_busy(unsigned more) {
     atomic_store_explicit(&self.shown, 0, memory_order_relaxed);
     atomic_signal_fence(memory_order_seq_cst);
     unsigned was = atomic_load_explicit(&self.busy, memory_order_relaxed);
     atomic_store_explicit(&self.busy, was + more, memory_order_relaxed);
     atomic_signal_fence(memory_order_seq_cst);
-    if (more != 1) show_place(); /* else it is busy from here on */
+    if (more != 1) show_slot(); /* else it is busy from here on */
 }
 
 static inline void hold(void) {
@@ -190,24 +190,22 @@ void set_up(void);
 void tell_end(void);
 void restore_online(bool was_online);
 
-/* places.c */
-void take_place(const void *registered_at);
-void give_back_place(void);
-void close_free_places(struct engine *engine);
+/* slots.c */
+void take_slot(const void *registered_at);
+void give_back_slot(void);
+void close_free_slots(struct engine *engine);
 
 /* sections.c or readers_by_state.c */
-void stay_as_in(struct place *old);
+void stay_as_in(struct slot *old);
 bool leave(const char *call);
 
 /* readers_by_word.c; not in mb and qsbr, which call none of them */
 void set_up_readers(void);
-void open_place(struct place *place);
-void close_place(struct place *place);
-void pass_if_out(struct place *place);
+void pass_if_out(struct slot *slot);
 void fence_readers(void);
 
 /* grace_periods.c */
-void got_quiet(struct place *place);
+void got_quiet(struct slot *slot);
 void wait_for_grace_period(void);
 
 /* fork.c */

@@ -21,8 +21,8 @@ int CALL(read_ongoing)(void) {
 }
 
 void CALL(thread_online)(void) {
-    if (self.online || !self.place) return;
-    open_seat(self.place);
+    if (self.online || !self.slot) return;
+    open_seat(self.slot);
     self.online = true;
 }
 
@@ -30,20 +30,20 @@ void CALL(thread_offline)(void) {
     if (!self.online) return;
     self.online = false;
     mark_release();
-    close_seat(self.place);
-    got_quiet(self.place); /* after the close: who waits for this reader may sleep */
+    close_seat(self.slot);
+    got_quiet(self.slot); /* after the close: who waits for this reader may sleep */
 }
 
 void CALL(quiescent_state)(void) {
-    struct place *place = self.place;
+    struct slot *slot = self.slot;
     /* Acquire (pairs with tell_begun): the renewal below sees the number of this grace period. */
     unsigned long begun = atomic_load_explicit(&latest_begun, memory_order_acquire);
     uint64_t number;
     if (likely(begun == self.begun) || !self.online) return;
     self.begun = begun; /* that was seen; one that begins now is seen at the next look */
     mark_release();
-    must("renew", rcu_seat_renew_unfenced(&place->seat, &number));
-    got_quiet(place);
+    must("renew", rcu_seat_renew_unfenced(&slot->seat, &number));
+    got_quiet(slot);
 }
 
 #ifdef MAY_INLINE_SECTIONS
@@ -59,7 +59,7 @@ bool leave(const char *call) {
 }
 
 /* In the child of a fork: it goes on as it was. */
-void stay_as_in(struct place *old) {
+void stay_as_in(struct slot *old) {
     bool was_online = self.online;
     (void)old;
     self.online = false;

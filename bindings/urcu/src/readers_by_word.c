@@ -1,11 +1,11 @@
-/* Sections of memb, signal and bp. A place's seat is within one section of its engine's all the
+/* Sections of memb, signal and bp. A slot's seat is within one section of its engine's all the
  * time, and belongs to who holds the lock. The thread says by a word, its depth, whether it is in a
  * section of its own. Where it is in none, who makes a grace period passes a quiescent state by the
  * seat. So each section of a thread lies within one of the engine's.
  *
  * The thread stores its word, makes a fence, and reads. A grace period makes a fence in all
  * threads, and then looks at their words: so either it sees the word, or the section sees what came
- * before the grace period. A grace period that has looked often stores a request at each place that
+ * before the grace period. A grace period that has looked often stores a request at each slot that
  * it awaits. A thread that sees it at a section's end passes the quiescent state itself, by the
  * lock: so one that reads again and again holds no grace period up.
  *
@@ -33,11 +33,11 @@ void fence_readers(void) {
 }
 
 /* With the lock held. Acquire: the section that has ended comes before the quiescent state (pairs
- * with the release of exits). A seat is idle if its place was free as the grace period began, or
+ * with the release of exits). A seat is idle if its slot was free as the grace period began, or
  * its thread waits for one. */
-void pass_if_out(struct place *place) {
+void pass_if_out(struct slot *slot) {
     uint64_t number;
-    if (atomic_load_explicit(&place->depth, memory_order_acquire) == 0 &&
-        !rcu_seat_is_idle(&place->seat))
-        must("repin", rcu_seat_repin_unfenced(&place->seat, &number));
+    if (atomic_load_explicit(&slot->depth, memory_order_acquire) == 0 &&
+        !rcu_seat_is_idle(&slot->seat))
+        must("repin", rcu_seat_repin_unfenced(&slot->seat, &number));
 }

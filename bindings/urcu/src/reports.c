@@ -70,14 +70,14 @@ static void say_stall(const struct urcu_stall *it) {
 static unsigned find_stalls(struct engine *engine, struct urcu_stall *rows) {
     unsigned found = 0;
     for (uint32_t cpu = 0; cpu < engine->cpus && found < MOST_ROWS; cpu++) {
-        struct place *place = &engine->places[cpu];
+        struct slot *slot = &engine->slots[cpu];
         if (!rcu_awaits(&engine->rcu, cpu)) continue;
         rows[found++] = (struct urcu_stall){
             .flavour = FLAVOUR,
-            .thread = place->thread,
+            .thread = slot->thread,
             /* Relaxed: for the reader of a line, and nothing is reclaimed by it. */
-            .depth = atomic_load_explicit(&place->depth, memory_order_relaxed),
-            .registered_at = place->registered_at,
+            .depth = atomic_load_explicit(&slot->depth, memory_order_relaxed),
+            .registered_at = slot->registered_at,
             .milliseconds = microseconds_since(&begun_at) / 1000,
         };
     }

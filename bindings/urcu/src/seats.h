@@ -1,4 +1,4 @@
-/* The seat of a place. In memb, signal and bp it is who holds the lock that makes the calls on it;
+/* The seat of a slot. In memb, signal and bp it is who holds the lock that makes the calls on it;
  * in mb and qsbr it is the thread itself, with no lock.
  *
  * It rests on these sentences of include/rcu.h: of rcu_begin, "of each section one of two holds:
@@ -10,18 +10,18 @@
 #define URCU_SEATS_H
 #include "layer.h"
 
-static inline void open_seat(struct place *place) {
+static inline void open_seat(struct slot *slot) {
     uint64_t number;
     if (BY_WORD) {
-        must("pin", rcu_seat_pin_unfenced(&place->seat));
+        must("pin", rcu_seat_pin_unfenced(&slot->seat));
         return;
     }
-    must("wake", rcu_seat_wake_unfenced(&place->seat, &number));
-    must("enter", rcu_seat_enter(&place->seat));
+    must("wake", rcu_seat_wake_unfenced(&slot->seat, &number));
+    must("enter", rcu_seat_enter(&slot->seat));
 }
 
-static inline void close_seat(struct place *place) {
-    must("unpin", rcu_seat_unpin(&place->seat));
+static inline void close_seat(struct slot *slot) {
+    must("unpin", rcu_seat_unpin(&slot->seat));
 }
 
 #endif

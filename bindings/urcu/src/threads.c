@@ -18,14 +18,14 @@ struct shared all = {
 static pthread_once_t once = PTHREAD_ONCE_INIT;
 static pthread_key_t ends;
 
-/* It may register anew, as in the end of another key. In qsbr it goes offline before its place goes
+/* It may register anew, as in the end of another key. In qsbr it goes offline before its slot goes
  * to another thread. */
 static void at_end(void *it) {
     (void)it;
     self.has_key = false;
     give_back_ring();
     CALL(thread_offline)();
-    give_back_place();
+    give_back_slot();
 }
 
 static void set_up_once(void) {
@@ -49,7 +49,7 @@ void tell_end(void) {
     set_up();
     set_busy(1); /* a handler keeps away: the C library may be in the midst of taking memory */
     if (pthread_setspecific(ends, &self)) fail("register", "out of memory");
-    self.has_key = true; /* from here on its end gives the place back */
+    self.has_key = true; /* from here on its end gives the slot back */
     set_busy(-1u);
 }
 
@@ -60,7 +60,7 @@ void restore_online(bool was_online) {
 
 void CALL(register_thread)(void) {
     /* Its first section, or that of a signal handler, may have taken one. */
-    if (!self.place) take_place(__builtin_return_address(0));
+    if (!self.slot) take_slot(__builtin_return_address(0));
     if (BY_STATE) CALL(thread_online)();
 }
 
@@ -76,6 +76,6 @@ void CALL(unregister_thread)(void) {
 #else
 void CALL(unregister_thread)(void) {
     leave("rcu_unregister_thread");
-    give_back_place();
+    give_back_slot();
 }
 #endif

@@ -12,10 +12,10 @@ FAULTS = {
         "readers_by_word.c", "memory_order_acquire) == 0 &&", "memory_order_acquire) <= 1 &&",
         "memb", "waits", False),
     "the request is gone": (
-        "sections.c", "        exits(place);\n        got_quiet(place);", "        exits(place);",
+        "sections.c", "        exits(slot);\n        got_quiet(slot);", "        exits(slot);",
         "memb", "waits", HANGS),
     "the request is gone, in mb": (
-        "sections.c", "        exits(place);\n        got_quiet(place);", "        exits(place);",
+        "sections.c", "        exits(slot);\n        got_quiet(slot);", "        exits(slot);",
         "mb", "waits", HANGS),
     "the request is gone, inlined": (
         "include/urcu/sections.h", "__ATOMIC_SEQ_CST) ? URCU_LEFT_AWAITED_ : URCU_LEFT_;",
@@ -26,7 +26,7 @@ FAULTS = {
         "depth, __ATOMIC_RELAXED);\n    return true;", "bp", "sections", False),
     "an inlined section of mb within another one does not end": (
         "include/urcu/sections.h",
-        "    if (depth > 1) __atomic_store_n(&place->depth, depth - 1, __ATOMIC_RELAXED);\n"
+        "    if (depth > 1) __atomic_store_n(&slot->depth, depth - 1, __ATOMIC_RELAXED);\n"
         "    return depth > 1;", "    return depth > 1;", "mb", "nests", HANGS),
     "an inlined quiescent state is none": (
         "include/urcu/sections.h", "    if (__builtin_expect(begun != urcu_qsbr_reader_1.begun, 0)) ",
@@ -43,22 +43,22 @@ FAULTS = {
         "grace_periods.c", "uint32_t left = all.used;", "uint32_t left = all.used != 0;",
         "memb", "engines", False),
     "a section of mb is none of the engine's": (
-        "sections.c", "    open_seat(place);\n", "", "mb", "sections", False),
+        "sections.c", "    open_seat(slot);\n", "", "mb", "sections", False),
     "the request is gone, in qsbr": (
-        "readers_by_state.c", "&number));\n    got_quiet(place);\n", "&number));\n",
+        "readers_by_state.c", "&number));\n    got_quiet(slot);\n", "&number));\n",
         "qsbr", "waits", HANGS),
     "the inner end of a section ends it": (
-        "sections.c", "set_depth(place, depth - 1);", "set_depth(place, 0);",
+        "sections.c", "set_depth(slot, depth - 1);", "set_depth(slot, 0);",
         "memb", "nests", False),
-    "a place is given away in a section": (
-        "places.c", "if (place) engine->free_places = place->next;\n    else place",
-        "if (engine->opened) place = &engine->places[0];\n    else place",
+    "a slot is given away in a section": (
+        "slots.c", "if (slot) engine->free_slots = slot->next;\n    else slot",
+        "if (engine->opened) slot = &engine->slots[0];\n    else slot",
         "memb", "engines", False),
     "a thread that registers leaves its seat idle": (
-        "places.c", "    if (BY_WORD && rcu_seat_is_idle(&place->seat)) open_seat(place);\n", "",
+        "slots.c", "    if (BY_WORD && rcu_seat_is_idle(&slot->seat)) open_seat(slot);\n", "",
         "memb", "sections", False),
-    "a thread that ends keeps its place": (
-        "threads.c", "    give_back_place();\n}\n\nstatic void set_up_once",
+    "a thread that ends keeps its slot": (
+        "threads.c", "    give_back_slot();\n}\n\nstatic void set_up_once",
         "}\n\nstatic void set_up_once", "memb", "forgets", False),
     "a callback runs twice": (
         "callbacks.c", "        head->func(head);\n",
@@ -108,8 +108,8 @@ FAULTS = {
         "fork.c", "pthread_atfork(0, 0, in_any_child)",
         "pthread_atfork(hold, let_go, in_any_child)", "memb", "handlers", HANGS),
     "a thread that ends is online still": (
-        "threads.c", "    CALL(thread_offline)();\n    give_back_place();",
-        "    give_back_place();", "qsbr", "ends", False),
+        "threads.c", "    CALL(thread_offline)();\n    give_back_slot();",
+        "    give_back_slot();", "qsbr", "ends", False),
     "the thread of a worker that is freed is joined": (
         "workers.c", "sleep_on(&worker_over);\n    let_go();\n",
         "sleep_on(&worker_over);\n    let_go();\n    pthread_join(worker->thread, 0);\n",
@@ -118,7 +118,7 @@ FAULTS = {
         "callbacks.c", "    if (!milliseconds) return;\n", "    return;\n",
         "memb", "gathers", False),
     "who goes offline is waited for": (
-        "readers_by_state.c", "    mark_release();\n    close_seat(self.place);",
+        "readers_by_state.c", "    mark_release();\n    close_seat(self.slot);",
         "    mark_release();", "qsbr", "quiet", HANGS),
     "the line of a misuse is not kept": (
         "base.c", "    keep(line);\n", "", "memb", "misuse", False),

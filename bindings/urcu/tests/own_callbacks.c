@@ -74,7 +74,7 @@ int batches(unsigned n) {
     return 1;
 }
 
-/* A grace period waits for a section of each engine. The threads have places of several. */
+/* A grace period waits for a section of each engine. The threads have slots of several. */
 int engines(unsigned n) {
     enum { THREADS = 16 };
     struct holder holders[THREADS];
@@ -222,7 +222,7 @@ static void *end_late(void *it) {
     return it;
 }
 
-/* Where it was joined before, the program's next thread has its place. */
+/* Where it was joined before, the program's next thread has its slot. */
 int joins(unsigned n) {
     struct call_rcu_data *own = create_call_rcu_data(0, -1);
     pthread_t thread = get_call_rcu_thread(own), next;

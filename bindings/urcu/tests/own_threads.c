@@ -149,7 +149,7 @@ int forgets(unsigned n) {
 #ifndef NO_EXTRAS
     struct urcu_counters counters;
     EXTRA(counters)(&counters);
-    if (counters.threads != 1) return printf("%d places stay taken\n", (int)counters.threads), 0;
+    if (counters.threads != 1) return printf("%d slots stay taken\n", (int)counters.threads), 0;
 #endif
     return freed >= n;
 }

@@ -1,5 +1,5 @@
 """The layer's protocols, as programs of interleavings.py: the steps of each thread as the code
-makes them. The engine is taken at its word: it awaits a place until a quiescent state was passed
+makes them. The engine is taken at its word: it awaits a slot until a quiescent state was passed
 there. For the marks of a step see model.py."""
 from protocols_of_callbacks import PROTOCOLS_OF_CALLBACKS, SECTION
 
@@ -10,30 +10,30 @@ HELD_UP = "a thread that reads again and again holds a grace period up"
 # quiescent state itself.
 WAKE_THE_GP_THREAD = """
     lock
-    wake_requested = 0                    | atomic_store_explicit(&place->wake_requested, false
+    wake_requested = 0                    | atomic_store_explicit(&slot->wake_requested, false
     {passes}
     unlock                                | pthread_mutex_unlock(&all.lock); .. set_busy(-1u);
     signal !                              | pthread_cond_signal(&all.quiet)
 """
 LOOK_FOR_A_REQUEST = """
-    w = wake_requested !                  | atomic_load(&place->wake_requested)
+    w = wake_requested !                  | atomic_load(&slot->wake_requested)
     unless w goto top
 """ + WAKE_THE_GP_THREAD.format(passes="") + """
     goto top
 """
-PASSES = "quiet = 1 !                         | if (BY_WORD) pass_if_out(place);"
+PASSES = "quiet = 1 !                         | if (BY_WORD) pass_if_out(slot);"
 
 
 def reader(fence):
     return f"""
 top:
     maybe over
-    depth = 1 {"%" if fence else ""}      | set_depth(place, 1)
+    depth = 1 {"%" if fence else ""}      | set_depth(slot, 1)
     {fence}
     {SECTION}
-    depth = 0 %       | atomic_store_explicit(&place->depth, 0, memory_order_release)
+    depth = 0 %       | atomic_store_explicit(&slot->depth, 0, memory_order_release)
     {fence}
-    w = wake_requested !                  | atomic_load(&place->wake_requested)
+    w = wake_requested !                  | atomic_load(&slot->wake_requested)
     unless w goto top
     {WAKE_THE_GP_THREAD.format(passes=PASSES)}
     goto top
@@ -50,14 +50,14 @@ again:
     quiet = 0
     {fence} !                             | if (BY_WORD && grace_period) fence_readers()
 look:
-    d = depth !                     | atomic_load_explicit(&place->depth, memory_order_acquire) == 0
+    d = depth !                     | atomic_load_explicit(&slot->depth, memory_order_acquire) == 0
     if d goto looked
-    quiet = 1                             | rcu_seat_repin_unfenced(&place->seat, &number)
+    quiet = 1                             | rcu_seat_repin_unfenced(&slot->seat, &number)
 looked:
     q = quiet
     if q goto done
     maybe look
-    m = swap wake_requested 1 !           | atomic_store(&place->wake_requested, true)
+    m = swap wake_requested 1 !           | atomic_store(&slot->wake_requested, true)
     {fence} {needed}                            | if (BY_WORD) fence_readers()
     d = depth !                           | still_goes_on(engine)
     if d goto sleeps
@@ -91,7 +91,7 @@ top:
     n = number
     if b is last goto top                 | if (likely(begun == self.begun) || !self.online) return;
     last = b                              | self.begun = begun;
-    s = swap own n %                      | rcu_seat_renew_unfenced(&place->seat, &number)
+    s = swap own n %                      | rcu_seat_renew_unfenced(&slot->seat, &number)
     {LOOK_FOR_A_REQUEST.replace("top", "again")}
 again:
     if last is 2 goto stays
@@ -100,8 +100,8 @@ stays:
     maybe ended
     goto top
 over:
-    s = swap own 9 %                      | rcu_seat_unpin(&place->seat)
-    w = wake_requested !                  | close_seat(self.place);
+    s = swap own 9 %                      | rcu_seat_unpin(&slot->seat)
+    w = wake_requested !                  | close_seat(self.slot);
     unless w goto ended
     {WAKE_THE_GP_THREAD.format(passes="")}
 ended:
@@ -110,10 +110,10 @@ ended:
 BY_SEAT = f"""
 top:
     maybe over
-    n = number                            | rcu_seat_wake_unfenced(&place->seat, &number)
+    n = number                            | rcu_seat_wake_unfenced(&slot->seat, &number)
     s = swap own n %
     {SECTION}
-    s = swap own 9 %                      | close_seat(place);
+    s = swap own 9 %                      | close_seat(slot);
     {LOOK_FOR_A_REQUEST}
 over:
 """
@@ -153,7 +153,7 @@ def gp_thread_by_state(needed):
 
 
 
-# ---- a signal handler, which comes at any step of a thread that takes its place, is in a section,
+# ---- a signal handler, which comes at any step of a thread that takes its slot, is in a section,
 # and wakes the gp_thread.
 WITH_HANDLER = f"""
     busy = 1                              | set_busy(1)
@@ -242,14 +242,14 @@ SEAT_WITH_HANDLER = f"""
     told calls = 1
     n = number
     told calls = 0
-    s = swap own n %                      | open_seat(place);
-    depth = 1                             | set_depth(place, 1)
+    s = swap own n %                      | open_seat(slot);
+    depth = 1                             | set_depth(slot, 1)
     busy = 0                              | set_busy(-1u)
     {SECTION}
     busy = 1
     told calls = 1
-    depth = 0 %                           | set_depth(place, 0)
-    s = swap own 9                        | close_seat(place);
+    depth = 0 %                           | set_depth(slot, 0)
+    s = swap own 9                        | close_seat(slot);
     told calls = 0
     busy = 0
 """

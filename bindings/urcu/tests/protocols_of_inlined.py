@@ -4,7 +4,7 @@ from protocols import (BY_STATE, GP_THREAD_OF_HANDLED, GRACE_PERIOD, PASSES, POL
                        WAKE_THE_GP_THREAD, gp_thread, gp_thread_by_state)
 
 WAKES = f"""
-    w = wake_requested !                  | __atomic_load_n(&place->wake_requested, __ATOMIC_SEQ_CST)
+    w = wake_requested !                  | __atomic_load_n(&slot->wake_requested, __ATOMIC_SEQ_CST)
     unless w goto top
     {WAKE_THE_GP_THREAD.format(passes=PASSES)}
     goto top
@@ -14,15 +14,15 @@ WAKES = f"""
 READER = f"""
 top:
     maybe over
-    d = depth                | depth = __atomic_load_n(&place->depth, __ATOMIC_RELAXED);
-    depth = 1 !              | __atomic_store_n(&place->depth, depth + 1, __ATOMIC_RELAXED);
+    d = depth                | depth = __atomic_load_n(&slot->depth, __ATOMIC_RELAXED);
+    depth = 1 !              | __atomic_store_n(&slot->depth, depth + 1, __ATOMIC_RELAXED);
     {SECTION}
     maybe leaves
     depth = 2
-    depth = 1                | __atomic_store_n(&place->depth, depth - 1, __ATOMIC_RELAXED);
+    depth = 1                | __atomic_store_n(&slot->depth, depth - 1, __ATOMIC_RELAXED);
     {SECTION}
 leaves:
-    depth = 0 %              | __atomic_store_n(&place->depth, 0, __ATOMIC_RELEASE);
+    depth = 0 %              | __atomic_store_n(&slot->depth, 0, __ATOMIC_RELEASE);
     {WAKES}
 over:
 """
@@ -31,19 +31,19 @@ READER_BY_CALLS = f"""
 top:
     maybe over
     b = by_system            | is_busy() || self.beside || (BY_WORD && !by_system);
-    if b goto inlined        | if (__builtin_expect(!place, 0)) return false;
+    if b goto inlined        | if (__builtin_expect(!slot, 0)) return false;
     depth = 1
     fence !                  | if (!urcu_enters_(&urcu_##f##_reader_1)) urcu_##f##_read_lock();
 inlined:
     depth = 1
     {SECTION}
-    depth = 0                | if (__builtin_expect(!place, 0)) return URCU_BY_CALL_;
+    depth = 0                | if (__builtin_expect(!slot, 0)) return URCU_BY_CALL_;
     fence                    | else urcu_##f##_read_unlock();
     {WAKES}
 over:
 """
-# A signal handler, which comes at any step of a thread that takes its place and is in a section.
-# While the place is hidden from the inlined sections, the library's calls are made.
+# A signal handler, which comes at any step of a thread that takes its slot and is in a section.
+# While the slot is hidden from the inlined sections, the library's calls are made.
 WITH_HANDLER = f"""
     hidden = 1               | atomic_store_explicit(&self.shown, 0, memory_order_relaxed);
     busy = 1                 | atomic_store_explicit(&self.busy, was + more
@@ -63,12 +63,12 @@ WITH_HANDLER = f"""
     quiet = 1
     unlock
     signal
-    busy = 0                 | memory_order_relaxed); .. show_place();
-    hidden = 0               | by_calls ? 0 : self.place, memory_order_relaxed);
+    busy = 0                 | memory_order_relaxed); .. show_slot();
+    hidden = 0               | by_calls ? 0 : self.slot, memory_order_relaxed);
 over:
 """
 HANDLER = f"""
-    h = hidden !             | *place = __atomic_load_n(&reader->shown, __ATOMIC_RELAXED);
+    h = hidden !             | *slot = __atomic_load_n(&reader->shown, __ATOMIC_RELAXED);
     if h goto call
 inlined:
     d = depth
@@ -117,11 +117,11 @@ NESTS = f"""
     depth = 1
     {SECTION}
     d = depth                | static inline bool urcu_nests_(struct urcu_reader_1 *reader) {{
-    unless d goto wrong      | if (depth) __atomic_store_n(&place->depth, depth + 1
+    unless d goto wrong      | if (depth) __atomic_store_n(&slot->depth, depth + 1
     depth = 2
     {SECTION}
     d = depth                | static inline bool urcu_unnests_(struct urcu_reader_1 *reader) {{
-    if d is 2 goto leaves    | if (depth > 1) __atomic_store_n(&place->depth, depth - 1
+    if d is 2 goto leaves    | if (depth > 1) __atomic_store_n(&slot->depth, depth - 1
 wrong:
     must no: an inner section finds no outer one
 leaves:

@@ -2,7 +2,7 @@
  * signal and bp; in mb those within another one; and in qsbr the quiescent state if no grace period
  * has begun since the latest one. They repeat the steps of the layer's sections.c,
  * readers_by_word.c and readers_by_state.c, on which they rest, and call the library if it shows
- * them no place: in a thread's first section, in a signal handler that comes in the midst of a call,
+ * them no slot: in a thread's first section, in a signal handler that comes in the midst of a call,
  * on a system without membarrier(2). They add no step of their own (tests/model.py). In mb the
  * outermost section is two calls of the proved archive, and no step of those stands here. */
 #ifndef URCU_OVER_RCU_SECTIONS_H
@@ -13,26 +13,26 @@ extern "C" {
 #endif
 
 #if defined(_LGPL_SOURCE) || defined(URCU_INLINE_SECTIONS)
-/* The first words of a thread's place and of what it has. The library's sections.c compares them
+/* The first words of a thread's slot and of what it has. The library's sections.c compares them
  * with its own. A program that was built by them needs a library with the same, so the names of
  * what it reads end in a number, which changes with them. */
-struct urcu_place_1 {
+struct urcu_slot_1 {
     void *seat;
     unsigned long depth;
     bool wake_requested;
 };
 struct urcu_reader_1 {
-    struct urcu_place_1 *shown; /* null if the library's calls open and close the sections */
+    struct urcu_slot_1 *shown; /* null if the library's calls open and close the sections */
     unsigned long begun;        /* qsbr: the grace period of the latest quiescent state */
 };
 
 /* Returns false if the library's call has to open the section. */
 static inline bool urcu_enters_(struct urcu_reader_1 *reader) {
-    struct urcu_place_1 *place = __atomic_load_n(&reader->shown, __ATOMIC_RELAXED);
+    struct urcu_slot_1 *slot = __atomic_load_n(&reader->shown, __ATOMIC_RELAXED);
     unsigned long depth;
-    if (__builtin_expect(!place, 0)) return false;
-    depth = __atomic_load_n(&place->depth, __ATOMIC_RELAXED);
-    __atomic_store_n(&place->depth, depth + 1, __ATOMIC_RELAXED);
+    if (__builtin_expect(!slot, 0)) return false;
+    depth = __atomic_load_n(&slot->depth, __ATOMIC_RELAXED);
+    __atomic_store_n(&slot->depth, depth + 1, __ATOMIC_RELAXED);
     __atomic_signal_fence(__ATOMIC_SEQ_CST);
     return true;
 }
@@ -42,32 +42,32 @@ enum urcu_exit_ { URCU_LEFT_, URCU_LEFT_AWAITED_, URCU_BY_CALL_ };
 /* Says whether a grace period waits for this section's end, or that the library's call has to
  * close it. */
 static inline enum urcu_exit_ urcu_exits_(struct urcu_reader_1 *reader) {
-    struct urcu_place_1 *place = __atomic_load_n(&reader->shown, __ATOMIC_RELAXED);
+    struct urcu_slot_1 *slot = __atomic_load_n(&reader->shown, __ATOMIC_RELAXED);
     unsigned long depth;
-    if (__builtin_expect(!place, 0)) return URCU_BY_CALL_;
-    depth = __atomic_load_n(&place->depth, __ATOMIC_RELAXED);
+    if (__builtin_expect(!slot, 0)) return URCU_BY_CALL_;
+    depth = __atomic_load_n(&slot->depth, __ATOMIC_RELAXED);
     if (__builtin_expect(depth != 1, 0)) {
         if (!depth) return URCU_BY_CALL_; /* which ends the process with a line */
-        __atomic_store_n(&place->depth, depth - 1, __ATOMIC_RELAXED);
+        __atomic_store_n(&slot->depth, depth - 1, __ATOMIC_RELAXED);
         return URCU_LEFT_;
     }
-    __atomic_store_n(&place->depth, 0, __ATOMIC_RELEASE);
+    __atomic_store_n(&slot->depth, 0, __ATOMIC_RELEASE);
     __atomic_signal_fence(__ATOMIC_SEQ_CST);
-    return __atomic_load_n(&place->wake_requested, __ATOMIC_SEQ_CST) ? URCU_LEFT_AWAITED_ : URCU_LEFT_;
+    return __atomic_load_n(&slot->wake_requested, __ATOMIC_SEQ_CST) ? URCU_LEFT_AWAITED_ : URCU_LEFT_;
 }
 
 /* Enter and leave a section within another one. Return false if the library's call has to. */
 static inline bool urcu_nests_(struct urcu_reader_1 *reader) {
-    struct urcu_place_1 *place = __atomic_load_n(&reader->shown, __ATOMIC_RELAXED);
-    unsigned long depth = place ? __atomic_load_n(&place->depth, __ATOMIC_RELAXED) : 0;
-    if (depth) __atomic_store_n(&place->depth, depth + 1, __ATOMIC_RELAXED);
+    struct urcu_slot_1 *slot = __atomic_load_n(&reader->shown, __ATOMIC_RELAXED);
+    unsigned long depth = slot ? __atomic_load_n(&slot->depth, __ATOMIC_RELAXED) : 0;
+    if (depth) __atomic_store_n(&slot->depth, depth + 1, __ATOMIC_RELAXED);
     return depth != 0;
 }
 
 static inline bool urcu_unnests_(struct urcu_reader_1 *reader) {
-    struct urcu_place_1 *place = __atomic_load_n(&reader->shown, __ATOMIC_RELAXED);
-    unsigned long depth = place ? __atomic_load_n(&place->depth, __ATOMIC_RELAXED) : 0;
-    if (depth > 1) __atomic_store_n(&place->depth, depth - 1, __ATOMIC_RELAXED);
+    struct urcu_slot_1 *slot = __atomic_load_n(&reader->shown, __ATOMIC_RELAXED);
+    unsigned long depth = slot ? __atomic_load_n(&slot->depth, __ATOMIC_RELAXED) : 0;
+    if (depth > 1) __atomic_store_n(&slot->depth, depth - 1, __ATOMIC_RELAXED);
     return depth > 1;
 }
 
