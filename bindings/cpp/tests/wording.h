@@ -47,7 +47,7 @@ inline void take_request_back() {
     dom.unlock();
 }
 
-// Whether the gp_thread waits for the calling thread, which is in a region.
+// Returns true if the gp_thread waits for the calling thread, which is in a region.
 inline const bool* own_request() { return &urcu_cpp_self.shown->wake_requested; }
 inline bool is_set(const bool* it) { return __atomic_load_n(it, __ATOMIC_SEQ_CST); }
 

@@ -1,5 +1,5 @@
-/* The seat of a slot. In memb, signal and bp it is who holds the lock that makes the calls on it;
- * in mb and qsbr it is the thread itself, with no lock.
+/* The seat of a slot. In memb, signal and bp the thread that holds the lock makes the calls on it;
+ * in mb and qsbr the slot's own thread does, with no lock.
  *
  * It rests on these sentences of include/rcu.h: of rcu_begin, "of each section one of two holds:
  * all of it comes before what follows the end of this grace period, or it sees what came before

@@ -53,8 +53,7 @@ impl<A: Awaited> Core<A, u64> {
     }
 
     /// Returns how many events end the running grace period by [`Core::next_retiring_event`]; 0 if
-    /// none runs. No way of exits, steps to idle, scans and an end is shorter. It costs a step a
-    /// processor.
+    /// none runs. It costs a step a processor.
     pub fn steps_left(&self) -> u64
         ensures { (h : History) → Represents self.now h → result ≡ steps_out (size_at self.now) h }
     {
