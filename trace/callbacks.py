@@ -1,4 +1,5 @@
 """Callbacks: what they wait for, when they are invoked, and the barrier."""
+import collections
 import re
 
 from comparison import snapshot
@@ -24,7 +25,9 @@ class Callbacks:
         self.ids = 0
         self.queued = {}  # of a callback's address: its id (0: in no list), its cookie, the event
         self.left = set()  # ids that Linux has invoked, of a list that the engine moved
-        self.handed = []  # ids that the engine handed out, and Linux has not invoked yet
+        self.queued_on = {}  # of each id in a list: the CPU that queued it
+        # Of each such CPU: the ids, in order, that the engine handed out and Linux did not invoke.
+        self.handed = collections.defaultdict(dict)
         # Of a CPU that went offline: the last id that was queued before. The engine moved its list
         # to CPU 0; Linux moves it to another CPU, or leaves it if the callbacks are offloaded.
         self.moved = {}
@@ -71,6 +74,7 @@ class Callbacks:
             return
         self.ids += 1
         self.queued[address] = self.ids, self.take(event), event
+        self.queued_on[self.ids] = cpu
         self.want(f"queue {cpu} {self.ids}", "callbacks queued", event, f"queued {self.ids}",
                   "a callback is queued")
         self.say(f"tend {cpu}")
@@ -84,7 +88,10 @@ class Callbacks:
     def hand_out_list(self, cpu, kind, event):
         def take_ids(reply):
             ids = [int(it) for it in reply.split()[1:] if it != "none"]
-            self.handed.extend(it for it in ids if it not in self.left)
+            for it in ids:
+                cpu = self.queued_on.pop(it)
+                if it not in self.left:
+                    self.handed[cpu][it] = True
             self.left.difference_update(ids)
         self.say(f"tend {cpu}")
         self.say(f"run {cpu} 1000000", kind, event, take_ids)
@@ -124,34 +131,33 @@ class Callbacks:
                   f"{words}, before grace period {waits_for} has ended")
         is_moved = 0 < number <= self.moved.get(at.cpu, 0)
         if is_moved and INVOKES.match(event.task) and list_of(event) == at.cpu:
-            self.say("", None, event, lambda _: self.leave(number))
+            self.say("", None, event, lambda _: self.leave(at.cpu, number))
         elif number:
             if is_moved and list_of(event) != 0:
                 self.hand_out_list(0, None, event)
             if INVOKES.match(event.task) and not event.context:
                 self.hand_out_list(event.cpu, None, event)  # (it may be a softirq there)
             self.say("", "callbacks handed out", event,
-                     lambda _: None if number in self.handed else
+                     lambda _: None if number in self.handed[at.cpu] else
                      f"{words} on CPU {at.cpu}; in the engine's list it still waits, for grace "
                      f"period {waits_for} or a later one")
-            self.say("", None, event, lambda _: self.note_order(event.cpu, number))
+            self.say("", "orders of callbacks", event,
+                     lambda _: self.misordered(at.cpu, number, words))
 
-    def leave(self, number):
+    def leave(self, cpu, number):
         """An offloaded callback of a CPU that went offline: Linux left it on its list, and the
         engine's list, to which it moved, may hold it for longer."""
         self.seen["offloaded callbacks invoked of a CPU that went offline"] += 1
-        if number in self.handed:
-            self.handed.remove(number)
-        else:
+        if not self.handed[cpu].pop(number, False):
             self.left.add(number)
 
-    def note_order(self, cpu, number):
-        """Whether Linux's order is that of the engine's lists (it is another one after a
-        migration)."""
-        ordered = not self.handed or self.handed[0] == number
-        self.seen["callbacks in " + ("the order of the engine's lists" if ordered else
-                                     "another order")] += 1
-        self.handed.remove(number)
+    def misordered(self, cpu, number, words):
+        """A CPU's callbacks are invoked in the order in which it queued them. Those that were moved
+        away as it went offline are invoked apart from its later ones."""
+        apart = self.moved.get(cpu, 0)
+        first = next(it for it in self.handed[cpu] if it > apart or number <= apart)
+        del self.handed[cpu][number]
+        return f"{words}, before one that CPU {cpu} queued earlier" if first < number else None
 
     # ---- waiting for callbacks, and for readers
 

@@ -124,6 +124,26 @@ def bring_batch_forward(lines, number, event):
     lines[at:at] = taken
 
 
+def callbacks_change_places(lines, number):
+    """A CPU's callback is invoked before one that it queued earlier."""
+    _, end = period(lines, number)
+    queued = {re.search(r"rhp=\w+", lines[at])[0]: cpu_of(lines[at])
+              for at in find(lines, r"rcu_callback: ", 0, end)}
+    last = {}
+    for at in find(lines, r"rcu_invoke_callback: ", end):
+        address = re.search(r"rhp=\w+", lines[at])[0]
+        if address not in queued:
+            continue
+        before = last.get(queued[address])
+        if before is not None and cpu_of(lines[before]) == cpu_of(lines[at]):
+            one, other = (lines[it].split("rcu_invoke_callback: ") for it in (before, at))
+            lines[before] = "rcu_invoke_callback: ".join((one[0], other[1]))
+            lines[at] = "rcu_invoke_callback: ".join((other[0], one[1]))
+            return
+        last[queued[address]] = at
+    raise StopIteration  # (no two callbacks come one after another)
+
+
 def report_is_late(lines, number):
     """A report of this grace period comes only in the next one."""
     at = leaf_reports(lines, number)[0]
@@ -254,6 +274,7 @@ PLANTS = {
     online_cpu_is_forgotten: "the engine alone waits for CPU",
     inner_mask_lacks_a_child: "and its children's masks make",
     callback_is_early: "before grace period .* has ended|still waits, for grace period",
+    callbacks_change_places: "before one that CPU .* queued earlier",
     report_is_late: "still waits for|hears that CPUs|takes a report for grace period",
     report_is_repeated: "for which the engine does not wait",
     report_has_an_old_number: "takes a report for grace period",
