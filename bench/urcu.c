@@ -1,6 +1,7 @@
 /* Nanoseconds of each call of liburcu's interface, for one flavour: bench/urcu builds it over the
  * drop-in and over liburcu itself. A row is a name and a figure: of one thread its own time on a
- * processor, of four what one of them spends. */
+ * processor, of four what one of them spends. The rows behind bytes-of-a-slot are measured after
+ * 4,096 threads have registered, and left. */
 #define _GNU_SOURCE
 #ifdef USE_QSBR
 #include <urcu-qsbr.h>
@@ -129,7 +130,7 @@ static int compare(const void *one, const void *other) {
 
 /* The median of single calls. On a busy machine too it is that of calls whose readers ran: the mean
  * is made by those calls that waited until a reader was scheduled again. */
-static void median_of_calls(void) {
+static void median_of_calls(const char *when) {
     static unsigned long took[20000];
     double begun = wall_time();
     unsigned long first = __builtin_ia32_rdtsc();
@@ -141,19 +142,20 @@ static void median_of_calls(void) {
     }
     double ticks = (double)(__builtin_ia32_rdtsc() - first);
     qsort(took, (size_t)n, sizeof *took, compare);
-    printf("median-synchronize-beside-3 %.3f\n",
+    printf("median-synchronize-beside-3%s %.3f\n", when,
            (double)took[n / 2] * (wall_time() - begun) / ticks);
 }
 
-static void beside_readers(void) {
+static void beside_readers(const char *when) {
     pthread_t threads[3];
+    uatomic_set(&over, 0);
     for (int i = 0; i < 3; i++) pthread_create(&threads[i], 0, read_on, 0);
     usleep(20000);
     double begun = wall_time();
     long n = 0;
     for (; n < 20 || (n < 20000 && wall_time() - begun < 2e8); n++) synchronize_rcu();
-    printf("synchronize-beside-3-readers %.3f\n", (wall_time() - begun) / (double)n);
-    median_of_calls();
+    printf("synchronize-beside-3-readers%s %.3f\n", when, (wall_time() - begun) / (double)n);
+    median_of_calls(when);
     uatomic_set(&over, 1);
     for (int i = 0; i < 3; i++) pthread_join(threads[i], 0);
 }
@@ -199,6 +201,12 @@ static void of_memory(void) {
 int main(void) {
     heads = calloc((size_t)THREADS * CALLS, sizeof *heads);
     memset(heads, 1, (size_t)THREADS * CALLS * sizeof *heads);
+    rcu_register_thread();
+    MEASURE("synchronize-alone-at-first", 20000, synchronize_rcu());
+    offline();
+    beside_readers("-at-first");
+    online();
+    rcu_unregister_thread();
     of_memory();
     rcu_register_thread();
     MEASURE("section", 3000000, rcu_read_lock(); rcu_read_unlock());
@@ -220,7 +228,7 @@ int main(void) {
     MEASURE("defer_rcu", 200000, defer_rcu(nothing_of, 0));
     rcu_defer_unregister_thread();
     of_four_threads();
-    beside_readers();
+    beside_readers("");
     online();
     rcu_unregister_thread();
     return 0;
