@@ -56,7 +56,7 @@ static bool goes_on(struct engine *engine, void (*visit)(struct slot *slot)) {
 }
 
 static bool begin(struct engine *engine) {
-    if (BY_WORD) close_free_slots(engine);
+    depart_free_slots(engine);
     engine->cookie = rcu_take(&engine->rcu);
     return goes_on(engine, 0);
 }

@@ -193,7 +193,7 @@ void restore_online(bool was_online);
 /* slots.c */
 void take_slot(const void *registered_at);
 void give_back_slot(void);
-void close_free_slots(struct engine *engine);
+void depart_free_slots(struct engine *engine);
 
 /* sections.c or readers_by_state.c */
 void stay_as_in(struct slot *old);

@@ -2,13 +2,14 @@
  * many processors as the last one, up to LARGEST_ENGINE: so each thread that comes finds a slot,
  * and few are opened in vain. The oldest engines are the smallest, and are filled first: so few and
  * small ones are in a grace period. A seat is opened when its first thread comes. All stay open
- * until the process ends.
+ * until the process ends; a grace period takes those offline whose slots are free.
  *
  * It rests on these sentences of include/rcu.h: of rcu_seat_idle, "it opens no section, and no
  * grace period waits for it", and "what the thread did before comes before what follows the
  * collection or the begin that finds it idle"; of rcu_seat_wake, "a grace period that begins later
  * awaits the processor", and of one that found it idle "the section sees what came before its
- * begin". It adds: that a slot is one thread's at a time, from taking it to giving it back. */
+ * begin"; and of rcu_arrive, "a grace period that begins later awaits the processor". It adds: that
+ * a slot is one thread's at a time, from taking it to giving it back. */
 #include "seats.h"
 #include <sys/mman.h>
 #include <sys/syscall.h>
@@ -36,15 +37,23 @@ static struct engine *engine_with_room(void) {
     return *at;
 }
 
-/* The seat of processor 0 is online at first, and is the first that is opened. */
+/* The seat of processor 0 is the first that is opened, and is online always. */
+static bool is_of_cpu_0(const struct slot *slot) {
+    return slot == slot->engine->slots;
+}
+
 static struct slot *new_slot(struct engine *engine) {
     uint32_t cpu = engine->opened++;
     struct slot *slot = &engine->slots[cpu];
     must("open a seat", rcu_seat_open(&engine->rcu, cpu, &slot->seat));
-    if (cpu != 0) must("arrive", rcu_arrive(&engine->rcu, &slot->seat));
-    must("idle", rcu_seat_idle(&slot->seat));
     slot->engine = engine;
+    if (is_of_cpu_0(slot)) must("idle", rcu_seat_idle(&slot->seat));
     return slot;
+}
+
+static void arrive(struct slot *slot) {
+    must("arrive", rcu_arrive(&slot->engine->rcu, &slot->seat));
+    must("idle", rcu_seat_idle(&slot->seat));
 }
 
 static void take_free_slot(const void *registered_at) {
@@ -52,6 +61,7 @@ static void take_free_slot(const void *registered_at) {
     struct slot *slot = engine->free_slots;
     if (slot) engine->free_slots = slot->next;
     else slot = new_slot(engine);
+    if (!rcu_seat_is_online(&slot->seat)) arrive(slot);
     if (!engine->taken++) all.used++;
     if (!self.thread) self.thread = (int)syscall(SYS_gettid);
     slot->thread = self.thread;
@@ -68,26 +78,41 @@ void take_slot(const void *registered_at) {
     let_go();
 }
 
-/* With the lock held, before a grace period begins: it waits for no free slot. By word a thread
- * leaves its seat as it is, open, so that the next one to register makes no call on it. The open
- * ones are the first in the list. */
-void close_free_slots(struct engine *engine) {
+/* With the lock held, before a grace period begins: it looks at no free slot but that of processor
+ * 0, so its cost follows the threads that are there. A thread that ends leaves its seat online, and
+ * by word open, so that the next one to register makes no call on it. The first slots in the list
+ * are the online ones. */
+void depart_free_slots(struct engine *engine) {
     struct slot *slot = engine->free_slots;
-    for (; slot && !rcu_seat_is_idle(&slot->seat); slot = slot->next) close_seat(slot);
+    uint64_t moved;
+    for (; slot && rcu_seat_is_online(&slot->seat); slot = slot->next) {
+        if (!rcu_seat_is_idle(&slot->seat)) close_seat(slot);
+        if (!is_of_cpu_0(slot)) must("depart", rcu_depart(&engine->rcu, &slot->seat, &moved));
+    }
+}
+
+/* The slot of processor 0 is the first in the list: it costs a grace period as much when free. */
+static void free_slot(struct slot *slot) {
+    struct slot **first = &slot->engine->free_slots;
+    if (*first && is_of_cpu_0(*first)) first = &(*first)->next;
+    slot->next = *first;
+    *first = slot;
 }
 
 /* The thread's end, or its word that it ends. A thread that ends in a section, as by its
- * cancellation, reads no more. */
+ * cancellation, reads no more. Relaxed: the lock orders the slot's words, and the gp_thread, which
+ * may sleep until this reader is quiet, looks at them under it. */
 void give_back_slot(void) {
     struct slot *slot = self.slot;
     if (!slot) return;
-    hold(); /* the gp_thread walks the slots under it */
+    hold();
     if (!BY_WORD && !rcu_seat_is_idle(&slot->seat)) close_seat(slot);
-    atomic_store_explicit(&slot->depth, 0, memory_order_relaxed); /* the lock orders it */
-    slot->next = slot->engine->free_slots;
-    slot->engine->free_slots = slot;
+    atomic_store_explicit(&slot->depth, 0, memory_order_relaxed);
+    bool asked = atomic_load_explicit(&slot->wake_requested, memory_order_relaxed);
+    atomic_store_explicit(&slot->wake_requested, false, memory_order_relaxed);
+    free_slot(slot);
     if (!--slot->engine->taken) all.used--;
     self.slot = 0;
     let_go();
-    got_quiet(slot); /* a grace period may sleep until this reader is quiet */
+    if (asked) pthread_cond_signal(&all.quiet);
 }

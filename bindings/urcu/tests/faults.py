@@ -124,6 +124,9 @@ FAULTS = {
         "base.c", "    keep(line);\n", "", "memb", "misuse", False),
     "a daemon's misuse is not heard": (
         "lines.c", "!is_heard(STDERR_FILENO) || ", "", "memb", "misuse", False),
+    "a thread that ends in a section wakes nobody": (
+        "slots.c", "    if (asked) pthread_cond_signal(&all.quiet);\n", "    (void)asked;\n",
+        "memb", "cancels", HANGS),
     "a cancelled wait keeps the lock": (
         "base.c",
         "    pthread_setcancelstate(PTHREAD_CANCEL_DISABLE, &was);\n    answer = ",

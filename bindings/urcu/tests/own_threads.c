@@ -32,7 +32,7 @@ int sections(unsigned n) {
 }
 
 static int waiting;
-static void *wait_once(void *it) {
+static void *wait_for_one(void *it) {
     synchronize_rcu();
     uatomic_set(&waiting, 0);
     return it;
@@ -46,7 +46,7 @@ int waits(unsigned n) {
     for (int round = 0; round < 3; round++) {
         open_section(&holder);
         uatomic_set(&waiting, 1);
-        if (pthread_create(&waiter, 0, wait_once, 0)) return 0;
+        if (pthread_create(&waiter, 0, wait_for_one, 0)) return 0;
         rest(30);
         if (!uatomic_read(&waiting)) return puts("a wait ended before the section"), 0;
         close_section(&holder);
@@ -79,7 +79,7 @@ int nests(unsigned n) {
     if (pthread_create(&thread, 0, nest, 0)) return 0;
     while (!uatomic_read(&inner)) usleep(100);
     uatomic_set(&waiting, 1);
-    if (pthread_create(&waiter, 0, wait_once, 0)) return 0;
+    if (pthread_create(&waiter, 0, wait_for_one, 0)) return 0;
     rest(30);
     int waited = uatomic_read(&waiting);
     uatomic_set(&inner, 2);
@@ -170,7 +170,7 @@ static void *sleep_in_a_section(void *it) {
 /* Threads that are cancelled in a wait, and in a section. */
 int cancels(unsigned n) {
     struct holder holder;
-    pthread_t waiter, reader;
+    pthread_t waiter, reader, other;
     (void)n;
     open_section(&holder);
     if (pthread_create(&waiter, 0, wait_for_ever, 0)) return 0;
@@ -181,8 +181,11 @@ int cancels(unsigned n) {
     end_holder(&holder);
     if (pthread_create(&reader, 0, sleep_in_a_section, 0)) return 0;
     while (uatomic_read(&waiting) != 2) usleep(100);
+    if (pthread_create(&other, 0, wait_for_one, 0)) return 0;
+    rest(20); /* so that it sleeps until the reader ends */
     pthread_cancel(reader);
     pthread_join(reader, 0);
+    pthread_join(other, 0);
     for (int i = 0; i < 100; i++) synchronize_rcu();
     pthread_cancel(waiter); /* it may have been in no call that ends by it */
     return 1;
