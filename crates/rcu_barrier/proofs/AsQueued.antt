@@ -1,10 +1,11 @@
 -- A callback stays as it was queued.
-use Rattle.std.proofs.Common.{◌≡◌, ℕ, zero, suc, ◌+◌, ◌≤◌, Bool, true, false, List, [], ◌∷◌, Some}
-use Rattle.std.proofs.Common.{refl, sym, subst, arith, cond, ne_eqb, eq-eqb, set, get_or, length}
+use Rattle.std.proofs.Common.{◌≡◌, ℕ, zero, suc, ◌+◌, ◌<◌, ◌≤◌, Bool, true, false, List, []}
+use Rattle.std.proofs.Common.{◌∷◌, Some, refl, sym, subst, arith, cond, ne_eqb, eq-eqb, set}
+use Rattle.std.proofs.Common.{get_or, length}
 use Rattle.std.specs.Prelude.{slice_get, replicate, ◌==◌}
 use Rattle.rcu_cblist.specs.declared.items.Queued.{Queued}
-use Rattle.rcu_cblist.specs.SegList.{Item, Of, Unmarked, after_entrain, after_migrate, after_take}
-use Rattle.rcu_cblist.specs.SegList.{as_it_leaves, mark_renumbered, take_answer}
+use Rattle.rcu_cblist.specs.SegList.{Item, Of, Marker, Unmarked, after_entrain, after_migrate}
+use Rattle.rcu_cblist.specs.SegList.{after_take, as_it_leaves, mark_renumbered, take_answer}
 use Rattle.rcu_barrier.specs.Tending.{after_tend, mark_after_tend}
 use Rattle.rcu_barrier.specs.Lists.{AllLists, barrier_left, is_visited, list_of, owes_visit}
 use Rattle.rcu_barrier.specs.Lists.{with_list}
@@ -13,6 +14,8 @@ use Rattle.rcu_barrier.specs.Runs.{Run, Migrate, BarrierBegin, Visit, BarrierTes
 use Rattle.rcu_barrier.proofs.EachCallback.{Each, at_set, each-append, each-from, each-leaving}
 use Rattle.rcu_barrier.proofs.EachCallback.{each-moved, each-remarked, each-taken, each-weaker}
 use Rattle.rcu_barrier.proofs.EachCallback.{renumbered_at}
+use Rattle.rcu_barrier.proofs.Led.{AtMost}
+use Rattle.rcu_barrier.proofs.Places.{lies}
 
 module _ {X : Type 0} where
   -- a fact of each callback of all lists
@@ -77,6 +80,7 @@ module _ {X : Type 0} where
 
   -- the callback was queued, and is as it was then
   record AsQueued (first : AllLists X) (calls : List (Call X)) (call : Queued X) : Type 0 where
+    pub some : 0 < call.ord
     pub was : call.ord ≤ (lists_after first calls).queued
     pub found : queued_as call.ord first calls ≡ Some call
 
@@ -95,21 +99,21 @@ module _ {X : Type 0} where
   still first (Queue cpu at value) calls q a =
       let all = lists_after first calls in let w = a.was in
       let other = ne_eqb (all.queued + 1) q.ord (λ i. absurd (omega (arith, i, w))) in
-      record { was = omega (arith, w); found = rw other a.found }
-  still first (Tend cpu number) calls q a = record { was = a.was; found = a.found }
-  still first (Run cpu most) calls q a = record { was = a.was; found = a.found }
-  still first (Migrate cpu) calls q a = record { was = a.was; found = a.found }
-  still first BarrierBegin calls q a = record { was = a.was; found = a.found }
+      record { some = a.some; was = omega (arith, w); found = rw other a.found }
+  still first (Tend cpu number) calls q a = record { some = a.some; was = a.was; found = a.found }
+  still first (Run cpu most) calls q a = record { some = a.some; was = a.was; found = a.found }
+  still first (Migrate cpu) calls q a = record { some = a.some; was = a.was; found = a.found }
+  still first BarrierBegin calls q a = record { some = a.some; was = a.was; found = a.found }
   still first (Visit cpu) calls q a =
       let all = lists_after first calls in let w = a.was in
       let same = queued_more all (set all.visited cpu true)
       (set all.lists cpu (after_entrain (list_of all cpu))) (is_visited all cpu) in
-      record { was = omega (arith, w, same); found = a.found }
+      record { some = a.some; was = omega (arith, w, same); found = a.found }
   still first BarrierTest calls q a =
       let all = lists_after first calls in let w = a.was in
       let same = tested_more all (barrier_left all == 0) in
-      record { was = omega (arith, w, same); found = a.found }
-  still first Renumber calls q a = record { was = a.was; found = a.found }
+      record { some = a.some; was = omega (arith, w, same); found = a.found }
+  still first Renumber calls q a = record { some = a.some; was = a.was; found = a.found }
 
   now_queued : (first : AllLists X) (call : Call X) (calls : List (Call X)) (cpu : ℕ) (at : _)
       (value : X)
@@ -119,7 +123,7 @@ module _ {X : Type 0} where
   now_queued first call calls cpu at value is =
       let n = (lists_after first calls).queued + 1 in
       subst (λ c. AsQueued first (c ∷ calls) (record { ord = n; at = at; value = value })) (sym is)
-      (record { was = omega arith; found = rw (eq-eqb n n refl) refl })
+      (record { some = omega arith; was = omega arith; found = rw (eq-eqb n n refl) refl })
 
   all_as_queued : (first : AllLists X) (calls : List (Call X)) → IsNew first
       → EachOf (AsQueued first calls) (lists_after first calls).lists
@@ -133,6 +137,28 @@ module _ {X : Type 0} where
       (λ cpu at value is. now_queued first call calls cpu at value is)
       (λ c. each-weaker (AsQueued first calls) (AsQueued first (call ∷ calls))
       (λ q a. still first call calls q a) (list_of all c) (old c))
+
+  -- its place is at most the number of those queued, and at least 1
+  pub each_at_most : (first : AllLists X) (calls : List (Call X)) → IsNew first → (c : ℕ)
+      → Each (AtMost (lists_after first calls).queued) (list_of (lists_after first calls) c)
+  each_at_most first calls new c =
+      each-weaker (AsQueued first calls) (AtMost (lists_after first calls).queued) (λ q a. a.was)
+      (list_of (lists_after first calls) c) (all_as_queued first calls new c)
+
+  pub none_at_zero : (first : AllLists X) (calls : List (Call X)) → IsNew first → (c : ℕ)
+      → lies 0 (list_of (lists_after first calls) c) ≡ 0
+  none_at_zero first calls new c =
+      none (list_of (lists_after first calls) c)
+      (each-weaker (AsQueued first calls) (λ q. 0 < q.ord) (λ q a. a.some)
+      (list_of (lists_after first calls) c) (all_as_queued first calls new c))
+    where
+      none : (xs : List (Item X)) → Each (λ q. 0 < q.ord) xs → lies 0 xs ≡ 0
+      none [] a = refl
+      none (Marker ∷ xs) a = none xs a
+      none (Of call mark ∷ xs) a =
+          let i = none xs a.1 in
+          let n = ne_eqb call.ord 0 (λ e. absurd (let z = a.0 in omega (arith, e, z))) in
+          rw n (omega (arith, i))
 
   pub handed_was_queued : (first : AllLists X) (calls : List (Call X)) (cpu most at : ℕ)
       (handed : Queued X)

@@ -3,7 +3,7 @@
 use Rattle.std.proofs.Common.{◌≡◌, ◌≢◌, ℕ, zero, suc, ◌+◌, ◌<◌, ◌≤◌, Bool, true, false, not, List}
 use Rattle.std.proofs.Common.{[], ◌∷◌, ◌++◌, refl, sym, ap, ◌∙◌, arith, cond, eqb, length, set}
 use Rattle.std.proofs.Common.{get_or}
-use Rattle.std.specs.Prelude.{replicate, ◌==◌, if◌then◌else◌}
+use Rattle.std.specs.Prelude.{replicate, ◌==◌, if◌then◌else◌, sum_by}
 use Rattle.std.proofs.lemmas.Bool.{eqb-true}
 use Rattle.std.proofs.lemmas.List.{length-replicate, length-set, length-map}
 use Rattle.std.proofs.lemmas.List.Sums.{get_or-le-sum_by, sum_by-cons}
@@ -21,7 +21,7 @@ use Rattle.rcu_barrier.specs.declared.lists.BarrierState.TheVariants as state
 use Rattle.rcu_barrier.proofs.Covering.{Covered, covered-append, covered-entrained, covered-from}
 use Rattle.rcu_barrier.proofs.Covering.{covered-leaving, covered-moved, covered-remarked, none_left}
 use Rattle.rcu_barrier.proofs.EachCallback.{at_set, renumbered_at}
-use Rattle.rcu_barrier.proofs.Once.{listed, once_each}
+use Rattle.rcu_barrier.proofs.Once.{once_each}
 use Rattle.rcu_barrier.proofs.Places.{lies}
 
 set_flag : (flags : List Bool) (i c : ℕ) → c ≢ i → get_or (set flags i true) c false ≡ true
@@ -189,14 +189,20 @@ module _ {X : Type 0} where
   barrier_each first (call ∷ calls) new is =
       barrier_step first call calls is.0 (barrier_each first calls new is.1)
 
-  none_listed : (j : ℕ) (lists : List (List (Item X)))
-      → ((c : ℕ) → c < length lists → lies j (get_or lists c []) ≡ 0) → listed j lists ≡ 0
-  none_listed j [] h = refl
-  none_listed j (xs ∷ lists) h =
+  pub none_in : (f : List (Item X) → ℕ) (lists : List (List (Item X)))
+      → ((c : ℕ) → c < length lists → f (get_or lists c []) ≡ 0) → sum_by f lists ≡ 0
+  none_in f [] h = refl
+  none_in f (xs ∷ lists) h =
       let a = h 0 (omega arith) in
-      let b = none_listed j lists (λ c l. h (suc c) (omega (arith, l))) in
-      let s = sum_by-cons (lies j) xs lists in
+      let b = none_in f lists (λ c l. h (suc c) (omega (arith, l))) in
+      let s = sum_by-cons f xs lists in
       omega (arith, a, b, s)
+
+  -- each list has a flag
+  pub as_many_flags : (first : AllLists X) (calls : List (Call X)) → IsNew first
+      → IsRun first calls
+      → length (lists_after first calls).visited ≡ length (lists_after first calls).lists
+  as_many_flags first calls new is = (barrier_each first calls new is).sized
 
   handed_once : (first : AllLists X) (calls : List (Call X)) (j : ℕ)
       → IsNew first
@@ -212,7 +218,7 @@ module _ {X : Type 0} where
       let o = (once_each j first calls new is.1).there z (omega (arith, k, b)) in
       let u : unvisited all.visited ≡ 0 = omega (arith, over) in
       let m : markers_in all.lists ≡ 0 = omega (arith, over) in
-      let none = none_listed j all.lists (λ c l.
+      let none = none_in (lies j) all.lists (λ c l.
       let seen = all_visited all.visited u c (omega (arith, l, f.sized)) in
       let le = get_or-le-sum_by markers all.lists c [] l in
       none_left (queued_before_barrier first calls) j (list_of all c) (f.covered is.0 c seen)

@@ -196,7 +196,7 @@ module _ {X : Type 0} where
   tested_length all true = refl
   tested_length all false = refl
 
-  as_many : (all : AllLists X) (call : Call X)
+  pub as_many : (all : AllLists X) (call : Call X)
       → length (after_call all call).lists ≡ length all.lists
   as_many all (Queue cpu at value) = length-set all.lists cpu _
   as_many all (Tend cpu number) = length-set all.lists cpu _
@@ -273,7 +273,7 @@ module _ {X : Type 0} where
   tested_queued all true = refl
   tested_queued all false = refl
 
-  queued_up : (all : AllLists X) (call : Call X) → all.queued ≤ (after_call all call).queued
+  pub queued_up : (all : AllLists X) (call : Call X) → all.queued ≤ (after_call all call).queued
   queued_up all (Queue cpu at value) = omega arith
   queued_up all (Tend cpu number) = omega arith
   queued_up all (Run cpu most) = omega arith

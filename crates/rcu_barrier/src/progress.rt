@@ -1,12 +1,15 @@
-//! The steps after which a callback is handed out, in every run of calls on the lists, by any
-//! callers.
-ghost use Rattle.std.specs.Prelude.{◌≡◌, ◌<◌, ◌≤◌, ◌∷◌, ◌++◌, ℕ, List, false, length};
+//! The steps after which a callback is handed out, and after which a barrier is done, in every run
+//! of calls on the lists, by any callers.
+ghost use Rattle.std.specs.Prelude.{◌≡◌, ◌<◌, ◌≤◌, ◌∷◌, ◌++◌, ℕ, List, false, length, true};
 ghost use Rattle.std.specs.List.{list_any};
 ghost use Rattle.rcu_seq.specs.Numbers.{snapshot};
 ghost use Rattle.rcu_cblist.specs.SegList.{IsAtMost, behind, callbacks, front};
-ghost use Rattle.rcu_barrier.specs.Lists.{AllLists, list_of};
-ghost use Rattle.rcu_barrier.specs.Runs.{Call, IsNew, IsRun, copies, lists_after, times_handed_out};
+ghost use Rattle.rcu_barrier.specs.Lists.{AllLists, barrier_test_answer, cpus_of, is_visited};
+ghost use Rattle.rcu_barrier.specs.Lists.{list_of};
+ghost use Rattle.rcu_barrier.specs.Runs.{Call, IsNew, IsRun, begins_barrier, copies, lists_after};
+ghost use Rattle.rcu_barrier.specs.Runs.{times_handed_out};
 ghost use Rattle.rcu_barrier.specs.Settled.{unsettles};
+ghost use Rattle.rcu_barrier.specs.declared.lists.BarrierState.{BarrierState};
 
 /// Two tends finish a list: if the number of the second has reached the snapshot of the number of
 /// the first, no callback that was in the list before them waits, and a run with a limit of at
@@ -34,4 +37,17 @@ pub fn two_tends_finish_callbacks<T: Drop>()
         (Call.Tend cpu reached ∷ later ++ Call.Tend cpu number ∷ earlier)) cpu))) ≤ most →
         times_handed_out place first
         (Call.Run cpu most ∷ Call.Tend cpu reached ∷ later ++ Call.Tend cpu number ∷ earlier) ≡ 1 }
+{}
+
+/// A barrier's test answers done once the barrier has visited each processor and each callback
+/// queued before that has been handed out. Any calls may come between, migrations too.
+pub fn handed_out_callbacks_finish_a_barrier<T: Drop>()
+    ensures { (first : AllLists T) (later visited : List (Call T)) → IsNew first →
+        IsRun first (Call.BarrierTest ∷ later ++ visited) →
+        ((cpu : ℕ) → cpu < cpus_of (lists_after first visited) →
+        is_visited (lists_after first visited) cpu ≡ true) →
+        list_any begins_barrier later ≡ false →
+        ((place : ℕ) → 0 < place → place ≤ (lists_after first visited).queued →
+        times_handed_out place first (later ++ visited) ≡ 1) →
+        barrier_test_answer (lists_after first (later ++ visited)) ≡ BarrierState.Done }
 {}

@@ -1,20 +1,20 @@
 -- Once each processor was visited, and each callback queued before that was handed out, no marker
 -- is left.
 use Rattle.std.proofs.Common.{◌≡◌, ℕ, zero, suc, ◌+◌, ◌<◌, ◌≤◌, Bool, true, false, not, ◌&&◌, ◌||◌}
-use Rattle.std.proofs.Common.{List, [], ◌∷◌, ◌++◌, length, None, Some, refl, ap, ◌∙◌, subst, arith}
-use Rattle.std.proofs.Common.{cond, eqb, leb, map, inl, inr}
+use Rattle.std.proofs.Common.{List, [], ◌∷◌, ◌++◌, length, None, Some, refl, ap, ◌∙◌, arith}
+use Rattle.std.proofs.Common.{cond, eqb, inl, inr}
 use Rattle.std.specs.Prelude.{All}
 use Rattle.std.specs.List.{list_any}
 use Rattle.std.proofs.lemmas.Bool.{or_parts}
 use Rattle.std.proofs.lemmas.Bool.Decides.{nat_tests}
-use Rattle.std.proofs.lemmas.List.Elements.{All-head, All-tail, All-weaker}
-use borrow.Author.Tests.{leb-true}
-use Rattle.std.proofs.lemmas.List.Sums.{sum_by-cons}
-use Rattle.rcu_cblist.specs.SegList.{Item, Of, Marker, Mark, Unmarked, Until, Done, behind}
-use Rattle.rcu_cblist.specs.SegList.{after_migrate, after_take, as_it_leaves, from_callback, front}
-use Rattle.rcu_cblist.specs.SegList.{is_marker, mark_renumbered, markers, remarked, take_answer}
-use Rattle.rcu_cblist.specs.SegList.{without_mark}
+use Rattle.std.proofs.lemmas.List.Elements.{All-head, All-tail}
+use Rattle.rcu_cblist.specs.SegList.{Item, Of, Marker, Unmarked}
+use Rattle.rcu_cblist.specs.SegList.{after_migrate, after_take, as_it_leaves}
+use Rattle.rcu_cblist.specs.SegList.{mark_renumbered, markers, take_answer}
 use Rattle.rcu_barrier.specs.Tending.{mark_after_tend, after_tend}
+use Rattle.rcu_barrier.proofs.EachCallback.{Each}
+use Rattle.rcu_barrier.proofs.Led.{AtMost, Led, led-append, led-from, led-leaving, led-more}
+use Rattle.rcu_barrier.proofs.Led.{led-moved, led-remarked, led-unowed, no_marker}
 use Rattle.rcu_barrier.proofs.Places.{lies, lies-append, lies-cut, lies-leaving, lies-moved}
 use Rattle.rcu_barrier.proofs.Places.{lies-remarked}
 use Rattle.rcu_core.specs.Callbacks.{barrier_runs, ends_barrier, is_owed, list, queue_count}
@@ -36,119 +36,10 @@ use Rattle.rcu_core.proofs.Maturing.{one_part, queued_later}
 use Rattle.rcu_core.proofs.Once.{queued_once}
 use Rattle.rcu_core.proofs.Waited.{KeptItem, lists_kept}
 
--- the callback before each marker, other markers apart, is of a place at most q; and so was the
--- callback before the list, if b is true
-abbrev pub Led : ℕ → Bool → List (Item ℕ) → Type 0
-Led q b [] = Unit {0}
-Led q b (Marker ∷ xs) = (b ≡ true) × Led q b xs
-Led q b (Of call mark ∷ xs) = Led q (leb call.ord q) xs
-
--- so no marker comes first, and the items before the list do not matter
-led_any : (q : ℕ) (b : Bool) (xs : List (Item ℕ)) → Led q false xs → Led q b xs
-led_any q b [] l = tt
-led_any q b (Marker ∷ xs) l = absurd (let x = l.0 in cc)
-led_any q b (Of call mark ∷ xs) l = l
-
-led_append : (q : ℕ) (b : Bool) (xs ys : List (Item ℕ)) → Led q b xs → Led q false ys
-    → Led q b (xs ++ ys)
-led_append q b [] ys l m = led_any q b ys m
-led_append q b (Marker ∷ xs) ys l m = (l.0, led_append q b xs ys l.1 m)
-led_append q b (Of call mark ∷ xs) ys l m = led_append q (leb call.ord q) xs ys l m
-
-led_remarked : (q : ℕ) (b : Bool) (f : Mark → Mark) (xs : List (Item ℕ)) → Led q b xs
-    → Led q b (map (remarked f) xs)
-led_remarked q b f [] l = tt
-led_remarked q b f (Marker ∷ xs) l = (l.0, led_remarked q b f xs l.1)
-led_remarked q b f (Of call mark ∷ xs) l = led_remarked q (leb call.ord q) f xs l
-
-led_front : (q : ℕ) (b : Bool) (xs : List (Item ℕ)) → Led q b xs → Led q b (front xs)
-led_front q b [] l = tt
-led_front q b (Marker ∷ xs) l = (l.0, led_front q b xs l.1)
-led_front q b (Of call Unmarked ∷ xs) l = tt
-led_front q b (Of call (Until n) ∷ xs) l = tt
-led_front q b (Of call Done ∷ xs) l = led_front q (leb call.ord q) xs l
-
-led_behind : (q : ℕ) (b : Bool) (xs : List (Item ℕ)) → Led q b xs → Led q false (behind xs)
-led_behind q b [] l = tt
-led_behind q b (Marker ∷ xs) l = led_behind q b xs l.1
-led_behind q b (Of call Unmarked ∷ xs) l = l
-led_behind q b (Of call (Until n) ∷ xs) l = l
-led_behind q b (Of call Done ∷ xs) l = led_behind q (leb call.ord q) xs l
-
-led_from : (q : ℕ) (b : Bool) (k : ℕ) (xs : List (Item ℕ)) → Led q b xs
-    → Led q false (from_callback k xs)
-led_from q b k [] l = tt
-led_from q b k (Marker ∷ xs) l = led_from q b k xs l.1
-led_from q b zero (Of call mark ∷ xs) l = l
-led_from q b (suc k) (Of call mark ∷ xs) l = led_from q (leb call.ord q) k xs l
-
-led_moved : (q : ℕ) (zs ys : List (Item ℕ)) → Led q false zs → Led q false ys
-    → Led q false (after_migrate ys zs)
-led_moved q zs ys l m =
-    led_append q false (front zs ++ ys) (map without_mark (behind zs))
-    (led_append q false (front zs) ys (led_front q false zs l) m)
-    (led_remarked q false (λ _. Unmarked) (behind zs) (led_behind q false zs l))
-
--- a greater bound
-led_more : (q p : ℕ) (b d : Bool) (xs : List (Item ℕ)) → q ≤ p → (b ≡ true → d ≡ true)
-    → Led q b xs → Led p d xs
-led_more q p b d [] m f l = tt
-led_more q p b d (Marker ∷ xs) m f l = (f l.0, led_more q p b d xs m f l.1)
-led_more q p b d (Of call mark ∷ xs) m f l =
-    led_more q p (leb call.ord q) (leb call.ord p) xs m (at_most call.ord q p m) l
-  where
-    at_most : (n q p : ℕ) → q ≤ p → leb n q ≡ true → leb n p ≡ true
-    at_most n q p m i = grind (arith, nat_tests)
-
--- a marker behind callbacks of places at most q
-abbrev AtMost : ℕ → Item ℕ → Type 0
-AtMost q (Of call mark) = call.ord ≤ q
-AtMost q Marker = Unit {0}
-
-is_at_most : (n q : ℕ) → n ≤ q → leb n q ≡ true
-is_at_most n q l = grind (arith, nat_tests)
-
-led_marked : (q : ℕ) (b : Bool) (xs : List (Item ℕ)) → All (AtMost q) xs → b ≡ true → Led q b xs
-    → Led q b (xs ++ Marker ∷ [])
-led_marked q b [] a i l = (i, tt)
-led_marked q b (Marker ∷ xs) a i l =
-    (l.0, led_marked q b xs (All-tail (AtMost q) Marker xs a) i l.1)
-led_marked q b (Of call mark ∷ xs) a i l =
-    led_marked q (leb call.ord q) xs (All-tail (AtMost q) (Of call mark) xs a)
-    (is_at_most call.ord q (All-head (AtMost q) (Of call mark) xs a)) l
-
-led_leaving : (q : ℕ) (wanted : Bool) (xs : List (Item ℕ)) → All (AtMost q) xs → Led q false xs
-    → Led q false (as_it_leaves xs wanted)
-led_leaving q false xs a l = l
-led_leaving q true [] a l = l
-led_leaving q true (Marker ∷ xs) a l = absurd (let x = l.0 in cc)
-led_leaving q true (Of call mark ∷ xs) a l =
-    led_marked q (leb call.ord q) xs (All-tail (AtMost q) (Of call mark) xs a)
-    (is_at_most call.ord q (All-head (AtMost q) (Of call mark) xs a)) l
-
 led_cond : (q : ℕ) (b : Bool) (xs ys : List (Item ℕ)) → Led q false xs → Led q false ys
     → Led q false (cond b xs ys)
 led_cond q true xs ys l m = l
 led_cond q false xs ys l m = m
-
--- if no callback of a place at most q is left, no marker is
-no_marker : (q : ℕ) (xs : List (Item ℕ)) → ((j : ℕ) → j ≤ q → lies j xs ≡ 0) → Led q false xs
-    → markers xs ≡ 0
-no_marker q [] f l = refl
-no_marker q (Marker ∷ xs) f l = absurd (let x = l.0 in cc)
-no_marker q (Of call mark ∷ xs) f l =
-    let i : markers xs ≡ 0 =
-    no_marker q xs (λ j m. let z = f j m in omega (arith, z))
-    (subst (λ b. Led q b xs) (later_one (leb call.ord q) refl) l) in
-    sum_by-cons (λ x. cond {A = ℕ} (is_marker x) 1 0) (Of call mark) xs ∙ omega (arith, i)
-  where
-    here : (n m : ℕ) → cond {A = ℕ} (eqb n n) 1 0 + m ≡ 0 → ⊥
-    here n m e = grind (arith, nat_tests)
-
-    later_one : (b : Bool) → leb call.ord q ≡ b → leb call.ord q ≡ false
-    later_one true i =
-        absurd (here call.ord (lies call.ord xs) (f call.ord (leb-true call.ord q i)))
-    later_one false i = i
 
 lies_if : (j : ℕ) (b : Bool) (xs ys : List (Item ℕ)) → lies j xs ≡ 0 → lies j ys ≡ 0
     → lies j (cond b xs ys) ≡ 0
@@ -193,12 +84,13 @@ zero_nowhere (e ∷ h) c = zero_nowhere h c
 
 -- in every history each marker is behind a callback that was queued
 at_most_each : (s : Size) (h : History) (xs : List (Item ℕ)) → All (KeptItem s h) xs
-    → All (AtMost (queue_count h)) xs
-at_most_each s h xs a = All-weaker (KeptItem s h) (AtMost (queue_count h)) one xs a
-  where
-    one : (x : Item ℕ) → KeptItem s h x → AtMost (queue_count h) x
-    one (Of call mark) k = k.was
-    one Marker k = tt
+    → Each (AtMost (queue_count h)) xs
+at_most_each s h [] a = tt
+at_most_each s h (Marker ∷ xs) a = at_most_each s h xs (All-tail (KeptItem s h) Marker xs a)
+at_most_each s h (Of call mark ∷ xs) a = (
+  (All-head (KeptItem s h) (Of call mark) xs a).was,
+  at_most_each s h xs (All-tail (KeptItem s h) (Of call mark) xs a),
+)
 
 led_step : (s : Size) (e : Event) (h : History) → AreAccepted s h
     → ((c : ℕ) → Led (queue_count h) false (list c h))
@@ -208,31 +100,31 @@ led_step s (Queue d y) h p f c =
     let q = queue_count h in
     let new : Item ℕ =
     Of (record { ord = queue_count h + 1; at = tag_now h; value = y }) Unmarked in
-    led_more q (queue_count (Queue d y ∷ h)) false false
+    led-more q (queue_count (Queue d y ∷ h)) false false
     (cond (eqb d c) (list c h ++ new ∷ []) (list c h)) (omega (arith, n)) (λ i. i)
     (led_cond q (eqb d c) (list c h ++ new ∷ []) (list c h)
-    (led_append q false (list c h) (new ∷ []) (f c) tt) (f c))
+    (led-append q false (list c h) (new ∷ []) (f c) tt) (f c))
 led_step s (Tend d) h p f c =
     led_cond (queue_count h) (eqb d c) (after_tend (list c h) (number h)) (list c h)
-    (led_remarked (queue_count h) false (mark_after_tend (number h)) (list c h) (f c)) (f c)
+    (led-remarked (queue_count h) false (mark_after_tend (number h)) (list c h) (f c)) (f c)
 led_step s (Run d m) h p f c =
     led_cond (queue_count h) (eqb d c) (after_take (list c h) m) (list c h)
-    (led_from (queue_count h) false (length (take_answer (list c h) m)) (list c h) (f c)) (f c)
+    (led-from (queue_count h) false (length (take_answer (list c h) m)) (list c h) (f c)) (f c)
 led_step s (Visit d) h p f c =
     led_cond (queue_count h) (eqb d c) (as_it_leaves (list c h) (is_owed d h)) (list c h)
-    (led_leaving (queue_count h) (is_owed d h) (list c h)
+    (led-leaving (queue_count h) (is_owed d h) (list c h)
     (at_most_each s h (list c h) (lists_kept s h p c)) (f c))
     (f c)
 led_step s (Offline d) h p f c =
     let xs = as_it_leaves (list d h) (is_owed d h) in
     let q = queue_count h in
-    let l = led_leaving q (is_owed d h) (list d h)
+    let l = led-leaving q (is_owed d h) (list d h)
     (at_most_each s h (list d h) (lists_kept s h p d)) (f d) in
     led_cond q (eqb d c) [] (cond (eqb c 0) (after_migrate (list c h) xs) (list c h)) tt
     (led_cond q (eqb c 0) (after_migrate (list c h) xs) (list c h)
-    (led_moved q xs (list c h) l (f c)) (f c))
+    (led-moved q xs (list c h) l (f c)) (f c))
 led_step s Renumber h p f c =
-    led_remarked (queue_count h) false mark_renumbered (list c h) (f c)
+    led-remarked (queue_count h) false mark_renumbered (list c h) (f c)
 led_step s e h p f c = f c
 
 led_each : (s : Size) (h : History) → AreAccepted s h → (c : ℕ)
@@ -252,11 +144,6 @@ still_visited true true false i j = refl
 still_visited true false w i j = absurd (cc)
 still_visited false v w i j = refl
 
-led_unowed : (q : ℕ) (b : Bool) (xs : List (Item ℕ)) → b ≡ false → Led q false xs
-    → Led q false (as_it_leaves xs b)
-led_unowed q true xs i l = absurd (cc)
-led_unowed q false xs i l = l
-
 visited_step : (s : Size) (q : ℕ) (e : Event) (h : History) → fault_in s (situation h) e ≡ None
     → ends_barrier e ≡ false → Visited s q h → Visited s q (e ∷ h)
 visited_step s q BarBegin h p n f = let r = f.runs in absurd (grind (arith, nat_tests))
@@ -268,19 +155,19 @@ visited_step s q (Queue d y) h p n f =
       runs = f.runs;
       none = f.none;
       led = λ c. led_cond q (eqb d c) (list c h ++ new ∷ []) (list c h)
-          (led_append q false (list c h) (new ∷ []) (f.led c) tt) (f.led c);
+          (led-append q false (list c h) (new ∷ []) (f.led c) tt) (f.led c);
     }
 visited_step s q (Tend d) h p n f = record {
   runs = f.runs;
   none = f.none;
   led = λ c. led_cond q (eqb d c) (after_tend (list c h) (number h)) (list c h)
-      (led_remarked q false (mark_after_tend (number h)) (list c h) (f.led c)) (f.led c);
+      (led-remarked q false (mark_after_tend (number h)) (list c h) (f.led c)) (f.led c);
 }
 visited_step s q (Run d m) h p n f = record {
   runs = f.runs;
   none = f.none;
   led = λ c. led_cond q (eqb d c) (after_take (list c h) m) (list c h)
-      (led_from q false (length (take_answer (list c h) m)) (list c h) (f.led c)) (f.led c);
+      (led-from q false (length (take_answer (list c h) m)) (list c h) (f.led c)) (f.led c);
 }
 visited_step s q (Visit d) h p n f =
     let inside : d < s.cpus = grind (arith, nat_tests) in
@@ -288,24 +175,24 @@ visited_step s q (Visit d) h p n f =
       runs = f.runs;
       none = λ c l. still_visited (barrier_runs h) (was_visited c h) (eqb d c) f.runs (f.none c l);
       led = λ c. led_cond q (eqb d c) (as_it_leaves (list c h) (is_owed d h)) (list c h)
-          (led_unowed q (is_owed d h) (list c h) (f.none d inside) (f.led c)) (f.led c);
+          (led-unowed q (is_owed d h) (list c h) (f.none d inside) (f.led c)) (f.led c);
     }
 visited_step s q (Offline d) h p n f =
     let inside : d < s.cpus = grind (arith, nat_tests) in
     let xs = as_it_leaves (list d h) (is_owed d h) in
-    let l = led_unowed q (is_owed d h) (list d h) (f.none d inside) (f.led d) in
+    let l = led-unowed q (is_owed d h) (list d h) (f.none d inside) (f.led d) in
     record {
       runs = f.runs;
       none = λ c l. still_visited (barrier_runs h) (was_visited c h) (eqb d c) f.runs (f.none c l);
       led = λ c. led_cond q (eqb d c) []
           (cond (eqb c 0) (after_migrate (list c h) xs) (list c h)) tt
           (led_cond q (eqb c 0) (after_migrate (list c h) xs) (list c h)
-          (led_moved q xs (list c h) l (f.led c)) (f.led c));
+          (led-moved q xs (list c h) l (f.led c)) (f.led c));
     }
 visited_step s q Renumber h p n f = record {
   runs = f.runs;
   none = f.none;
-  led = λ c. led_remarked q false mark_renumbered (list c h) (f.led c);
+  led = λ c. led-remarked q false mark_renumbered (list c h) (f.led c);
 }
 visited_step s q e h p n f = record { runs = f.runs; none = f.none; led = f.led }
 
