@@ -135,7 +135,7 @@ module _ {C X : Type 0} where
   engines first [] earlier = refl
   engines first (call ∷ later) earlier = ap (λ e. after_call e call) (engines first later earlier)
 
-  calls_split : (first : Locked C X) (later earlier : List (Call X))
+  pub calls_split : (first : Locked C X) (later earlier : List (Call X))
       → list_calls first (later ++ earlier)
       ≡ list_calls (engine_after first earlier) later ++ list_calls first earlier
   calls_split first [] earlier = refl
@@ -154,7 +154,7 @@ module _ {C X : Type 0} where
       rw (o.0, settled e c later o.1) refl
   settled e c (call ∷ later) u = settled e c later u
 
-  is_run_before : (first : Locked C X) (later earlier : List (Call X))
+  pub is_run_before : (first : Locked C X) (later earlier : List (Call X))
       → IsRun first (later ++ earlier)
       → IsRun first earlier
   is_run_before first [] earlier is = is

@@ -11,6 +11,7 @@ pub mod DoneCookies
 pub mod Driving
 pub mod Early
 pub mod Elapsed
+pub mod Finishing
 pub mod Frames
 pub mod Handing
 pub mod HeardBelow
@@ -27,6 +28,7 @@ pub mod OnlineMasks
 pub mod Openings
 pub mod OwnWordLoads
 pub mod Quieting
+pub mod QuietSeats
 pub mod Reports
 pub mod RowLemmas
 pub mod Several

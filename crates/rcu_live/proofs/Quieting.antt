@@ -101,7 +101,7 @@ module _ {C X : Type 0} where
       accepted b n i j = rw (i, j) refl
 
   -- a step of driving ends it
-  moved : (e : Locked C X) (w : Bool) (word : ℕ → ℕ) → e.grace.seq.running ≡ true
+  pub moved : (e : Locked C X) (w : Bool) (word : ℕ → ℕ) → e.grace.seq.running ≡ true
       → moved_on e w word ≡ after_collections e word
   moved e w word r =
       ap

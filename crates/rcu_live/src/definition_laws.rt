@@ -2,6 +2,7 @@
 ghost use Rattle.std.specs.Prelude.{◌≡◌, ◌⊎◌, ◌+◌, ◌%◌, ◌<◌, ◌≤◌, ◌^◌, [], ◌∷◌, ℕ, All, List};
 ghost use Rattle.std.specs.Prelude.{None, Some, ◌++◌, false, length, true};
 ghost use Rattle.atomic_table.specs.Seated.{TableId};
+ghost use Rattle.atomic_table.specs.Table.{opening};
 ghost use Rattle.rcu_seq.specs.Numbers.{Number, snapshot};
 ghost use Rattle.rcu_seq.specs.Seq.{has_full_period};
 ghost use Rattle.rcu_seq.specs.Tags.{cookie_at, first_tag, is_done_first, of_first_epoch};
@@ -15,19 +16,21 @@ ghost use Rattle.rcu_barrier.specs.declared.lists.BarrierState.{BarrierState};
 ghost use Rattle.rcu_live.specs.Asking.{IsAwake, stores_of};
 ghost use Rattle.rcu_live.specs.CpuSeat.{AcceptedAt, NotedAt, RenewedAt, Seated, after_look};
 ghost use Rattle.rcu_live.specs.CpuSeat.{after_quiesce, after_renew};
-ghost use Rattle.rcu_live.specs.Engine.{HasWaited, Locked};
+ghost use Rattle.rcu_live.specs.Engine.{HasWaited, Locked, loaded_word};
 ghost use Rattle.rcu_live.specs.EngineLists.{AreDue, is_leave_fault, is_queue_fault};
 ghost use Rattle.rcu_live.specs.Numbers.{idle_word, is_number_word, may_open};
 ghost use Rattle.rcu_live.specs.Opening.{engine_at_first};
-ghost use Rattle.rcu_live.specs.Progress.{leaves};
+ghost use Rattle.rcu_live.specs.Progress.{IsQuiet, IsQuietAt, LoadsAt, begins_barrier, leaves};
 ghost use Rattle.rcu_live.specs.Runs.{Call, IsNew, IsRun, Makes, MayCall, after_call};
 ghost use Rattle.rcu_live.specs.Runs.{engine_after, queued_as, queued_before_barrier};
 ghost use Rattle.rcu_live.specs.Runs.{times_handed_out, turns_since};
 ghost use Rattle.rcu_live.specs.Several.{HoldsBoth, IsLens, IsPart, IsWordOf, of_both, whole};
-ghost use Rattle.rcu_live.specs.View.{absent_from, after_store, asking_of, cpu_seat, look_of};
+ghost use Rattle.rcu_live.specs.View.{absent_from, after_own_word_load, after_store, asking_of};
+ghost use Rattle.rcu_live.specs.View.{cpu_seat, engine_seat, look_of};
+ghost use Rattle.rcu_live.specs.declared.view.View.{View};
 ghost use Rattle.rcu_live.specs.Waits.{AreRounds, HasPassed, HasStayedInside};
 ghost use Rattle.rcu_live.specs.Watcher.{Watching};
-ghost use Rattle.rcu_live.specs.Words.{mask_index};
+ghost use Rattle.rcu_live.specs.Words.{first_words, mask_index, own_word_index};
 ghost use Rattle.rcu_live.specs.declared.both_known.BothKnown.{BothKnown};
 
 use crate::client::Client;
@@ -265,6 +268,59 @@ pub fn a_processor_leaves_by_its_leave<T: Drop>()
     ensures leave { (cpu word : ℕ) → leaves {X = T} cpu (Call.Leave cpu word) ≡ true }
     ensures no_other { (cpu : ℕ) (call : Call T) → leaves cpu call ≡ true →
         (word : ℕ) × (call ≡ Call.Leave cpu word) }
+{}
+
+/// A barrier begins only by its own begin call.
+pub fn a_barrier_begins_by_its_begin<T: Drop>()
+    ensures begin { begins_barrier {X = T} Call.BarrierBegin ≡ true }
+    ensures no_other { (call : Call T) → begins_barrier call ≡ true → call ≡ Call.BarrierBegin }
+{}
+
+/// A processor is quiet in a grace period after a departure, after it went idle, and after a
+/// quiescent state at the grace period's number or a later one; and not after a quiescent state at
+/// an earlier number.
+pub fn a_processor_is_quiet_by_its_latest_store<P: Client>()
+    ensures departed { (seat : View P.Known) (t : Number) → IsQuiet t (after_store seat 0) }
+    ensures idle { (seat : View P.Known) (t : Number) → IsQuiet t (after_store seat idle_word) }
+    ensures quiescent { (seat : View P.Known) (t n : Number) → t ≤ n →
+        IsQuiet t (after_store seat (n + 1)) }
+    ensures earlier { (seat : View P.Known) (t n : Number) → n < t → t ≤ 2 ^ 62 →
+        IsQuiet t (after_store seat (n + 1)) → ⊥ }
+{}
+
+/// A processor is quiet at a moment by the latest store of its own seat. A processor without a seat
+/// is not quiet, nor is one that passed only an earlier number's quiescent state.
+pub fn a_moment_tells_who_is_quiet()
+    ensures quiet { IsQuietAt {C = Unit {0}} (record {
+      words = [];
+      homes = [];
+      views = after_store (cpu_seat 0 1 tt) 6 ∷ [];
+    }) 5 1 }
+    ensures earlier { IsQuietAt {C = Unit {0}} (record {
+      words = [];
+      homes = [];
+      views = after_store (cpu_seat 0 1 tt) 5 ∷ [];
+    }) 5 1 → ⊥ }
+    ensures other { IsQuietAt {C = Unit {0}} (record {
+      words = [];
+      homes = [];
+      views = after_store (cpu_seat 0 1 tt) 6 ∷ [];
+    }) 5 0 → ⊥ }
+{}
+
+/// The engine of a grace period loads an own word at a moment: it finds the word that is there, and
+/// no other, and its load is of the number at that moment. Without the engine there is no load.
+pub fn a_load_is_made_at_a_moment()
+    ensures loads { LoadsAt {C = Unit {0}} (λ _ _. Unit {0}) 1
+        (opening (first_words 1 ++ []) [] (engine_seat 1 0 tt)) 0 0 1 }
+    ensures word { LoadsAt {C = Unit {0}} (λ _ _. Unit {0}) 1
+        (opening (first_words 1 ++ []) [] (engine_seat 1 0 tt)) 0 0 2 → ⊥ }
+    ensures number { LoadsAt {C = Unit {0}} (λ _ _. Unit {0}) 1
+        (opening (first_words 1 ++ []) [] (engine_seat 1 0 tt)) 1 0 1 → ⊥ }
+    ensures no_engine { LoadsAt {C = Unit {0}} (λ _ _. Unit {0}) 1
+        (opening (first_words 1 ++ []) [] (cpu_seat 0 0 tt)) 0 0 1 → ⊥ }
+    ensures latest { (v : View (Unit {0})) (cpu word : ℕ) →
+        loaded_word (after_own_word_load v (own_word_index cpu) word).own_word_loads cpu ≡ word }
 {}
 
 /// The rule of a pair of clients holds if each one's rule holds for its own words, the second's

@@ -1,26 +1,33 @@
-//! How a grace period of the engine ends, by the calls of any threads. These laws do not say which
-//! threads make the calls, or when.
+//! How a grace period, a callback and a barrier of the engine end, by the calls of any threads.
+//! These laws do not say which threads make the calls, or when.
 ghost use Rattle.std.specs.Prelude.{◌≡◌, ◌≢◌, ◌⊎◌, ◌<◌, ◌≤◌, ◌+◌, ◌^◌, ◌&&◌, ◌∷◌, ◌++◌, ℕ, Bool};
 ghost use Rattle.std.specs.Prelude.{List, None, true, false, not, length};
 ghost use Rattle.std.specs.List.{list_any};
+ghost use mathlib.Core.Option.{some};
+ghost use lib.ListN.{get_elem?};
+ghost use Rattle.atomic_table.specs.Table.{State};
 ghost use Rattle.rcu_seq.specs.Numbers.{Number, snapshot};
 ghost use Rattle.rcu_seq.specs.Seq.{number_of};
 ghost use Rattle.rcu_seq.specs.Tags.{cookie_at, is_done_first, of_first_epoch};
 ghost use Rattle.rcu_node.specs.CpuSet.{is_in};
 ghost use Rattle.rcu_cblist.specs.SegList.{behind, callbacks, front};
-ghost use Rattle.rcu_barrier.specs.Lists.{list_of};
+ghost use Rattle.rcu_barrier.specs.Lists.{barrier_test_answer, is_visited, list_of};
 ghost use Rattle.rcu_barrier.specs.Runs.{copies};
+ghost use Rattle.rcu_barrier.specs.declared.lists.BarrierState.{BarrierState};
 ghost use Rattle.rcu_state.specs.GpState.{awaited_in, end_refusal};
 ghost use Rattle.rcu_live.specs.CpuSeat.{Seated, after_depart, after_exit, after_idle};
 ghost use Rattle.rcu_live.specs.CpuSeat.{after_quiesce, exit_refusal, quiesce_refusal};
 ghost use Rattle.rcu_live.specs.Drive.{after_collections, after_drive, drive_answer, drive_refusal};
 ghost use Rattle.rcu_live.specs.Engine.{Locked, next_number};
 ghost use Rattle.rcu_live.specs.Numbers.{reports_quiescence};
-ghost use Rattle.rcu_live.specs.Progress.{leaves};
+ghost use Rattle.rcu_live.specs.Progress.{IsQuiet, IsQuietAt, LoadsAt, begins_barrier, leaves};
 ghost use Rattle.rcu_live.specs.Runs.{Call, IsNew, IsRun, MayCall, after_call, engine_after};
 ghost use Rattle.rcu_live.specs.Runs.{times_handed_out};
+ghost use Rattle.rcu_live.specs.declared.view.Role.TheVariants.{Cpu};
+ghost use Rattle.rcu_live.specs.declared.view.View.{View};
 
 use crate::client::Client;
+use rcu_barrier::progress;
 use rcu_state::Turned;
 
 /// The set of awaited processors only shrinks: while a grace period runs, no call makes a processor
@@ -77,6 +84,52 @@ pub fn a_step_of_driving_ends_a_quiet_grace_period<T: Drop, P: Client>()
         reports_quiescence (number_of e.grace.seq) (word cpu) ≡ true) →
         drive_answer e is_wanted word
         ≡ Turned.Ended (number_of (after_drive e is_wanted word).grace.seq) }
+{}
+
+/// A load of an own word finds the word that the processor's seat stored last by then. So it
+/// reports a quiescent state exactly if the processor is quiet at that moment: it departed, is
+/// idle, or passed a quiescent state at the number of the running grace period or a later one.
+pub fn a_load_finds_what_the_seat_stored<P: Client>()
+    ensures stored { (plan : P.Plan) (cpus : ℕ) (now : State (Unit {0}) (View P.Known))
+        (running cpu word id : ℕ) (seat : View P.Known) →
+        LoadsAt (P.holds plan) cpus now running cpu word → get_elem? now.views id ≡ some seat →
+        seat.role ≡ Cpu → seat.cpu ≡ cpu → word ≡ seat.own_word }
+    ensures quiet { (plan : P.Plan) (cpus : ℕ) (now : State (Unit {0}) (View P.Known))
+        (running cpu word : ℕ) → LoadsAt (P.holds plan) cpus now running cpu word →
+        IsQuietAt now running cpu → reports_quiescence running word ≡ true }
+    ensures only { (plan : P.Plan) (cpus : ℕ) (now : State (Unit {0}) (View P.Known))
+        (running cpu word id : ℕ) (seat : View P.Known) →
+        LoadsAt (P.holds plan) cpus now running cpu word → get_elem? now.views id ≡ some seat →
+        seat.role ≡ Cpu → seat.cpu ≡ cpu → reports_quiescence running word ≡ true →
+        IsQuiet running seat }
+{}
+
+/// Quiet processors end a grace period: a step of driving ends the running one if each awaited
+/// processor is quiet at the moment at which the step loads its own word. A processor that is
+/// awaited after a step was not quiet at that moment.
+pub fn quiet_processors_end_a_grace_period<T: Drop, P: Client>()
+    ensures ended { (plan : P.Plan) (e : Locked P.Known T) (is_wanted : Bool) (word : ℕ → ℕ)
+        (at : ℕ → State (Unit {0}) (View P.Known)) → e.grace.seq.running ≡ true →
+        ((cpu : ℕ) → is_in e.grace.processors.awaited cpu ≡ true →
+        LoadsAt (P.holds plan) e.cpus (at cpu) (number_of e.grace.seq) cpu (word cpu)) →
+        ((cpu : ℕ) → is_in e.grace.processors.awaited cpu ≡ true →
+        IsQuietAt (at cpu) (number_of e.grace.seq) cpu) →
+        (after_drive e is_wanted word).grace.seq
+        ≡ record e.grace.seq { ends = e.grace.seq.ends + 1; running = false } }
+    ensures answer { (plan : P.Plan) (e : Locked P.Known T) (is_wanted : Bool) (word : ℕ → ℕ)
+        (at : ℕ → State (Unit {0}) (View P.Known)) → e.grace.seq.running ≡ true →
+        ((cpu : ℕ) → is_in e.grace.processors.awaited cpu ≡ true →
+        LoadsAt (P.holds plan) e.cpus (at cpu) (number_of e.grace.seq) cpu (word cpu)) →
+        ((cpu : ℕ) → is_in e.grace.processors.awaited cpu ≡ true →
+        IsQuietAt (at cpu) (number_of e.grace.seq) cpu) →
+        drive_answer e is_wanted word
+        ≡ Turned.Ended (number_of (after_drive e is_wanted word).grace.seq) }
+    ensures held_up { (plan : P.Plan) (now : State (Unit {0}) (View P.Known))
+        (e : Locked P.Known T) (is_wanted : Bool) (word : ℕ → ℕ) (cpu : ℕ) →
+        e.grace.seq.running ≡ true →
+        LoadsAt (P.holds plan) e.cpus now (number_of e.grace.seq) cpu (word cpu) →
+        is_in (after_drive e is_wanted word).grace.processors.awaited cpu ≡ true →
+        IsQuietAt now (number_of e.grace.seq) cpu → ⊥ }
 {}
 
 /// If every own word reports a quiescent state, a step of driving that wants a grace period ends
@@ -154,3 +207,44 @@ pub fn two_tends_and_a_grace_period_finish_callbacks<T: Drop, P: Client>()
         times_handed_out place first
         (Call.Run cpu most ∷ Call.Tend cpu ∷ later ++ Call.Tend cpu ∷ earlier) ≡ 1 }
 {}
+
+/// Five calls hand out each callback of a list, if every own word that the two steps of driving
+/// find reports a quiescent state: a tend, two steps that want a grace period, a tend, and a run
+/// with a limit of at least as many as are done. They may be made after every run of calls.
+pub fn five_calls_hand_out_a_callback<T: Drop, P: Client>()
+    ensures run { (first : Locked P.Known T) (calls : List (Call T)) (one two : ℕ → ℕ)
+        (cpu most : ℕ) → IsRun first calls → cpu < (engine_after first calls).cpus →
+        IsRun first (Call.Run cpu most ∷ Call.Tend cpu ∷ Call.Drive true two ∷ Call.Drive true one
+        ∷ Call.Tend cpu ∷ calls) }
+    ensures handed_out { (first : Locked P.Known T) (calls : List (Call T)) (one two : ℕ → ℕ)
+        (cpu place most : ℕ) → IsNew first → IsRun first calls →
+        cpu < (engine_after first calls).cpus →
+        ((other : ℕ) → reports_quiescence
+        (snapshot (number_of (engine_after first calls).grace.seq)) (one other) ≡ true) →
+        ((other : ℕ) → reports_quiescence
+        (snapshot (number_of (engine_after first calls).grace.seq)) (two other) ≡ true) →
+        0 < place → place ≤ (engine_after first calls).grace.lists.queued →
+        copies place (callbacks (list_of (engine_after first calls).grace.lists cpu)) ≡ 1 →
+        length (callbacks (front (list_of (engine_after first
+        (Call.Tend cpu ∷ Call.Drive true two ∷ Call.Drive true one ∷ Call.Tend cpu
+        ∷ calls)).grace.lists cpu))) ≤ most →
+        times_handed_out place first (Call.Run cpu most ∷ Call.Tend cpu ∷ Call.Drive true two
+        ∷ Call.Drive true one ∷ Call.Tend cpu ∷ calls) ≡ 1 }
+{}
+
+/// A barrier's test answers done once the barrier has visited each processor and each callback
+/// queued before that has been handed out. Any threads may make any other calls between, and
+/// processors may leave.
+pub fn handed_out_callbacks_finish_a_barrier<T: Drop, P: Client>()
+    ensures { (first : Locked P.Known T) (later visited : List (Call T)) → IsNew first →
+        IsRun first (Call.BarrierTest ∷ later ++ visited) →
+        ((cpu : ℕ) → cpu < (engine_after first visited).cpus →
+        is_visited (engine_after first visited).grace.lists cpu ≡ true) →
+        list_any begins_barrier later ≡ false →
+        ((place : ℕ) → 0 < place → place ≤ (engine_after first visited).grace.lists.queued →
+        times_handed_out place first (later ++ visited) ≡ 1) →
+        barrier_test_answer (engine_after first (later ++ visited)).grace.lists
+        ≡ BarrierState.Done }
+{
+    progress::handed_out_callbacks_finish_a_barrier::<T>();
+}
