@@ -1,12 +1,14 @@
 //! Laws that pin the definitions of histories, case by case.
 ghost use Rattle.std.specs.Prelude.{◌≡◌, ◌≢◌, ◌⊎◌, ◌+◌, ◌<◌, ◌≤◌, [], ◌∷◌, ℕ, Bool, List, None};
-ghost use Rattle.std.specs.Prelude.{Some, false, length, true};
+ghost use Rattle.std.specs.Prelude.{Some, count_by, false, length, true};
+ghost use Rattle.rcu_seq.specs.Tags.{cookie_at, is_done_at};
 ghost use Rattle.rcu_barrier.specs.Runs.{copies};
-ghost use Rattle.rcu_core.specs.Callbacks.{handed_out, queue_count, queued_before_barrier};
-ghost use Rattle.rcu_core.specs.Callbacks.{times_handed_out};
+ghost use Rattle.rcu_core.specs.Callbacks.{barrier_runs, handed_out, queue_count};
+ghost use Rattle.rcu_core.specs.Callbacks.{queued_before_barrier, times_handed_out};
 ghost use Rattle.rcu_core.specs.Links.{QueuedAt};
-ghost use Rattle.rcu_core.specs.History.{History, awaits, depth, is_idle, is_old, running};
-ghost use Rattle.rcu_core.specs.History.{section};
+ghost use Rattle.rcu_core.specs.History.{History, awaits, depth, ends, is_idle, is_old, running};
+ghost use Rattle.rcu_core.specs.History.{section, tag_now};
+ghost use Rattle.rcu_core.specs.Progress.{CanDrain, CanFinishBarrier, CanFinishCookie};
 ghost use Rattle.rcu_core.specs.Progress.{EndsBy, HasEnded, HasReported, IsQuiet, LeadsWithMemory};
 ghost use Rattle.rcu_core.specs.Progress.{SurelyLeads, collects, helps, hinders, how_often};
 ghost use Rattle.rcu_core.specs.Progress.{retires, steps_left};
@@ -218,6 +220,23 @@ pub fn a_grace_period_ends_by_its_steps()
     ensures fewer { (size : Size) (run : Run) (count : ℕ) → IsLegalRun size run
         → running (history run) ≡ true → EndsBy retires size (history run) count
         → steps_left size (history run) ≤ count }
+{}
+
+/// A cookie that can be done tests done in the history that is reached, callbacks that can be
+/// handed out were, and a barrier that can be done has ended; at most two grace periods end on the
+/// way. A barrier that waits for nothing can be done by its test.
+pub fn what_can_be_done_is_reached()
+    ensures cookie { (size : Size) (h : History) → CanFinishCookie size h → (reached : History)
+        × ((is_done_at size.last (cookie_at (tag_now h)) (tag_now reached) ≡ true)
+        × (count_by ends reached ≤ count_by ends h + 2)) }
+    ensures callbacks { (size : Size) (h : History) → CanDrain size h → (reached : History)
+        × (((ord : ℕ) → 0 < ord → ord ≤ queue_count h → times_handed_out ord reached ≡ 1)
+        × (count_by ends reached ≤ count_by ends h + 2)) }
+    ensures barrier { (size : Size) (h : History) → CanFinishBarrier size h → (reached : History)
+        × ((barrier_runs reached ≡ false) × (count_by ends reached ≤ count_by ends h + 2)) }
+    ensures tested { (last most : ℕ) →
+        CanFinishBarrier (record { cpus = 1; last = last; most = most })
+        (Event.Visit 0 ∷ Event.BarBegin ∷ []) }
 {}
 
 /// The next event of the way out is an exit in a section, a step to idle outside of one, a scan of
