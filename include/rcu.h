@@ -377,8 +377,9 @@ static inline uint32_t rcu_arrive(rcu_t *rcu, rcu_seat_t *seat) {
  * a_run_goes_on_from_the_end_of_another (laws.rt#L210), no_callback_runs_twice (laws.rt#L229),
  * no_callback_is_lost (laws.rt#L238), barrier_covers_earlier_callbacks (laws.rt#L250),
  * a_barrier_waited_for_covers_earlier_callbacks (laws.rt#L263), no_callback_runs_early
- * (laws.rt#L285), a_seat_can_tell_of_itself (progress.rt#L88),
- * a_word_is_the_one_that_the_seat_stored (progress.rt#L114). */
+ * (laws.rt#L285), a_seat_can_tell_of_itself (progress.rt#L89),
+ * a_word_is_the_one_that_the_seat_stored (progress.rt#L115), quiet_processors_end_a_grace_period
+ * (progress.rt#L126), handed_out_callbacks_finish_a_barrier (progress.rt#L221). */
 uint32_t rcu_depart(rcu_t *rcu, rcu_seat_t *seat, uint64_t *moved);
 
 /* ---- queries of an engine: `rcu` is under the caller's lock. On a handle that is not an open
@@ -444,8 +445,8 @@ uint32_t rcu_queue(rcu_t *rcu, uint32_t cpu, uint64_t value, uint64_t *place);
  * (laws.rt#L210), no_callback_runs_twice (laws.rt#L229), no_callback_is_lost (laws.rt#L238),
  * barrier_covers_earlier_callbacks (laws.rt#L250), a_barrier_waited_for_covers_earlier_callbacks
  * (laws.rt#L263), no_callback_runs_early (laws.rt#L285), ended_grace_periods_are_counted
- * (progress.rt#L123), two_tends_and_two_grace_periods_finish_callbacks (progress.rt#L135),
- * four_calls_finish_a_list (progress.rt#L165). */
+ * (progress.rt#L158), two_tends_and_two_grace_periods_finish_callbacks (progress.rt#L170),
+ * four_calls_finish_a_list (progress.rt#L200). */
 uint32_t rcu_tend(rcu_t *rcu, uint32_t cpu, uint64_t *done, uint64_t *waiting);
 
 /* Hands out done callbacks of the processor, in order, `room` at most: writes their values from
@@ -457,9 +458,10 @@ uint32_t rcu_tend(rcu_t *rcu, uint32_t cpu, uint64_t *done, uint64_t *waiting);
  * a_run_goes_on_from_the_end_of_another (laws.rt#L210), no_callback_runs_twice (laws.rt#L229),
  * no_callback_is_lost (laws.rt#L238), barrier_covers_earlier_callbacks (laws.rt#L250),
  * a_barrier_waited_for_covers_earlier_callbacks (laws.rt#L263), no_callback_runs_early
- * (laws.rt#L285), ended_grace_periods_are_counted (progress.rt#L123),
- * two_tends_and_two_grace_periods_finish_callbacks (progress.rt#L135), four_calls_finish_a_list
- * (progress.rt#L165), the_fourth_wait_for_a_barrier_writes_0 (progress.rt#L187). */
+ * (laws.rt#L285), ended_grace_periods_are_counted (progress.rt#L158),
+ * two_tends_and_two_grace_periods_finish_callbacks (progress.rt#L170), four_calls_finish_a_list
+ * (progress.rt#L200), the_fourth_wait_for_a_barrier_writes_0 (progress.rt#L237),
+ * handed_out_callbacks_finish_a_barrier (progress.rt#L221). */
 uint32_t rcu_run(rcu_t *rcu, uint32_t cpu, uint64_t *values, size_t room, uint64_t *count);
 
 /* Frees the memory that the processor's list does not need, at a step for each item that stays.
@@ -475,7 +477,8 @@ uint32_t rcu_shrink(rcu_t *rcu, uint32_t cpu, uint64_t *room);
  * waiting_for_a_barrier_is_a_run (laws.rt#L221), a_run_goes_on_from_the_end_of_another
  * (laws.rt#L210), no_callback_runs_twice (laws.rt#L229), no_callback_is_lost (laws.rt#L238),
  * barrier_covers_earlier_callbacks (laws.rt#L250), a_barrier_waited_for_covers_earlier_callbacks
- * (laws.rt#L263), no_callback_runs_early (laws.rt#L285). */
+ * (laws.rt#L263), no_callback_runs_early (laws.rt#L285), handed_out_callbacks_finish_a_barrier
+ * (progress.rt#L221). */
 uint32_t rcu_barrier_begin(rcu_t *rcu);
 
 /* Has the barrier visit a processor; it has to visit each, also those offline. Writes an
@@ -485,7 +488,8 @@ uint32_t rcu_barrier_begin(rcu_t *rcu);
  * waiting_for_a_barrier_is_a_run (laws.rt#L221), a_run_goes_on_from_the_end_of_another
  * (laws.rt#L210), no_callback_runs_twice (laws.rt#L229), no_callback_is_lost (laws.rt#L238),
  * barrier_covers_earlier_callbacks (laws.rt#L250), a_barrier_waited_for_covers_earlier_callbacks
- * (laws.rt#L263), no_callback_runs_early (laws.rt#L285). */
+ * (laws.rt#L263), no_callback_runs_early (laws.rt#L285), handed_out_callbacks_finish_a_barrier
+ * (progress.rt#L221). */
 uint32_t rcu_barrier_visit(rcu_t *rcu, uint32_t cpu, uint32_t *did);
 
 /* Tests the barrier. Writes how many markers and unvisited processors are left; at 0 it is over,
@@ -498,7 +502,8 @@ uint32_t rcu_barrier_visit(rcu_t *rcu, uint32_t cpu, uint32_t *did);
  * waiting_for_a_barrier_is_a_run (laws.rt#L221), a_run_goes_on_from_the_end_of_another
  * (laws.rt#L210), no_callback_runs_twice (laws.rt#L229), no_callback_is_lost (laws.rt#L238),
  * barrier_covers_earlier_callbacks (laws.rt#L250), a_barrier_waited_for_covers_earlier_callbacks
- * (laws.rt#L263), no_callback_runs_early (laws.rt#L285). */
+ * (laws.rt#L263), no_callback_runs_early (laws.rt#L285), handed_out_callbacks_finish_a_barrier
+ * (progress.rt#L221). */
 uint32_t rcu_barrier_test(rcu_t *rcu, uint64_t *left);
 
 /* ---- a thread by its seat, with no lock, beside all calls on other handles. No call here waits or
@@ -541,8 +546,9 @@ uint32_t rcu_seat_exit(rcu_seat_t *seat);
  * what came before an rcu_seat_take is sure to be seen by sequentially consistent loads alone.
  * Faults: 2 if the processor is offline; 23 if it is idle; 4 if a section is open.
  * Fence: before and behind.
- * Laws in crates/rcu_c/src/: a_seat_can_tell_of_itself (progress.rt#L88),
- * a_word_is_the_one_that_the_seat_stored (progress.rt#L114). */
+ * Laws in crates/rcu_c/src/: a_seat_can_tell_of_itself (progress.rt#L89),
+ * a_word_is_the_one_that_the_seat_stored (progress.rt#L115), quiet_processors_end_a_grace_period
+ * (progress.rt#L126). */
 uint32_t rcu_seat_quiesce_unfenced(rcu_seat_t *seat, uint64_t *number);
 static inline uint32_t rcu_seat_quiesce(rcu_seat_t *seat, uint64_t *number) {
     rcu_fence();
@@ -595,8 +601,9 @@ static inline uint32_t rcu_seat_renew(rcu_seat_t *seat, uint64_t *number) {
  * All that the thread did before comes before what follows the collection or the begin that finds
  * it idle.
  * Faults: 2 if the processor is offline; 23 if it is idle; 4 if a section is open.
- * Laws in crates/rcu_c/src/: a_seat_can_tell_of_itself (progress.rt#L88),
- * a_word_is_the_one_that_the_seat_stored (progress.rt#L114). */
+ * Laws in crates/rcu_c/src/: a_seat_can_tell_of_itself (progress.rt#L89),
+ * a_word_is_the_one_that_the_seat_stored (progress.rt#L115), quiet_processors_end_a_grace_period
+ * (progress.rt#L126). */
 uint32_t rcu_seat_idle(rcu_seat_t *seat);
 
 /* Wakes the processor, by one load and one store. Writes the number that it saw.
@@ -721,10 +728,10 @@ uint32_t rcu_defer_shrink(rcu_seat_t *seat, uint64_t *room);
  * someone. It orders what rcu_begin, rcu_collect and rcu_end order.
  * Fault 11: one would begin, and the number is the last one.
  * Fence: behind.
- * Laws in crates/rcu_c/src/: a_drive_ends_a_quiet_grace_period (progress.rt#L46),
- * ended_grace_periods_are_counted (progress.rt#L123),
- * two_tends_and_two_grace_periods_finish_callbacks (progress.rt#L135), four_calls_finish_a_list
- * (progress.rt#L165). */
+ * Laws in crates/rcu_c/src/: a_drive_ends_a_quiet_grace_period (progress.rt#L47),
+ * ended_grace_periods_are_counted (progress.rt#L158),
+ * two_tends_and_two_grace_periods_finish_callbacks (progress.rt#L170), four_calls_finish_a_list
+ * (progress.rt#L200), quiet_processors_end_a_grace_period (progress.rt#L126). */
 uint32_t rcu_drive_unfenced(rcu_t *rcu, rcu_turn_t *turn);
 static inline uint32_t rcu_drive(rcu_t *rcu, rcu_turn_t *turn) {
     uint32_t result = rcu_drive_unfenced(rcu, turn);
@@ -843,7 +850,7 @@ uint32_t rcu_requested_gp(rcu_t *rcu, bool sleeps, uint64_t *cookie);
  * (laws.rt#L210), no_callback_runs_twice (laws.rt#L229), no_callback_is_lost (laws.rt#L238),
  * barrier_covers_earlier_callbacks (laws.rt#L250), a_barrier_waited_for_covers_earlier_callbacks
  * (laws.rt#L263), no_callback_runs_early (laws.rt#L285), the_fourth_wait_for_a_barrier_writes_0
- * (progress.rt#L187). */
+ * (progress.rt#L237). */
 uint32_t rcu_barrier_wait_unfenced(rcu_t *rcu, uint64_t *left);
 static inline uint32_t rcu_barrier_wait(rcu_t *rcu, uint64_t *left) {
     uint32_t result = rcu_barrier_wait_unfenced(rcu, left);

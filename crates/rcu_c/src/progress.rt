@@ -10,7 +10,7 @@ ghost use Rattle.rcu_seq.specs.Seq.{number_of};
 ghost use Rattle.rcu_seq.specs.Tags.{is_done_first};
 ghost use Rattle.rcu_node.specs.CpuSet.{is_in};
 ghost use Rattle.rcu_cblist.specs.SegList.{behind, callbacks, front, take_answer};
-ghost use Rattle.rcu_barrier.specs.Lists.{list_of};
+ghost use Rattle.rcu_barrier.specs.Lists.{barrier_test_answer, is_visited, list_of};
 ghost use Rattle.rcu_barrier.specs.Runs.{copies};
 ghost use Rattle.rcu_state.specs.GpState as grace;
 ghost use Rattle.rcu_state.specs.GpState.{awaited_in};
@@ -19,14 +19,14 @@ ghost use Rattle.rcu_live.specs.CpuSeat.{after_quiesce, after_quiesce_since, aft
 ghost use Rattle.rcu_live.specs.Drive.{after_drive, drive_answer, drive_refusal, wants_begin};
 ghost use Rattle.rcu_live.specs.Engine.{Locked};
 ghost use Rattle.rcu_live.specs.Numbers.{reports_quiescence};
-ghost use Rattle.rcu_live.specs.Progress.{leaves};
+ghost use Rattle.rcu_live.specs.Progress.{IsQuietAt, LoadsAt, begins_barrier, leaves};
 ghost use Rattle.rcu_live.specs.Runs.{Call, IsNew, IsRun, engine_after, times_handed_out};
 ghost use Rattle.rcu_live.specs.Words.{own_word_index};
 ghost use Rattle.rcu_live.specs.declared.view.Role.TheVariants.{Cpu};
 ghost use Rattle.rcu_graph.specs.declared.known.Planned.{Planned};
 ghost use Rattle.rcu_c.specs.Answers.{cookie_in_c, left_of, number_for, turn_of};
 ghost use Rattle.rcu_c.specs.BarrierSteps.{step_answer};
-ghost use Rattle.rcu_c.specs.Belonging.{IsEngineAt, Moment};
+ghost use Rattle.rcu_c.specs.Belonging.{IsEngineAt, IsMapKept, Moment};
 ghost use Rattle.rcu_c.specs.Holding.{AcceptedAt, RenewedAt, cpu_of, engine_of, grace_of, on_cpu};
 ghost use Rattle.rcu_c.specs.Holding.{on_engine};
 ghost use Rattle.rcu_c.specs.Progress.{AreQuiet, HandedOut, Waited};
@@ -35,6 +35,7 @@ ghost use Rattle.rcu_c.specs.Seats.{closing};
 ghost use Rattle.rcu_c.specs.declared.contents.Contents.{Contents};
 
 use crate::open_engine::Rule;
+use rcu_live::progress;
 use rcu_live::progress::{
     two_grace_periods_reach_the_snapshot, two_tends_and_a_grace_period_finish_callbacks,
 };
@@ -118,6 +119,40 @@ pub fn a_word_is_the_one_that_the_seat_stored()
         ≡ (cpu_of seat).view.own_word }
 {}
 
+/// `rcu_drive` ends a running grace period if each awaited processor is quiet at the moment at
+/// which the call loads its own word: it departed, is idle, or passed a quiescent state at the
+/// running number or a later one. The call writes that it ended one. A processor that is awaited
+/// after it was not quiet at that moment.
+pub fn quiet_processors_end_a_grace_period()
+    ensures ended { (rcu now : Option Contents) (word : ℕ → ℕ) (at : ℕ → Moment) →
+        now ≡ on_engine (λ e. after_drive e (wants_begin e.grace) word) rcu →
+        (grace_of rcu).seq.running ≡ true →
+        ((cpu : ℕ) → is_in (grace_of rcu).processors.awaited cpu ≡ true →
+        LoadsAt (IsMapKept (engine_of rcu).view.client.plan) (engine_of rcu).cpus (at cpu)
+        (number_of (grace_of rcu).seq) cpu (word cpu)) →
+        ((cpu : ℕ) → is_in (grace_of rcu).processors.awaited cpu ≡ true →
+        IsQuietAt (at cpu) (number_of (grace_of rcu).seq) cpu) →
+        (grace_of now).seq
+        ≡ record (grace_of rcu).seq { ends = (grace_of rcu).seq.ends + 1; running = false } }
+    ensures turn { (rcu now : Option Contents) (word : ℕ → ℕ) (at : ℕ → Moment) →
+        now ≡ on_engine (λ e. after_drive e (wants_begin e.grace) word) rcu →
+        (grace_of rcu).seq.running ≡ true →
+        ((cpu : ℕ) → is_in (grace_of rcu).processors.awaited cpu ≡ true →
+        LoadsAt (IsMapKept (engine_of rcu).view.client.plan) (engine_of rcu).cpus (at cpu)
+        (number_of (grace_of rcu).seq) cpu (word cpu)) →
+        ((cpu : ℕ) → is_in (grace_of rcu).processors.awaited cpu ≡ true →
+        IsQuietAt (at cpu) (number_of (grace_of rcu).seq) cpu) →
+        turn_of (drive_answer (engine_of rcu) (wants_begin (grace_of rcu)) word)
+        ≡ record { what = 2; awaited = 0; number = number_of (grace_of now).seq } }
+    ensures held_up { (rcu now : Option Contents) (word : ℕ → ℕ) (at : Moment) (cpu : ℕ) →
+        now ≡ on_engine (λ e. after_drive e (wants_begin e.grace) word) rcu →
+        (grace_of rcu).seq.running ≡ true →
+        LoadsAt (IsMapKept (engine_of rcu).view.client.plan) (engine_of rcu).cpus at
+        (number_of (grace_of rcu).seq) cpu (word cpu) →
+        is_in (grace_of now).processors.awaited cpu ≡ true →
+        IsQuietAt at (number_of (grace_of rcu).seq) cpu → ⊥ }
+{}
+
 /// Each `rcu_drive` that wrote that it ended a grace period added one to those that have ended, and
 /// no call takes one back.
 pub fn ended_grace_periods_are_counted()
@@ -180,6 +215,21 @@ pub fn four_calls_finish_a_list()
         take_answer (list_of (grace.after_tend now.grace cpu).lists cpu) room
         ≡ callbacks (list_of (grace.after_tend now.grace cpu).lists cpu) }
 {}
+
+/// `rcu_barrier_test` writes 0 once the barrier has visited each processor and each callback queued
+/// before that has been handed out. Other calls may come between, departures too.
+pub fn handed_out_callbacks_finish_a_barrier()
+    ensures { (first : Locked Planned ℕ) (later visited : List (Call ℕ)) → IsNew first →
+        IsRun first (Call.BarrierTest ∷ later ++ visited) →
+        ((cpu : ℕ) → cpu < (engine_after first visited).cpus →
+        is_visited (engine_after first visited).grace.lists cpu ≡ true) →
+        list_any begins_barrier later ≡ false →
+        ((place : ℕ) → 0 < place → place ≤ (engine_after first visited).grace.lists.queued →
+        times_handed_out place first (later ++ visited) ≡ 1) →
+        left_of (barrier_test_answer (engine_after first (later ++ visited)).grace.lists) ≡ 0 }
+{
+    progress::handed_out_callbacks_finish_a_barrier::<u64, Rule>();
+}
 
 /// `rcu_barrier_wait` writes 0 by its fourth call, if the words that the first two calls find say
 /// that each processor is quiescent, and all that is done after the third call is handed out before
