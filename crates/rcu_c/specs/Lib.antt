@@ -16,5 +16,6 @@ pub mod Refusals
 pub mod Replicas
 pub mod Seats
 pub mod Sleeps
+pub mod SmallSeat
 pub mod Staying
 pub mod Version

@@ -45,6 +45,7 @@ pub mod requests;
 pub mod seat_parts;
 pub mod sections;
 pub mod sleeps;
+pub mod small_map;
 pub mod small_runs;
 pub mod version;
 
