@@ -1,6 +1,7 @@
 //! Entries that wait for a free node: by a script on one thread, and by several threads.
 mod caller;
 mod locked;
+mod sleeps;
 mod threads;
 
 use crate::compare::compare;

@@ -103,7 +103,7 @@ fn wait_beside<R: Threads + Wait + Sync>(rt: &R, waiter: Waiter<'_>, other: Othe
 }
 
 /// A route to a network, by a port.
-fn route_to<R: Abort>(rt: &R, network: u32, port: u32) -> Route
+pub(crate) fn route_to<R: Abort>(rt: &R, network: u32, port: u32) -> Route
     ensures { 0 < result.network }
 {
     Route::to(network, port).expect(rt, "a network has a number")
