@@ -4,10 +4,18 @@ use Rattle.std.specs.Prelude.{slice_index}
 use Rattle.rcu_graph.specs.Nodes.{IsHeld, hops_in}
 use Rattle.rcu_graph.specs.declared.known.Hop.{Hop}
 use Rattle.rcu_graph.specs.declared.known.Known.{Known}
+use Rattle.rcu_graph.specs.declared.plan.Plan.{Plan}
 
 -- the keys, which are the first words, go up along the links of this number
 abbrev pub Ascends : (ℕ → List ℕ → List ℕ → Type 0) → ℕ → Type 0
 Ascends joins link = (from to : List ℕ) → joins link from to → slice_index from 0 < slice_index to 0
+
+-- from this root leads a chain along the first link, on which the keys go up
+pub record HeadsChain (joins : ℕ → List ℕ → List ℕ → Type 0) (plan : Plan) (root : ℕ) : Type 0
+  where
+    pub is_root : root < plan.roots
+    pub link : 0 < plan.links
+    pub ascends : Ascends joins 0
 
 -- the section holds this node, which is whole and has the key
 pub record IsFound (fits : List ℕ → Type 0) (key : ℕ) (known : Known) (node : ℕ) : Type 0 where

@@ -38,8 +38,7 @@ pub fn a_search_may_go_on_beside_its_writer()
 {}
 
 /// A section makes a hop, the writer publishes a node, and the section goes on to it, each by one
-/// move. No earlier move takes it to that node, and none takes the store back. The node that leads
-/// to the new one is on the chain of the root, and on none behind the new one.
+/// move. The node that leads to the new one is on the chain of the root.
 pub fn a_section_goes_on_over_a_run()
     ensures kept { (kept : IsKeptOver small_fits small_joins small_first small_plan 0 3
         small_moments) × AreOnChain small_fits small_joins small_first small_plan (λ _. true) 0 0 3
@@ -47,6 +46,12 @@ pub fn a_section_goes_on_over_a_run()
     ensures walks { IsOpenOver small_fits small_joins small_first small_plan 1 0 3 small_moments }
     ensures chain { IsChainOf small_joins small_first small_plan (λ _. true) 0 }
     ensures nodes { (t : ℕ) → t ≤ 1 → nodes_at small_moments (suc t) ≡ small_nodes t }
+{}
+
+/// In that run no earlier move takes the section to the new node, and none takes the store back.
+/// The node that leads to the new one is on no chain behind it. The section's seat is no writer's,
+/// the section did not begin at a later number, and a node that is no root has no chain.
+pub fn a_run_has_no_other_moves()
     ensures not_before { IsSectionMove small_fits small_joins small_first small_plan
         (small_moment 0 (first_hop ∷ [])) (small_moment 0 (second_hop ∷ first_hop ∷ [])) → ⊥ }
     ensures not_back { IsWriterMove small_plan (small_moment 1 []) (small_moment 0 []) → ⊥ }

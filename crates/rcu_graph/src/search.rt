@@ -1,12 +1,12 @@
 //! Chains whose first words, the keys, go up: a section's search in one ends, whatever the writer
 //! does meanwhile.
-ghost use Rattle.std.specs.Prelude.{◌≡◌, ◌<◌, ℕ, IfSome, List, slice_index};
+ghost use Rattle.std.specs.Prelude.{◌≡◌, ℕ, IfSome, List, slice_index};
 ghost use Rattle.rcu_live.specs.CpuSeat.{after_word_step};
 ghost use Rattle.rcu_live.specs.InPart.{seat_part};
 ghost use Rattle.rcu_graph.specs.Graph.{IsAt, IsWalking};
 ghost use Rattle.rcu_graph.specs.Nodes.{IsOn};
 ghost use Rattle.rcu_graph.specs.Opening.{layout_of};
-ghost use Rattle.rcu_graph.specs.Search.{Ascends, IsFound, IsSearched};
+ghost use Rattle.rcu_graph.specs.Search.{HeadsChain, IsFound, IsSearched};
 
 use crate::graph::Graph;
 use crate::plan::Layout;
@@ -40,9 +40,7 @@ impl<F: Shape, P: Within<GraphRule<F>>> Graph<F, P> {
     ) -> Option<usize>
         requires layout { layout ≡ layout_of self.now }
         requires walking { IsWalking self.now (seat_part P.lens seat.old) }
-        requires root { root < self.now.plan.roots }
-        requires link { 0 < self.now.plan.links }
-        requires ascends { Ascends (F.joins self.now.plan) 0 }
+        requires chain { HeadsChain (F.joins self.now.plan) self.now.plan root }
         ensures same { seat.new ≡ after_word_step seat.old
             (P.lens.set seat.old.view.client (P.lens.get seat.new.view.client)) }
         ensures walking { IsWalking self.now (seat_part P.lens seat.new) }

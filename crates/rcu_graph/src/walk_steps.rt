@@ -3,7 +3,7 @@ ghost use Rattle.std.specs.Prelude.{◌≡◌, ◌<◌, ℕ, IfSome, List, slice
 ghost use Rattle.rcu_live.specs.InPart.{seat_part};
 ghost use Rattle.rcu_graph.specs.Graph.{IsAt, IsWalking, word_to};
 ghost use Rattle.rcu_graph.specs.Nodes.{IsOn};
-ghost use Rattle.rcu_graph.specs.Search.{Ascends, IsFound, IsSearched};
+ghost use Rattle.rcu_graph.specs.Search.{HeadsChain, IsFound, IsSearched};
 ghost use Rattle.rcu_graph.specs.Steps.{Followed};
 ghost use Rattle.rcu_graph.specs.Walks.{after_walk, known_in, walked};
 
@@ -64,9 +64,8 @@ impl<'a, F: Shape, P: Within<GraphRule<F>>> Walk<'a, F, P> {
 
     /// Searches the chain of a root for a key, as [`Graph::find`] does.
     pub fn find(&mut self, root: usize, key: u64) -> Option<usize>
-        requires root { root < (walked self.old).graph.plan.roots }
-        requires link { 0 < (walked self.old).graph.plan.links }
-        requires ascends { Ascends (F.joins (walked self.old).graph.plan) 0 }
+        requires chain { HeadsChain (F.joins (walked self.old).graph.plan)
+            (walked self.old).graph.plan root }
         ensures same { walked self.new ≡ after_walk P.lens (walked self.old)
             (known_in P.lens (walked self.new)) }
         ensures walking { IsWalking (walked self.new).graph

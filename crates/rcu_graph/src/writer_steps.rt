@@ -4,12 +4,13 @@ ghost use Rattle.rcu_live.specs.Numbers.{is_number_word};
 ghost use Rattle.rcu_live.specs.InPart.{watcher_part};
 ghost use Rattle.rcu_live.specs.Watcher.{after_number_step, after_word_step};
 ghost use Rattle.rcu_graph.specs.Graph.{IsWatcherOf};
-ghost use Rattle.rcu_graph.specs.Writer.{IsReady, IsWriterOf, after_link, after_look};
+ghost use Rattle.rcu_graph.specs.Writer.{IsWriterOf, after_link, after_look};
 ghost use Rattle.rcu_graph.specs.Writer.{after_mark_unlinked, after_publish, after_write};
 ghost use Rattle.rcu_graph.specs.Writer.{after_write_link};
 ghost use Rattle.rcu_graph.specs.Nodes.{IsTarget, IsUnlinked, first_nodes, node_at, nodes_in};
 ghost use Rattle.rcu_graph.specs.Nodes.{state_at};
 ghost use Rattle.rcu_graph.specs.Planned.{knowing};
+ghost use Rattle.rcu_graph.specs.Updates.{CanPublish};
 ghost use Rattle.rcu_graph.specs.declared.known.Known.TheVariants.{Owner, Writer};
 ghost use Rattle.rcu_graph.specs.declared.node_state.NodeState.TheVariants.{Free, Live};
 
@@ -96,15 +97,8 @@ impl<F: Shape, P: Within<GraphRule<F>>> Graph<F, P> {
     /// (Linux's `rcu_assign_pointer`).
     pub fn publish(&self, seat: &mut GraphWatcher<F, P>, from: usize, link: usize, to: usize)
         requires writer { IsWriterOf self.now (watcher_part P.lens seat.old) }
-        requires from { from < self.now.plan.nodes }
-        requires to { to < self.now.plan.nodes }
-        requires link { link < self.now.plan.links }
-        requires live { state_at (nodes_in (P.lens.get seat.old.view.client).known) from ≡ Live }
-        requires ready { IsReady (F.fits self.now.plan) (F.joins self.now.plan)
-            self.now.plan.links (nodes_in (P.lens.get seat.old.view.client).known) to }
-        requires joined { F.joins self.now.plan link
-            (node_at (nodes_in (P.lens.get seat.old.view.client).known) from).words
-            (node_at (nodes_in (P.lens.get seat.old.view.client).known) to).words }
+        requires can { CanPublish (F.fits self.now.plan) (F.joins self.now.plan) self.now
+            (watcher_part P.lens seat.old) from link to }
         ensures writer { IsWriterOf self.now (watcher_part P.lens seat.new) }
         ensures state { watcher_part P.lens seat.new
             ≡ after_publish (watcher_part P.lens seat.old) from link to }

@@ -1,7 +1,7 @@
 //! Several clients of one engine: two maps, which a thread reads by one seat.
 mod behind;
 
-ghost use Rattle.std.specs.Prelude.{◌≡◌, ◌<◌};
+ghost use Rattle.std.specs.Prelude.{◌≡◌};
 ghost use Rattle.std.specs.Arc.{arc_value};
 ghost use Rattle.rcu_live.specs.CpuSeat.{after_word_step};
 ghost use Rattle.rcu_live.specs.InPart.{engine_part, seat_part, watcher_part};
@@ -15,6 +15,7 @@ ghost use Rattle.rcu_graph.specs.Writer.{IsWriterOf};
 ghost use Rattle.rcu_graph.specs.Opening.{claimed_first};
 ghost use Rattle.rcu_graph.specs.Planned.{of_plan};
 ghost use Rattle.rcu_graph.specs.declared.known.Known.TheVariants.{Idle};
+ghost use Rattle.rcu_map.specs.Chains.{IsPlanOfMap};
 ghost use Rattle.rcu_map.specs.Keys.{root_words};
 
 use crate::compare::compare;
@@ -49,9 +50,7 @@ fn joins<R: Abort, P: Within<Rule>>(
 ) -> (Map<Route, 2, P>, MapWatcher<Route, 2, P>)
     requires can { CanJoin P.lens P.own_plan P.begins P.Whole.suits P.Whole.size plan
         (arc_value board.now) own.old }
-    requires buckets { 0 < (P.own_plan plan).roots }
-    requires one { (P.own_plan plan).links ≡ 1 }
-    requires entries { (P.own_plan plan).words ≡ 2 }
+    requires plan { IsPlanOfMap 2 (P.own_plan plan) }
     ensures map { result.0 ≡ engine_part P.own_plan P.begins (arc_value board.now) }
     ensures writer { IsWriterOf result.0 (watcher_part P.lens result.1) }
     ensures claimed { P.lens.get result.1.view.client

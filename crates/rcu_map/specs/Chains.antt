@@ -37,6 +37,13 @@ pub record HasSizes (buckets width entries : ℕ) : Type 0 where
   pub wide : 2 ≤ width
   pub graph : IsSized (plan_of_map buckets width entries 0)
 
+-- the plan of a map whose entries have this many words: two or more, if the number is 0
+pub record IsPlanOfMap (width : ℕ) (plan : Plan) : Type 0 where
+  pub some : 0 < plan.roots
+  pub one : plan.links ≡ 1
+  pub wide : 2 ≤ plan.words
+  pub words : 0 < width → plan.words ≡ width
+
 -- both nodes are live, and of one bucket
 pub record AreOfOneBucket (buckets seed : ℕ) (nodes : List Node) (i j : ℕ) : Type 0 where
   pub first : state_at nodes i ≡ Live

@@ -1,9 +1,13 @@
 -- The result of a lookup in a map.
-use Rattle.std.specs.Prelude.{◌≡◌, ℕ, Bool, List, Option, Some, None, is_some}
+use Rattle.std.specs.Prelude.{◌≡◌, ◌≤◌, ℕ, Bool, List, Option, Some, None, is_some}
+use Rattle.rcu_live.specs.CpuSeat.{Seated}
 use Rattle.rcu_graph.specs.Nodes.{IsHeld}
 use Rattle.rcu_graph.specs.Search.{IsSearched}
+use Rattle.rcu_graph.specs.Sections.{after_section}
 use Rattle.rcu_graph.specs.declared.known.Known.{Known}
+use Rattle.rcu_graph.specs.declared.known.Planned.{Planned}
 use Rattle.rcu_map.specs.Keys.{bucket_of, key_in}
+use Rattle.rcu_map.specs.Puts.{IsOfKey}
 
 -- the section holds this node, which has the key, and whose words are an entry's and decode to this
 -- one
@@ -37,3 +41,11 @@ pub record IsLookedUp (buckets seed key : ℕ) (was : Known) (there : Bool) (now
     pub node : Option ℕ
     pub searched : IsSearched (bucket_of buckets seed key) key was node now
     pub told : is_some node ≡ there
+
+-- a section was opened on the seat, looked the key up, and was closed: what it found has the key,
+-- and the user's fact holds for it
+pub record HasLookedUp {E : Type 0} (valid : E → Type 0) (key_of : E → ℕ) (key : ℕ)
+    (before : Seated Planned) (found : Option E) (after : Seated Planned) : Type 0 where
+  pub state : after ≡ after_section before after.view.seen
+  pub later : before.view.seen ≤ after.view.seen
+  pub keyed : IsOfKey valid key_of key found

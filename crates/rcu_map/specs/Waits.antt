@@ -1,5 +1,5 @@
 -- The effect of a call that waits for a free node.
-use Rattle.std.specs.Prelude.{◌≡◌, ℕ, Bool, true, false, List, Err, Ok, Result}
+use Rattle.std.specs.Prelude.{◌≡◌, ℕ, Bool, true, false, List, Option, Err, Ok, Result, is_some}
 use Rattle.rcu_seq.specs.declared.fault.Fault.TheVariants.{Exhausted}
 use Rattle.rcu_live.specs.CpuSeat.{Seated}
 use Rattle.rcu_live.specs.Watcher.{Watching}
@@ -12,9 +12,10 @@ use Rattle.rcu_graph.specs.declared.known.Planned.{Planned}
 use Rattle.rcu_graph.specs.declared.known.Node.{Node}
 use Rattle.rcu_map.specs.Chains.{buckets_in}
 use Rattle.rcu_map.specs.Entries.{AreSameEntries}
-use Rattle.rcu_map.specs.Puts.{HasChanged, IsPutIn}
+use Rattle.rcu_map.specs.Puts.{HasChanged, Holds, IsPutIn, is_put}
 use Rattle.rcu_map.specs.Room.{IsOneTooMany}
 use Rattle.rcu_map.specs.declared.put.NotPut.{NotPut}
+use Rattle.rcu_map.specs.declared.put.Put.{Put}
 use Rattle.rcu_map.specs.declared.put.NotPut.TheVariants.{Fault, Full}
 
 -- the writer waited until a node was free, and no entry changed
@@ -70,3 +71,14 @@ HasPutInTime buckets words there true seat now before after =
     HasChangedInTime (IsPutIn buckets words there) buckets seat now before after
 HasPutInTime buckets words there false seat now before after =
     (seat.depth ≡ 0) × HasStayed seat now before after
+
+-- the writer of such a caller had to put in an entry of this key and these words: it returned the
+-- entry that had the key, and put the new one in if that was requested
+pub record HasAnsweredInTime {C E : Type 0} (decode : List ℕ → E) (valid : E → Type 0)
+    (key_of : E → ℕ) (how : Put) (key : ℕ) (words : List ℕ) (seat now : Seated C)
+    (before : Watching Planned) (old : Option E) (after : Watching Planned) : Type 0
+  where
+    pub had : Holds decode valid key_of (buckets_in before) (nodes_in before.view.client.known) key
+        old
+    pub put : HasPutInTime (buckets_in before) words (is_some old) (is_put how (is_some old)) seat
+        now before after

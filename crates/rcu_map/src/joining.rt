@@ -1,5 +1,5 @@
 //! A map that is one of several clients of its engine.
-ghost use Rattle.std.specs.Prelude.{◌≡◌, ◌<◌, ◌≤◌, IfErr, IfOk, OnErr, OnOk};
+ghost use Rattle.std.specs.Prelude.{◌≡◌, IfErr, IfOk, OnErr, OnOk};
 ghost use Rattle.std.specs.Arc.{arc_value};
 ghost use Rattle.rcu_live.specs.InPart.{engine_part, watcher_part};
 ghost use Rattle.rcu_live.specs.Watcher.{after_word_step};
@@ -9,7 +9,7 @@ ghost use Rattle.rcu_graph.specs.Opening.{claimed_first};
 ghost use Rattle.rcu_graph.specs.Planned.{of_plan};
 ghost use Rattle.rcu_graph.specs.declared.known.Known.TheVariants.{Idle};
 ghost use Rattle.rcu_graph.specs.declared.not_opened.NotOpened.{NotOpened};
-ghost use Rattle.rcu_map.specs.Chains.{HasSizes, plan_of_map};
+ghost use Rattle.rcu_map.specs.Chains.{HasSizes, IsPlanOfMap, plan_of_map};
 ghost use Rattle.rcu_map.specs.Keys.{root_words};
 
 use crate::entry::{Entry, words_are_two};
@@ -31,10 +31,7 @@ impl<E: Invariant, const W: usize, P: Within<MapRule<E, W>>> Map<E, W, P> {
     ) -> Result<(Map<E, W, P>, MapWatcher<E, W, P>), AllocError>
         requires can { CanJoin P.lens P.own_plan P.begins P.Whole.suits P.Whole.size plan
             (arc_value board.now) own.old }
-        requires buckets { 0 < (P.own_plan plan).roots }
-        requires one { (P.own_plan plan).links ≡ 1 }
-        requires wide { 2 ≤ (P.own_plan plan).words }
-        requires entries { 0 < W → (P.own_plan plan).words ≡ W }
+        requires plan { IsPlanOfMap W (P.own_plan plan) }
         ensures map { IfOk result (λ joined.
             joined.0 ≡ engine_part P.own_plan P.begins (arc_value board.now)) }
         ensures writer { IfOk result (λ joined.
@@ -57,7 +54,7 @@ impl<E: Entry<W>, const W: usize> Map<E, W> {
     /// Returns `BadSizes` if no map may be this large.
     pub fn sized(buckets: usize, entries: usize, seed: u64) -> Result<Plan, NotOpened>
         ensures plan { IfOk result (λ plan. plan ≡ plan_of_map buckets W entries seed) }
-        ensures some { IfOk result (λ plan. 0 < plan.roots) }
+        ensures of_map { IfOk result (IsPlanOfMap W) }
         ensures suits { IfOk result ⟦<MapRule<E, W> as Client>⟧.suits }
         ensures bad_sizes { OnErr result (¬ HasSizes buckets W entries) }
         ensures fault { IfErr result (λ fault. fault ≡ NotOpened.BadSizes) }

@@ -8,6 +8,7 @@ ghost use Rattle.rcu_graph.specs.Graph.{IsAt, IsWalking};
 ghost use Rattle.rcu_graph.specs.Nodes.{IsOn};
 ghost use Rattle.rcu_graph.specs.Opening.{layout_of};
 ghost use Rattle.rcu_graph.specs.Search.{IsFound, IsSearched};
+ghost use Rattle.rcu_map.specs.Chains.{IsPlanOfMap};
 ghost use Rattle.rcu_map.specs.Found.{IsGot, IsLookedUp};
 ghost use Rattle.rcu_map.specs.Keys.{IsWhole, bucket_of, key_in, root_words};
 ghost use Rattle.rcu_map.specs.Words.{as_words, words_if};
@@ -33,29 +34,21 @@ pub struct Map<E: Invariant, const W: usize, P: Within<MapRule<E, W>> = Alone> {
 }
 
 impl<E: Invariant, const W: usize, P: Within<MapRule<E, W>>> Model for Map<E, W, P> {
-    ghost use Rattle.std.specs.Prelude.{◌≡◌, ◌<◌, ◌≤◌};
     ghost use Rattle.rcu_live.specs.Board.{Object};
     ghost use Rattle.rcu_graph.specs.declared.plan.Plan.{Plan};
+    ghost use Rattle.rcu_map.specs.Chains.{IsPlanOfMap};
 
     ghost Value = { Object Plan };
 
     ghost view = { λ map. map.graph };
 
-    ghost invariant = { λ map. record {
-      some : 0 < map.graph.plan.roots;
-      one : map.graph.plan.links ≡ 1;
-      wide : 2 ≤ map.graph.plan.words;
-      words : 0 < W → map.graph.plan.words ≡ W;
-    } };
+    ghost invariant = { λ map. IsPlanOfMap W map.graph.plan };
 }
 
 impl<E: Invariant, const W: usize, P: Within<MapRule<E, W>>> Map<E, W, P> {
     /// Returns a map over a graph with one link in each node, whose roots are those of the buckets.
     pub fn over(graph: Graph<MapShape<E, W>, P>) -> Map<E, W, P>
-        requires some { 0 < graph.plan.roots }
-        requires one { graph.plan.links ≡ 1 }
-        requires wide { 2 ≤ graph.plan.words }
-        requires words { 0 < W → graph.plan.words ≡ W }
+        requires { IsPlanOfMap W graph.plan }
         ensures { result ≡ graph }
     {
         Map { graph }

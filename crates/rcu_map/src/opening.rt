@@ -9,7 +9,7 @@ ghost use Rattle.rcu_graph.specs.Opening.{IsSized, tested_opening, writer_at_fir
 ghost use Rattle.rcu_graph.specs.Planned.{of_plan};
 ghost use Rattle.rcu_graph.specs.declared.known.Known.TheVariants.{Idle};
 ghost use Rattle.rcu_graph.specs.declared.not_opened.NotOpened.{NotOpened};
-ghost use Rattle.rcu_map.specs.Chains.{HasSizes, plan_of_map};
+ghost use Rattle.rcu_map.specs.Chains.{HasSizes, IsPlanOfMap, plan_of_map};
 ghost use Rattle.rcu_map.specs.Keys.{root_words};
 
 use crate::bucket::multiplier_of;
@@ -83,10 +83,7 @@ impl<E: Invariant, const W: usize> Map<E, W> {
         plan: Plan,
     ) -> Result<Opened<UnlockedEngine<LEAF, FAN, T, MapShape<E, W>>, E, W>, NotOpened>
         requires fanouts { AreFanouts LEAF FAN }
-        requires buckets { 0 < plan.roots }
-        requires one { plan.links ≡ 1 }
-        requires wide { 2 ≤ plan.words }
-        requires words { 0 < W → plan.words ≡ W }
+        requires plan { IsPlanOfMap W plan }
         ensures bad_sizes { (result ≡ Err NotOpened.BadSizes) ↔ ¬ IsSized plan }
         ensures fault { IsSized plan →
             tested_opening result ≡ opening_refusal LEAF FAN cpus last }

@@ -1,10 +1,10 @@
 //! Whole sections that read a map.
-ghost use Rattle.std.specs.Prelude.{◌≡◌, ◌≤◌, IfOk, IfSome, OnErr, OnOk};
+ghost use Rattle.std.specs.Prelude.{◌≡◌, IfOk, OnErr};
 ghost use Rattle.std.specs.Result.{result_err};
 ghost use Rattle.rcu_live.specs.CpuSeat.{enter_refusal};
 ghost use Rattle.rcu_graph.specs.Graph.{IsSeatOf};
 ghost use Rattle.rcu_graph.specs.Nodes.{IsReader};
-ghost use Rattle.rcu_graph.specs.Sections.{after_section};
+ghost use Rattle.rcu_map.specs.Found.{HasLookedUp};
 
 use crate::entry::Entry;
 use crate::map::Map;
@@ -30,11 +30,8 @@ impl<E: Entry<W>, const W: usize> Map<E, W> {
         ensures seat { IsSeatOf self.now seat.new }
         ensures outside { seat.new.depth ≡ 0 }
         ensures fault { result_err result ≡ enter_refusal seat.old }
-        ensures state { OnOk result (seat.new ≡ after_section seat.old seat.new.view.seen) }
-        ensures later { OnOk result (seat.old.view.seen ≤ seat.new.view.seen) }
-        ensures found { IfOk result (λ found. IfSome found (λ entry.
-            E.key_of entry ≡ key)) }
-        ensures sound { IfOk result (λ found. IfSome found (λ entry. E.valid entry)) }
+        ensures found { IfOk result (λ found.
+            HasLookedUp E.valid E.key_of key seat.old found seat.new) }
         ensures unchanged { OnErr result (seat.new ≡ seat.old) }
     {
         seat.enter(live)?;

@@ -1,15 +1,15 @@
 //! Calls that wait until a node is free.
 ghost use Rattle.std.specs.Prelude.{◌≡◌, ◌≢◌, ◌↔◌, ◌<◌, Err, IfErr, IfOk, MatchResult};
-ghost use Rattle.std.specs.Prelude.{OnErr, OnOk, is_some};
+ghost use Rattle.std.specs.Prelude.{OnErr, OnOk};
 ghost use Rattle.rcu_seq.specs.declared.fault.Fault.{Fault};
 ghost use Rattle.rcu_live.specs.InPart.{engine_part, seat_part};
 ghost use Rattle.rcu_live.specs.Waits.{HasRested, wait_fault};
 ghost use Rattle.rcu_graph.specs.Nodes.{nodes_in};
 ghost use Rattle.rcu_map.specs.Chains.{buckets_in};
-ghost use Rattle.rcu_map.specs.Puts.{Holds, IsWanted, is_put};
+ghost use Rattle.rcu_map.specs.Puts.{IsWanted};
 ghost use Rattle.rcu_graph.specs.Waits.{AreOf, CanWait, HasStayed};
 ghost use Rattle.rcu_map.specs.Room.{IsOneTooMany, LacksRoom};
-ghost use Rattle.rcu_map.specs.Waits.{HasGivenUp, HasMadeRoom, HasPutInTime};
+ghost use Rattle.rcu_map.specs.Waits.{HasAnsweredInTime, HasGivenUp, HasMadeRoom};
 ghost use Rattle.rcu_map.specs.Waits.{WaitedFor};
 ghost use Rattle.rcu_map.specs.declared.put.NotPut.{NotPut};
 
@@ -106,11 +106,8 @@ impl<E: Entry<W>, const W: usize, P: Within<MapRule<E, W>>> MapWriter<E, W, P> {
         ensures of_map { AreOf (engine_part P.own_plan P.begins live.now) self.new
             (seat_part P.lens seat.new) }
         ensures rested { HasRested seat.old seat.new }
-        ensures old { IfOk result (λ old. Holds E.decode E.valid E.key_of (buckets_in self.old)
-            (nodes_in self.old.view.client.known) (E.key_of entry) old) }
-        ensures put { IfOk result (λ old. HasPutInTime (buckets_in self.old) (E.in_words entry)
-            (is_some old)
-            (is_put how (is_some old)) seat.old seat.new self.old self.new) }
+        ensures put { IfOk result (λ old. HasAnsweredInTime E.decode E.valid E.key_of how
+            (E.key_of entry) (E.in_words entry) seat.old seat.new self.old old self.new) }
         ensures full { (result ≡ Err NotPut.Full) ↔ ((seat.old.depth ≡ 0)
             × IsWanted how (buckets_in self.old) (nodes_in self.old.view.client.known)
             (E.key_of entry)

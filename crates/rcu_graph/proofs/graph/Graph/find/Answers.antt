@@ -17,10 +17,10 @@ chain-init g c = record {
       (sym (g.met.P.Within.is_lens.as_it_is c.args.seat.now.view.client));
   planned = refl;
   reader = c.requires.walking.reads;
-  inside = omega (arith, c.requires.root, c.plan.ensures.roots);
+  inside = omega (arith, c.requires.chain.is_root, c.plan.ensures.roots);
   on = (
     (g.F.Shape.first c.args.self.now.plan) c.args.root,
-    inl (c.requires.root, refl),
+    inl (c.requires.chain.is_root, refl),
     omega arith,
   );
   path = sets_out c.args.root c.args.key (g.P.Within.lens.get c.args.seat.now.view.client).known;
@@ -36,7 +36,7 @@ follow_word-word-requires g c =
           i.same)
           i.planned c.requires.walking i.reader i.on.1
           i.inside;
-      link = c.requires.link;
+      link = c.requires.chain.link;
     }
 
 pub key_of-found-requires : goal.key_of-found-requires
@@ -133,7 +133,7 @@ chain-smaller g c =
     let came = came_to _ _ _ _ _ _ _ _ _ f in
     let held = came_holds _ _ _ _ _ _ _ _ _ f in
     let up : slice_index on.0 0 < slice_index f.words 0 =
-    c.requires.ascends on.0 f.words came.joined in
+    c.requires.chain.ascends on.0 f.words came.joined in
     let told = c.key_of-found.ensures.told f.words (inr held) in
     omega (arith, up, told, on.2, c.if-found-key.false, c.if-found-key-2.false)
 

@@ -13,9 +13,10 @@ store-requires-clause-allowed g c =
     (g.P.Within.lens.get c.args.seat.now.view.client)
     c.args.self.now.plan c.requires.writer.watches.planned c.args.from c.args.link c.args.to
     c.place-place.result _
-    c.requires.writer.keeps (omega (arith, c.requires.writer.few, c.requires.from))
-    (omega (arith, c.requires.writer.few, c.requires.to))
-    c.requires.link c.requires.live c.requires.ready c.requires.joined c.place-place.ensures.place
+    c.requires.writer.keeps (omega (arith, c.requires.writer.few, c.requires.can.from_inside))
+    (omega (arith, c.requires.writer.few, c.requires.can.to_inside))
+    c.requires.can.link_inside c.requires.can.live c.requires.can.ready c.requires.can.joined
+    c.place-place.ensures.place
     (omega arith)
 
 pub returns-clause-writer : goal.returns-clause-writer
@@ -26,7 +27,7 @@ returns-clause-writer g c =
     (told_at (λ (p : Plan). IsPublished p.roots p.links p.words) c.place-place.result
     (g.P.Within.lens.get c.args.seat.now.view.client) _
     (g.P.Within.lens.get c.store.new.seat.view.client) c.args.self.now.plan
-    k.watches.planned e.told c.args.from c.args.link c.args.to c.requires.link
+    k.watches.planned e.told c.args.from c.args.link c.args.to c.requires.can.link_inside
     c.place-place.ensures.place
     (omega arith))
     (length-set _ _ _ ∙ (length-set _ _ _ ∙ k.few)) k
@@ -36,5 +37,5 @@ returns-clause-state g c =
     let e = c.store.ensures.part in
     led_to (watcher_part g.P.Within.lens c.args.seat.now)
     (watcher_part g.P.Within.lens c.store.new.seat) c.args.self.now.plan _ c.args.from c.args.link
-    c.args.to _ e.state c.requires.writer.watches.planned e.told c.requires.link
+    c.args.to _ e.state c.requires.writer.watches.planned e.told c.requires.can.link_inside
     c.place-place.ensures.place (omega arith)

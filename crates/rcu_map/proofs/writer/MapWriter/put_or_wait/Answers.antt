@@ -21,15 +21,15 @@ use Rattle.rcu_map.proofs.writer.MapWriter.put_or_wait.Goals as goal
 pub returns-in-Ok-clause-rested : goal.returns-in-Ok-clause-rested
 returns-in-Ok-clause-rested g c = rested_none c.args.seat.now
 
-pub returns-in-Ok-clause-old : goal.returns-in-Ok-clause-old
-returns-in-Ok-clause-old g c =
-    (when_told _ _ _ _ _ _ _ _ _ c.put.ensures c.in-Ok.old c.in-Ok.is).0
-
 pub returns-in-Ok-clause-put : goal.returns-in-Ok-clause-put
 returns-in-Ok-clause-put g c =
     let told = when_told _ _ _ _ _ _ _ _ _ c.put.ensures c.in-Ok.old c.in-Ok.is in
-    put_at_once (buckets_in c.args.self.now) (g.E.Value.in_words c.args.entry) (is_some c.in-Ok.old)
-    c.args.seat.now c.args.self.now c.put.new.self c.in_ok-check_outside.ensures _ told.1
+    record {
+      had = told.0;
+      put = put_at_once (buckets_in c.args.self.now) (g.E.Value.in_words c.args.entry)
+          (is_some c.in-Ok.old) c.args.seat.now c.args.self.now c.put.new.self
+          c.in_ok-check_outside.ensures _ told.1;
+    }
 
 pub returns-in_err-wait_for_room-clause-full : goal.returns-in_err-wait_for_room-clause-full
 returns-in_err-wait_for_room-clause-full g c =
@@ -56,26 +56,6 @@ returns-in_err-wait_for_room-clause-full g c =
           (subst (λ (key : ℕ). IsOneTooMany c.args.self.now key) (sym c.key.ensures) h.2))),
     )
 
-pub returns-clause-old : goal.returns-clause-old
-returns-clause-old g c =
-    let none = when_full _ _ _ _ _ _ _ _ _ c.put.ensures c.in_default.field-0
-    c.in_default.is in
-    let room : HasMadeRoom (buckets_in c.args.self.now) c.args.seat.now c.wait_for_room.new.seat
-    c.args.self.now c.wait_for_room.new.self =
-    subst (λ (w : Watching Planned). HasMadeRoom (buckets_in w) c.args.seat.now
-    c.wait_for_room.new.seat w c.wait_for_room.new.self)
-    none.2 c.in_ok-wait_for_room.ensures.end.1 in
-    let planned = reclaimed_plan c.args.self.now c.wait_for_room.new.self
-    room.made.looked in
-    let told = subst (λ (b : ℕ). Holds g.E.Value.decode g.E.Value.valid g.E.Entry.key_of b
-    (nodes_in c.wait_for_room.new.self.view.client.known) (g.E.Entry.key_of c.args.entry)
-    c.in-Ok-put.old
-    × HasPutIn b (g.E.Value.in_words c.args.entry) (is_some c.in-Ok-put.old)
-    (is_put c.args.how (is_some c.in-Ok-put.old)) c.wait_for_room.new.self c.put-2.new.self)
-    (ap (λ (p : Plan). p.roots) planned)
-    (when_told _ _ _ _ _ _ _ _ _ c.put-2.ensures c.in-Ok-put.old c.in-Ok-put.is) in
-    same_holder _ _ _ _ _ _ _ _ room.entries told.0
-
 pub returns-clause-put : goal.returns-clause-put
 returns-clause-put g c =
     let none = when_full _ _ _ _ _ _ _ _ _ c.put.ensures c.in_default.field-0
@@ -100,10 +80,13 @@ returns-clause-put g c =
     (subst (λ (key : ℕ). LacksRoom c.args.self.now key) (sym c.key.ensures) none.1) in
     let puts = wanted_is_put _ _ _ _ _ _ _ c.in-Ok-put.old none.0
     (same_holder _ _ _ _ _ _ _ _ room.entries told.0) in
-    put_later (buckets_in c.args.self.now) (g.E.Value.in_words c.args.entry)
-    (is_some c.in-Ok-put.old) c.args.seat.now c.args.self.now c.put-2.new.self
-    c.in_ok-check_outside.ensures c.wait_for_room.new.seat c.wait_for_room.new.self full room
-    _ puts told.1
+    record {
+      had = same_holder _ _ _ _ _ _ _ _ room.entries told.0;
+      put = put_later (buckets_in c.args.self.now) (g.E.Value.in_words c.args.entry)
+          (is_some c.in-Ok-put.old) c.args.seat.now c.args.self.now c.put-2.new.self
+          c.in_ok-check_outside.ensures c.wait_for_room.new.seat c.wait_for_room.new.self full room
+          _ puts told.1;
+    }
 
 pub returns-clause-full : goal.returns-clause-full
 returns-clause-full g c =
