@@ -19,7 +19,7 @@ use Rattle.rcu_graph.specs.declared.plan.Plan.{Plan}
 use Rattle.rcu_graph.proofs.Counting.{live_inside, other_node, same_node}
 use Rattle.rcu_graph.proofs.PutNodes.{before, elsewhere, few_put, here}
 use Rattle.rcu_graph.proofs.Puts.{not_free}
-use Rattle.rcu_graph.proofs.Tending.{at_here}
+use Rattle.rcu_graph.proofs.Tending.{at_here, live_before}
 use Rattle.rcu_graph.proofs.States.{not_unlinked}
 use Rattle.rcu_cell.specs.Cell.{slot_of}
 use Rattle.rcu_cell.specs.Writer.{Updated}
@@ -67,11 +67,6 @@ module _ (fits : List ℕ → Type 0) (joins : ℕ → List ℕ → List ℕ →
   next_same : (i : ℕ) → next_of B i ≡ next_of S i
   next_same i = ap (λ (cells : List ℕ). slice_index cells 0) (t.links_stay i)
 
-  was_live : (i : ℕ) → state_at B i ≡ Live → state_at S i ≡ Live
-  was_live i live = ⊎_elim (λ (same : state_at B i ≡ state_at S i). sym same ∙ live)
-      (λ (left : (1 ≤ i) × (state_at S i ≡ Live) × (state_at B i ≡ Unlinked)). left.1)
-      (t.states i)
-
   -- a live node of these that leads to another one is the root
   leads_on : (i j : ℕ) → state_at S i ≡ Live → next_of S i ≡ suc j → j ≡ by
   leads_on i j live e = dite (ℕ_discrete i by)
@@ -92,7 +87,7 @@ module _ (fits : List ℕ → Type 0) (joins : ℕ → List ℕ → List ℕ →
       let r = t.reached i live past in
       let small = r.inside in
       let first : r.link ≡ 0 = omega (arith, small) in
-      leads_on r.from i (was_live r.from r.live)
+      leads_on r.from i (live_before 1 1 S B t r.from r.live)
       (sym (next_same r.from)
       ∙ (ap (λ (l : ℕ). slice_index (node_at B r.from).links l) (sym first) ∙ r.leads))
 

@@ -12,6 +12,7 @@ pub mod Walking
 pub mod Starts
 pub mod Searching
 pub mod GoingOn
+pub mod TwoSeats
 pub mod SmallMoments
 pub mod SmallRuns
 pub mod Chains

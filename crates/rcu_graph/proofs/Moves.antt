@@ -6,6 +6,7 @@ use Rattle.std.specs.Prelude.{slice_index, max}
 use Rattle.std.proofs.Math.Nat.{le-max_left, le-max_right}
 use Rattle.std.proofs.lemmas.List.{get_or_append_left, get_or-append-add, get_or-set_other}
 use Rattle.std.proofs.lemmas.List.{set-get_or, set-set}
+use Rattle.std.proofs.lemmas.Option.{same_Some}
 use Rattle.std.proofs.Math.Nat.{suc_inj}
 use mathlib.Core.Option.{some, some-injective, some-ne-none}
 use mathlib.Core.Logic.{dite}
@@ -30,9 +31,6 @@ use Rattle.rcu_graph.proofs.Changes.{link_stored, node_unlinked, nodes_reclaimed
 use Rattle.rcu_graph.proofs.Changes.{word_stored}
 use Rattle.rcu_graph.proofs.Cells.{told}
 use Rattle.rcu_graph.proofs.States.{may_follow, may_is_used, may_reclaimed, not_both}
-
-number_of_some : (a b : ℕ) → Some a ≡ Some b → a ≡ b
-number_of_some a b e = cc
 
 module _ (fits : List ℕ → Type 0) (joins : ℕ → List ℕ → List ℕ → Type 0) (first : ℕ → List ℕ)
     (roots links width count : ℕ) where
@@ -82,7 +80,7 @@ module _ (fits : List ℕ → Type 0) (joins : ℕ → List ℕ → List ℕ →
         r.on,
         r.here,
         r.same,
-        subst (λ (n : ℕ). MayRead n r.on.state) (sym (number_of_some at r.opened r.is_open)) r.may,
+        subst (λ (n : ℕ). MayRead n r.on.state) (sym (same_Some at r.opened r.is_open)) r.may,
       )
 
   -- no new knowledge

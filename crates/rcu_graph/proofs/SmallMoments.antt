@@ -29,6 +29,7 @@ use Rattle.rcu_graph.specs.declared.node_state.NodeState.TheVariants.{Live}
 use Rattle.rcu_graph.proofs.Cells.{told}
 use Rattle.rcu_graph.proofs.GoingOn.{some_is_some}
 use Rattle.rcu_graph.proofs.States.{not_both}
+use Rattle.rcu_graph.proofs.TwoSeats.{seated}
 use Rattle.rcu_graph.proofs.Stores.{move_grows}
 
 -- a property of each of three nodes
@@ -149,13 +150,6 @@ reads_at t j v i to there live =
       same = refl;
       may = subst (MayRead 0) (sym live) tt;
     })
-
--- a property of each of two seats
-seated : {C : Type 0} (x y : ClientView C) (P : ℕ → ClientView C → Type 0) → P 0 x → P 1 y
-    → (id : ℕ) (z : ClientView C) → get_elem? (x ∷ y ∷ []) id ≡ some z → P id z
-seated x y P p q zero z e = subst (P 0) (some-injective _ _ e) p
-seated x y P p q (suc zero) z e = subst (P 1) (some-injective _ _ e) q
-seated x y P p q (suc (suc id)) z e = absurd (some-ne-none z (sym e))
 
 abbrev Knowing : ℕ → ℕ → ClientView Known → Type 0
 Knowing t id z = Knows (small_first small_plan) 1 1 1 3 (small_nodes t) 0 0 id z.1 z.2

@@ -22,6 +22,16 @@ use Rattle.rcu_graph.proofs.Chains.{reclaimed_at}
 use Rattle.rcu_graph.proofs.Counting.{kept_at, live_inside, other_node, same_state}
 use Rattle.rcu_graph.proofs.States.{live_reclaimed, not_both, not_unlinked}
 
+-- if the links of live nodes lead to live ones, each node to which they lead on is live
+pub live_reached : (nodes : List Node)
+    → ((from next : ℕ) → state_at nodes from ≡ Live → next_of nodes from ≡ suc next
+    → state_at nodes next ≡ Live)
+    → (to from : ℕ) → state_at nodes from ≡ Live → Reaches nodes to from → state_at nodes to ≡ Live
+live_reached nodes on to from live (arrived _ e) =
+    subst (λ (n : ℕ). state_at nodes n ≡ Live) e live
+live_reached nodes on to from live (onwards _ n is r) =
+    live_reached nodes on to n (on from n live is) r
+
 -- keys linked by live nodes are so in all nodes that have the same links and words
 module _ (ours : List ℕ → Bool) (root : ℕ) (A B : List Node) (c : IsChained ours root A)
     (same : (y : ℕ) → state_at A y ≡ Live
@@ -31,10 +41,6 @@ module _ (ours : List ℕ → Bool) (root : ℕ) (A B : List Node) (c : IsChaine
   reached_on to from live (onwards _ n is r) =
       onwards from n ((same from live).0 ∙ is) (reached_on to n (c.live from n live is) r)
 
-  live_at_end : (to from : ℕ) → state_at A from ≡ Live → Reaches A to from → state_at A to ≡ Live
-  live_at_end to from live (arrived _ e) = subst (λ (n : ℕ). state_at A n ≡ Live) e live
-  live_at_end to from live (onwards _ n is r) = live_at_end to n (c.live from n live is) r
-
   pub linked_on : (key : ℕ) → IsLinkedKey root key A → IsLinkedKey root key B
   linked_on key k =
       let first = c.live root k.begin c.rooted k.begins in record {
@@ -42,7 +48,7 @@ module _ (ours : List ℕ → Bool) (root : ℕ) (A B : List Node) (c : IsChaine
         holder = k.holder;
         begins = (same root c.rooted).0 ∙ k.begins;
         reached = reached_on k.holder k.begin first k.reached;
-        has = (same k.holder (live_at_end k.holder k.begin first k.reached)).1 ∙ k.has;
+        has = (same k.holder (live_reached A c.live k.holder k.begin first k.reached)).1 ∙ k.has;
       }
 
   -- and so are words, if each live node has its own
@@ -55,7 +61,7 @@ module _ (ours : List ℕ → Bool) (root : ℕ) (A B : List Node) (c : IsChaine
         holder = k.holder;
         begins = (same root c.rooted).0 ∙ k.begins;
         reached = reached_on k.holder k.begin first k.reached;
-        are = alike k.holder (live_at_end k.holder k.begin first k.reached) ∙ k.are;
+        are = alike k.holder (live_reached A c.live k.holder k.begin first k.reached) ∙ k.are;
       }
 
 -- no node became live, and each live one has its links and words

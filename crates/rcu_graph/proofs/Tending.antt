@@ -479,3 +479,12 @@ take_next count roots links stored nodes counts unlinking from to low t = record
         (node_at stored j).links
         ++ flat_map (λ k. (node_at stored k).links) (drop (from + 1) (take to unlinking)))
         (get_or-taken to unlinking from low))
+
+-- a node that is live after those without a link were unlinked was live before
+pub live_before : (roots links : ℕ) (stored nodes : List Node)
+    → AreCollected roots links stored nodes → (i : ℕ) → state_at nodes i ≡ Live
+    → state_at stored i ≡ Live
+live_before roots links stored nodes t i live =
+    ⊎_elim (λ (e : state_at nodes i ≡ state_at stored i). sym e ∙ live)
+    (λ (q : (roots ≤ i) × (state_at stored i ≡ Live) × (state_at nodes i ≡ Unlinked)). q.1)
+    (t.states i)

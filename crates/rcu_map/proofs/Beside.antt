@@ -21,7 +21,7 @@ use Rattle.rcu_map.specs.Puts.{IsByOneStore}
 use Rattle.rcu_map.specs.Runs.{HasKeyThroughout, IsMapOf, IsRun, begun, changed, is_of, looked}
 use Rattle.rcu_map.proofs.Buckets.{bucket_inside, root_bucket}
 use Rattle.rcu_map.proofs.Linked.{entry_linked, has_linked, is_linked}
-use Rattle.rcu_map.proofs.Runs.{has_at_end, on_chain}
+use Rattle.rcu_map.proofs.Runs.{has_at_end, map_at_end, on_chain}
 
 module _ (holds : List ℕ → Type 0) (plan : Plan) (opened key writer last : ℕ) (moments : ℕ → Moment)
     (some : 0 < plan.roots) (one : plan.links ≡ 1) (wide : 1 < plan.words) (up : 0 < key)
@@ -64,18 +64,13 @@ module _ (holds : List ℕ → Type 0) (plan : Plan) (opened key writer last : �
   knew t now (changed before _ run by m) made = made.0
   knew t now (looked before _ number run opens is m) made = made.0
 
-  is_map : (now : Watching Planned) → Run now → IsMapOf holds plan now
-  is_map now (begun _ m) = m
-  is_map now (changed before _ run by m) = m
-  is_map now (looked before _ number run opens is m) = m
-
   -- between two calls each live node of the bucket is on its chain
   all_on : (t : ℕ) (now : Watching Planned) (run : Run now) → Made t now run
       → AreAllOn mine start (nodes_at moments t)
   all_on t now run made =
       subst (λ (k : Known). AreAllOn mine start (nodes_in k)) (sym (knew t now run made))
       (on_chain holds plan.roots plan.seed plan.words plan.nodes opened key some wide up
-      (nodes_in now.view.client.known) (is_map now run).map)
+      (nodes_in now.view.client.known) (map_at_end holds plan opened now run).map)
 
   -- there a key is linked exactly if the map has it
   links_it : (t : ℕ) (now : Watching Planned) (run : Run now) → Made t now run
@@ -84,7 +79,8 @@ module _ (holds : List ℕ → Type 0) (plan : Plan) (opened key writer last : �
   links_it t now run made has =
       subst (λ (k : Known). IsLinkedKey start key (nodes_in k)) (sym (knew t now run made))
       (is_linked holds plan.roots plan.seed plan.words plan.nodes
-      (nodes_in now.view.client.known) (is_map now run).map key some wide up has)
+      (nodes_in now.view.client.known) (map_at_end holds plan opened now run).map key some wide up
+      has)
 
   one_store_more : (s t : ℕ) (before now : Watching Planned)
       → (moments s).writer ≡ before.view.client.known
@@ -246,7 +242,8 @@ module _ (holds : List ℕ → Type 0) (plan : Plan) (opened key writer last : �
       (λ s t end few n from to links. linked_at_one Fits Joins First plan mine start writer last
       moments is_chain kept s t end few key n from to links)
       (λ now run links. has_linked holds plan.roots plan.seed plan.words plan.nodes
-      (nodes_in now.view.client.known) (is_map now run).map key some wide up links)
+      (nodes_in now.view.client.known) (map_at_end holds plan opened now run).map key some wide up
+      links)
 
   entry_had : (words : List ℕ) → key_in words ≡ key
       → (t : ℕ) (now : Watching Planned) (run : Run now) → Made t now run → t ≤ last
@@ -257,7 +254,8 @@ module _ (holds : List ℕ → Type 0) (plan : Plan) (opened key writer last : �
       (λ s t end few n from to links. words_at_one Fits Joins First plan mine start writer last
       moments is_chain kept s t end few words n from to links)
       (λ now run links. entry_linked holds plan.roots plan.seed plan.words plan.nodes
-      (nodes_in now.view.client.known) (is_map now run).map key some wide up words keyed links)
+      (nodes_in now.view.client.known) (map_at_end holds plan opened now run).map key some wide up
+      words keyed links)
 
   -- a search may begin after the first call did, and end before the last one does
   module _ (from done : ℕ) (early : from + done ≤ last) (now : Watching Planned) (run : Run now)

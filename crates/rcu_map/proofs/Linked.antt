@@ -7,6 +7,7 @@ use Rattle.rcu_graph.specs.Absence.{onwards}
 use Rattle.rcu_graph.specs.Nodes.{state_at}
 use Rattle.rcu_graph.specs.declared.known.Node.{Node}
 use Rattle.rcu_graph.specs.declared.node_state.NodeState.TheVariants.{Live}
+use Rattle.rcu_graph.proofs.Stores.{live_reached}
 use Rattle.rcu_map.specs.Chains.{AreOfOneBucket, IsMap}
 use Rattle.rcu_map.specs.Entries.{HasEntry, HasKey, IsEntry}
 use Rattle.rcu_map.specs.Keys.{bucket_of, key_in}
@@ -51,11 +52,11 @@ module _ (holds : List ℕ → Type 0) (buckets seed width count : ℕ) (A : Lis
       })
       (cases_lt (key_at A t.to) (key_at A j))
 
-  -- a node to which the links of a live node lead is live
-  live_all : (to from : ℕ) → state_at A from ≡ Live → Reaches A to from → state_at A to ≡ Live
-  live_all to from live (arrived at is) = subst (λ (n : ℕ). state_at A n ≡ Live) is live
-  live_all to from live (onwards at next leads further) =
-      live_all to next (led holds buckets seed width count A m from next live leads).0 further
+  -- a link of a live node leads to a live one
+  leads_to_live : (from next : ℕ) → state_at A from ≡ Live → next_of A from ≡ suc next
+      → state_at A next ≡ Live
+  leads_to_live from next live leads =
+      (led holds buckets seed width count A m from next live leads).0
 
   module _ (key : ℕ) (some : 0 < buckets) (room : 1 < width) (up : 0 < key) where
     pub is_linked : HasKey buckets A key → IsLinkedKey (bucket_of buckets seed key) key A
@@ -88,7 +89,7 @@ module _ (holds : List ℕ → Type 0) (buckets seed width count : ℕ) (A : Lis
         leads in
         record {
           behind = behind_roots holds buckets seed width count A m holder (omega (arith, is, up));
-          live = live_all holder begin first.0 reached;
+          live = live_reached A leads_to_live holder begin first.0 reached;
         }
 
     pub has_linked : IsLinkedKey (bucket_of buckets seed key) key A → HasKey buckets A key

@@ -286,6 +286,13 @@ put_is_there buckets words true before after put =
 put_is_there buckets words false before after put =
     has_it buckets words after ((put.entries words).1 (inr refl))
 
+-- a run ends with a map
+module _ (holds : List ℕ → Type 0) (plan : Plan) (opened : ℕ) where
+  pub map_at_end : (now : Watching Planned) → IsRun holds plan opened now → IsMapOf holds plan now
+  map_at_end now (begun _ m) = m
+  map_at_end now (changed before _ run by m) = m
+  map_at_end now (looked before _ number run opens is m) = m
+
 -- a key that is there throughout a run is there at its end
 module _ (holds : List ℕ → Type 0) (plan : Plan) (opened key : ℕ) where
   pub has_at_end : (now : Watching Planned) (run : IsRun holds plan opened now)
@@ -397,11 +404,6 @@ module _ (holds : List ℕ → Type 0) (plan : Plan) (opened key : ℕ) (some : 
     look_linked was has zero low = links_it before m was
     look_linked was has (suc t) low = links_it now n has
 
-  map_at_end : (now : Watching Planned) → Run now → IsMapOf holds plan now
-  map_at_end now (begun _ m) = m
-  map_at_end now (changed before _ run by m) = m
-  map_at_end now (looked before _ number run opens is m) = m
-
   -- a run ends at its writer's state
   ends_at : (now : Watching Planned) (run : Run now)
       → nodes_at now run (last_at now run) ≡ nodes_in now.view.client.known
@@ -420,11 +422,12 @@ module _ (holds : List ℕ → Type 0) (plan : Plan) (opened key : ℕ) (some : 
   run_history now (changed before _ run by m) =
       joined mine opened start (last_at before run) 3 (nodes_at before run)
       (moments_in before now by) (run_history before run)
-      (call_history before now by (map_at_end before run) m) (ends_at before run)
+      (call_history before now by (map_at_end holds plan opened before run) m) (ends_at before run)
   run_history now (looked before _ number run opens is m) =
       joined mine opened start (last_at before run) 1 (nodes_at before run) (around before now)
       (run_history before run)
-      (look_history before now number opens is (map_at_end before run) m) (ends_at before run)
+      (look_history before now number opens is (map_at_end holds plan opened before run) m)
+      (ends_at before run)
 
   pub run_linked : (now : Watching Planned) (run : Run now)
       → HasKeyThroughout holds plan opened key now run
@@ -433,10 +436,10 @@ module _ (holds : List ℕ → Type 0) (plan : Plan) (opened key : ℕ) (some : 
   run_linked now (changed before _ run by m) has =
       all_joined mine opened start key (last_at before run) 3 (nodes_at before run)
       (moments_in before now by) (run_linked before run has.0)
-      (call_linked before now by (map_at_end before run) m
+      (call_linked before now by (map_at_end holds plan opened before run) m
       (has_at_end holds plan opened key before run has.0) has.1)
   run_linked now (looked before _ number run opens is m) has =
       all_joined mine opened start key (last_at before run) 1 (nodes_at before run)
       (around before now) (run_linked before run has.0)
-      (look_linked before now number opens is (map_at_end before run) m
+      (look_linked before now number opens is (map_at_end holds plan opened before run) m
       (has_at_end holds plan opened key before run has.0) has.1)

@@ -2,6 +2,7 @@
 use Rattle.std.proofs.Common.{◌≡◌, ℕ, zero, suc, ◌<◌, ◌≤◌, List, [], ◌∷◌, length, Option, None}
 use Rattle.std.proofs.Common.{Some, refl, sym, ap, ◌∙◌, subst, arith, true}
 use Rattle.std.specs.Prelude.{slice_index}
+use Rattle.std.proofs.lemmas.Option.{same_Some}
 use mathlib.Core.Option.{some, some-injective, some-ne-none}
 use lib.ListN.{get_elem?}
 use Rattle.rcu_live.specs.Client.{AreOpen, ClientView}
@@ -22,6 +23,7 @@ use Rattle.rcu_graph.specs.declared.known.Planned.{Planned}
 use Rattle.rcu_graph.specs.declared.node_state.NodeState.{NodeState}
 use Rattle.rcu_graph.specs.declared.node_state.NodeState.TheVariants.{Free, Live, Retired, Unlinked}
 use Rattle.rcu_graph.specs.declared.plan.Plan.{Plan}
+use Rattle.rcu_graph.proofs.TwoSeats.{seated}
 use Rattle.rcu_map.specs.Beside.{IsMapOver, IsReadOver}
 use Rattle.rcu_map.specs.Keys.{GoesUp, IsWhole, root_words}
 use Rattle.rcu_map.specs.SmallMap.{hop_0, hop_1, hop_2, hop_3, nodes_by, small_holds, small_hops}
@@ -210,13 +212,6 @@ holds_3 = one_hop (small_nodes 6) hop_2 (small_hops 2)
 holds_4 : Holds (small_nodes 6) (small_hops 4)
 holds_4 = one_hop (small_nodes 6) hop_3 (small_hops 3) (to_none (small_nodes 6) []) holds_3
 
--- a property of each of two seats
-seated : {C : Type 0} (x y : ClientView C) (P : ℕ → ClientView C → Type 0) → P 0 x → P 1 y
-    → (id : ℕ) (z : ClientView C) → get_elem? (x ∷ y ∷ []) id ≡ some z → P id z
-seated x y P p q zero z e = subst (P 0) (some-injective _ _ e) p
-seated x y P p q (suc zero) z e = subst (P 1) (some-injective _ _ e) q
-seated x y P p q (suc (suc id)) z e = absurd (some-ne-none z (sym e))
-
 -- the facts of the map, as the records of a graph's run name them
 abbrev pub Fits : Plan → List ℕ → Type 0
 Fits p = IsWhole small_holds p.words
@@ -322,12 +317,9 @@ mark_told node value was now is i k low at =
 are_open : AreOpen 5 (small_moments 7).seats
 are_open id at cpu c shown =
     seated _ _ (λ id z. (at : ℕ) → z.1 ≡ Some at → is_open_at 5 at ≡ true)
-    (λ at e. subst (λ (n : ℕ). is_open_at 5 n ≡ true) (number_of e) refl)
+    (λ at e. subst (λ (n : ℕ). is_open_at 5 n ≡ true) (same_Some _ _ e) refl)
     (λ at e. absurd (none_is_none e)) id (cpu, Some at, c) shown at refl
   where
-    number_of : {m n : ℕ} → Some m ≡ Some n → m ≡ n
-    number_of e = cc
-
     none_is_none : {n : ℕ} → ◌≡◌ {A = Option ℕ} None (Some n) → ⊥
     none_is_none e = cc
 
@@ -360,9 +352,6 @@ map_over = record { at = λ t low. moments_at t; moves = writer_moves }
 some_is_some : (n : ℕ) → Some n ≡ None → ⊥
 some_is_some n e = cc
 
-same_number : (m n : ℕ) → Some m ≡ Some n → m ≡ n
-same_number m n e = cc
-
 -- the first seat keeps no nodes, and its section began at no other number
 pub not_writer : IsMapOver small_holds small_plan 0 10 small_moments → ⊥
 not_writer kept =
@@ -372,6 +361,6 @@ not_writer kept =
 pub not_later : IsReadOver small_holds small_plan 0 8 10 small_moments → ⊥
 not_later reads =
     let shown = (reads.at 0 (omega arith)).shown in
-    let e : 4 ≡ 8 = same_number 4 8 (ap (λ (x : ClientView Planned). x.1)
+    let e : 4 ≡ 8 = same_Some 4 8 (ap (λ (x : ClientView Planned). x.1)
     (some-injective _ _ shown)) in
     omega (arith, e)
