@@ -78,7 +78,7 @@ impl<F: Version<W>, const W: usize, P: Within<CellRule<F, W>>> Cell<F, W, P> {
     {
         // A borrow of a field gives the prover the invariant of the type: there is one root.
         let graph = &self.graph;
-        graph.plan();
+        graph.kept();
         graph.follow(seat, self.layout(), 0, 0).unwrap_or(0)
     }
 
@@ -92,7 +92,7 @@ impl<F: Version<W>, const W: usize, P: Within<CellRule<F, W>>> Cell<F, W, P> {
     {
         // A borrow of a field gives the prover the invariant of the type: there is one root.
         let graph = &self.graph;
-        graph.plan();
+        graph.kept();
         graph.read(seat, self.layout(), slot, word)
     }
 }

@@ -65,11 +65,12 @@ impl<F: Version<W>, const W: usize, P: Within<CellRule<F, W>>> Writer<F, W, P> {
         Ok(Writer { nodes })
     }
 
-    /// States the invariant of a writer, and does nothing: a caller learns its clause by the call.
-    pub fn tends(&self)
+    /// Gives a proof the invariant of a writer, and does nothing.
+    #[inline(always)]
+    pub fn kept(&self)
         ensures { AreVersions F.holds (nodes_in self.now.view.client.known) }
     {
-        self.nodes.tends();
+        self.nodes.kept();
     }
 
     /// Returns the current slot.
@@ -90,7 +91,7 @@ impl<F: Version<W>, const W: usize, P: Within<CellRule<F, W>>> Writer<F, W, P> {
         ensures unchanged { OnErr result (self.new ≡ self.old) }
     {
         let slot = self.shown();
-        self.nodes.tends();
+        self.nodes.kept();
         let by = self.nodes.put(0, words, None)?;
         Ok(Retired { slot, by })
     }

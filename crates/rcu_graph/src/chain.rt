@@ -26,7 +26,7 @@ impl<F: Shape, P: Within<GraphRule<F>>> Writer<F, P> {
         let node = self.free_node()?;
         self.fill(node, words, &[next]);
         self.publish(previous, 0, node);
-        self.tends();
+        self.kept();
         Ok(node)
     }
 }

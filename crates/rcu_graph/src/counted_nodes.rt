@@ -146,7 +146,7 @@ impl<F: Shape, P: Within<GraphRule<F>>> CountedNodes<F, P> {
             self.new.counts.items self.new.unlinking.items
             (relinked (nodes_in self.old.nodes.view.client.known) from link to) }
     {
-        self.nodes.plan(graph);
+        self.nodes.kept(graph);
         let word = word_of(to);
         let before = self.nodes.mirror().link(from, link);
         self.nodes.link(graph, from, link, word);
@@ -188,7 +188,7 @@ impl<F: Shape, P: Within<GraphRule<F>>> CountedNodes<F, P> {
             self.new.counts.items self.new.unlinking.items
             (published (nodes_in self.old.nodes.view.client.known) from link to) }
     {
-        self.nodes.plan(graph);
+        self.nodes.kept(graph);
         let before = self.nodes.mirror().link(from, link);
         self.count_links_of(graph, to);
         self.nodes.publish(graph, from, link, to);

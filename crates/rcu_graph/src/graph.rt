@@ -80,9 +80,20 @@ impl<F: Shape, P: Within<GraphRule<F>>> Graph<F, P> {
         ensures cells { first_place + (self.now.plan.links + self.now.plan.words)
             * self.now.plan.nodes < 2 ^ 64 }
     {
-        // A borrow of a field gives the prover the invariant of the type.
         let _ = &self.board;
         self.plan
+    }
+
+    /// Gives a proof the invariant of a graph, and does nothing.
+    #[inline(always)]
+    pub fn kept(&self)
+        ensures roots { self.now.plan.roots ≤ self.now.plan.nodes }
+        ensures words { 0 < self.now.plan.words }
+        ensures row { self.now.plan.links + self.now.plan.words < 2 ^ 64 }
+        ensures cells { first_place + (self.now.plan.links + self.now.plan.words)
+            * self.now.plan.nodes < 2 ^ 64 }
+    {
+        let _ = &self.board;
     }
 
     /// Returns the place in the engine's table at which its words begin.
@@ -113,8 +124,7 @@ impl<F: Shape, P: Within<GraphRule<F>>> Graph<F, P> {
         ensures inside { result < first_place + (self.now.plan.links + self.now.plan.words)
             * self.now.plan.nodes }
     {
-        // A borrow of a field gives the prover the invariant of the type: the words fit in memory.
-        let _ = &self.board;
+        self.kept();
         place_of(layout.plan, node, k)
     }
 
@@ -189,8 +199,7 @@ impl<F: Shape, P: Within<GraphRule<F>>> Graph<F, P> {
         ensures told { (words : List ℕ) → IsOn (F.first self.now.plan) self.now.plan.roots
             (P.lens.get seat.old.view.client).known node words → result ≡ slice_index words word }
     {
-        // A borrow of a field gives the prover the invariant of the type: the words fit in memory.
-        let _ = &self.board;
+        self.kept();
         self.load_cell::<Read<F>>(seat, layout, node, layout.plan.links + word)
     }
 }

@@ -73,13 +73,17 @@ impl<F: Shape, P: Within<GraphRule<F>>> KnownNodes<F, P> {
         Ok(KnownNodes { seat, mirror })
     }
 
-    /// Gives a proof the invariant of the type. Does nothing.
-    pub(crate) fn keeps(&self, graph: &Graph<F, P>)
+    /// Gives a proof the invariant of the writer's nodes, and does nothing.
+    #[inline(always)]
+    pub(crate) fn kept(&self, graph: &Graph<F, P>)
         requires { IsWatcherOf graph.now self.now }
-        ensures { IsWriterOf graph.now self.now }
+        ensures writer { IsWriterOf graph.now self.now }
+        ensures sized { AreSized graph.now.plan.nodes graph.now.plan.links graph.now.plan.words
+            (nodes_in self.now.view.client.known) }
+        ensures links_fit { graph.now.plan.links * graph.now.plan.nodes + 1 < 2 ^ 64 }
+        ensures nodes_fit { graph.now.plan.nodes < 2 ^ 64 - 1 }
     {
-        // A borrow of a field gives the prover the invariant of the type.
-        let _ = &self.mirror;
+        self.mirror.kept();
     }
 
     /// Returns the plan of the graph.
@@ -155,7 +159,7 @@ impl<F: Shape, P: Within<GraphRule<F>>> KnownNodes<F, P> {
         ensures graph { IsWatcherOf graph.now self.new }
         ensures state { self.new ≡ after_fill self.old node words.now links.now }
     {
-        self.plan(graph);
+        self.kept(graph);
         self.fill_words(graph, node, words);
         self.fill_links(graph, node, links);
     }
@@ -178,7 +182,7 @@ impl<F: Shape, P: Within<GraphRule<F>>> KnownNodes<F, P> {
         requires links { length links.now ≡ graph.now.plan.links }
         ensures { self.new ≡ after_links self.old node (map word_to links.now) }
     {
-        self.plan(graph);
+        self.kept(graph);
         for link in 0..links.len() {
             self.write_link(graph, node, link, word_of(links[link]));
         }
@@ -191,7 +195,7 @@ impl<F: Shape, P: Within<GraphRule<F>>> KnownNodes<F, P> {
         ensures graph { IsWatcherOf graph.now self.new }
         ensures state { self.new ≡ after_publish self.old from link to }
     {
-        self.plan(graph);
+        self.kept(graph);
         graph.publish(&mut self.seat, from, link, to);
         self.mirror.publish(to);
         self.mirror.set_link(from, link, word_of(Some(to)));

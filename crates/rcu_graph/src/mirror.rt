@@ -95,6 +95,18 @@ impl Mirror {
         })
     }
 
+    /// Gives a proof the invariant of the copy, and does nothing.
+    #[inline(always)]
+    pub(crate) fn kept(&self)
+        ensures few { length self.now.nodes ≡ self.now.plan.nodes }
+        ensures sized { AreSized self.now.plan.nodes self.now.plan.links self.now.plan.words
+            self.now.nodes }
+        ensures links_fit { self.now.plan.links * self.now.plan.nodes + 1 < 2 ^ 64 }
+        ensures nodes_fit { self.now.plan.nodes < 2 ^ 64 - 1 }
+    {
+        let _ = &self.states;
+    }
+
     /// Returns the plan of the graph.
     pub(crate) fn plan(&self) -> Plan
         ensures plan { result ≡ self.now.plan }
@@ -104,8 +116,7 @@ impl Mirror {
         ensures links_fit { self.now.plan.links * self.now.plan.nodes + 1 < 2 ^ 64 }
         ensures nodes_fit { self.now.plan.nodes < 2 ^ 64 - 1 }
     {
-        // A borrow of a field gives the prover the invariant of the type.
-        let _ = &self.states;
+        self.kept();
         self.plan
     }
 

@@ -23,7 +23,7 @@ impl<F: Shape, P: Within<GraphRule<F>>> Graph<F, P> {
             (P.lens.get seat.old.view.client).known node words →
             result ≡ slice_index words 0 }
     {
-        self.plan();
+        self.kept();
         self.read(seat, layout, node, 0)
     }
 
@@ -51,7 +51,7 @@ impl<F: Shape, P: Within<GraphRule<F>>> Graph<F, P> {
         ensures on { IfSome result (λ node.
             IsAt (F.first self.now.plan) self.now (seat_part P.lens seat.new) node) }
     {
-        self.plan();
+        self.kept();
         let mut on = root;
         let mut least = 0;
         'chain: loop {

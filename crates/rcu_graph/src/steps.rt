@@ -67,8 +67,7 @@ impl<F: Shape, P: Within<GraphRule<F>>> Graph<F, P> {
         ensures others { seat.new ≡ cpu_seat.after_word_step seat.old
             (P.lens.set seat.old.view.client (P.lens.get seat.new.view.client)) }
     {
-        // A borrow of a field gives the prover the invariant of the type: the words fit in memory.
-        let _ = &self.board;
+        self.kept();
         if node < layout.plan.roots {
             let place = root_place(layout.plan, node, k);
             return self.load::<M>(seat, layout.base, place);

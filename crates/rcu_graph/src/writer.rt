@@ -82,15 +82,16 @@ impl<F: Shape, P: Within<GraphRule<F>>> Writer<F, P> {
         Ok(Writer { graph, counted })
     }
 
-    /// States the invariant of a writer, and does nothing: a caller learns its clauses by the call.
-    pub fn tends(&self)
+    /// Gives a proof the invariant of a writer, and does nothing.
+    #[inline(always)]
+    pub fn kept(&self)
         ensures few { length (nodes_in self.now.view.client.known)
             ≡ self.now.view.client.plan.nodes }
         ensures tended { AreTended (F.fits self.now.view.client.plan)
             (F.joins self.now.view.client.plan) self.now.view.client.plan.roots
             self.now.view.client.plan.links (nodes_in self.now.view.client.known) }
     {
-        self.counted.nodes.keeps(&self.graph);
+        self.counted.nodes.kept(&self.graph);
     }
 
     /// Returns the plan of its graph.

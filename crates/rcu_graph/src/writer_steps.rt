@@ -30,8 +30,7 @@ impl<F: Shape, P: Within<GraphRule<F>>> Graph<F, P> {
             self.now.plan.words
             (F.first self.now.plan) self.now.plan.roots self.now.plan.nodes) []))) }
     {
-        // A borrow of a field gives the prover the invariant of the type: the size of the graph.
-        let _ = &self.board;
+        self.kept();
         self.watch::<Claim<F>>(seat, 0);
     }
 
@@ -47,7 +46,6 @@ impl<F: Shape, P: Within<GraphRule<F>>> Graph<F, P> {
         ensures others { seat.new ≡ after_word_step seat.old
             (P.lens.set seat.old.view.client (P.lens.get seat.new.view.client)) }
     {
-        // A borrow of a field gives the prover the invariant of the type: the words fit in memory.
         let _ = &self.board;
         let place = self.place(self.layout(), node, self.plan.links + word);
         self.store::<Write>(seat, place, value);
@@ -65,8 +63,7 @@ impl<F: Shape, P: Within<GraphRule<F>>> Graph<F, P> {
         ensures others { seat.new ≡ after_word_step seat.old
             (P.lens.set seat.old.view.client (P.lens.get seat.new.view.client)) }
     {
-        // A borrow of a field gives the prover the invariant of the type: the words fit in memory.
-        let _ = &self.board;
+        self.kept();
         let place = self.place(self.layout(), node, link);
         self.store::<WriteLink>(seat, place, value);
     }
@@ -87,8 +84,7 @@ impl<F: Shape, P: Within<GraphRule<F>>> Graph<F, P> {
         ensures others { seat.new ≡ after_word_step seat.old
             (P.lens.set seat.old.view.client (P.lens.get seat.new.view.client)) }
     {
-        // A borrow of a field gives the prover the invariant of the type: the words fit in memory.
-        let _ = &self.board;
+        self.kept();
         let place = self.place(self.layout(), node, link);
         self.store::<Link>(seat, place, value);
     }
@@ -105,8 +101,7 @@ impl<F: Shape, P: Within<GraphRule<F>>> Graph<F, P> {
         ensures others { seat.new ≡ after_word_step seat.old
             (P.lens.set seat.old.view.client (P.lens.get seat.new.view.client)) }
     {
-        // A borrow of a field gives the prover the invariant of the type: the words fit in memory.
-        let _ = &self.board;
+        self.kept();
         let place = self.place(self.layout(), from, link);
         let value = to as u64 + 1;
         self.store::<Publish>(seat, place, value);
@@ -127,7 +122,6 @@ impl<F: Shape, P: Within<GraphRule<F>>> Graph<F, P> {
         ensures others { seat.new ≡ after_word_step seat.old
             (P.lens.set seat.old.view.client (P.lens.get seat.new.view.client)) }
     {
-        // A borrow of a field gives the prover the invariant of the type: the words fit in memory.
         let _ = &self.board;
         let place = self.place(self.layout(), node, 0);
         self.watch::<MarkUnlinked>(seat, place);
@@ -145,8 +139,7 @@ impl<F: Shape, P: Within<GraphRule<F>>> Graph<F, P> {
         ensures later { seat.old.view.seen ≤ result }
         ensures number { is_number_word result ≡ true }
     {
-        // A borrow of a field gives the prover the invariant of the type: the size of the graph.
-        let _ = &self.board;
+        self.kept();
         self.look_at_number::<Reclaim>(seat)
     }
 }

@@ -39,7 +39,7 @@ impl<F: Shape, P: Within<GraphRule<F>>> Writer<F, P> {
         let mut rounds = 0;
         for _ in rt.forever() {
             if self.free_node().is_ok() {
-                self.tends();
+                self.kept();
                 return Ok(());
             }
             waited?;

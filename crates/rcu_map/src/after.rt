@@ -70,7 +70,7 @@ impl<E: Entry<W>, const W: usize, P: Within<MapRule<E, W>>> Map<E, W, P> {
         ensures keyed { IfSome result (λ entry. 0 < E.key_of entry) }
         ensures sound { IfSome result (λ entry. E.valid entry) }
     {
-        self.keeps_width();
+        self.kept_width();
         let mut words = [0; W];
         if !self.next_words_after(seat, key, &mut words) {
             return None;

@@ -54,7 +54,7 @@ impl<E: Invariant, const W: usize, P: Within<MapRule<E, W>>> MapWriter<E, W, P> 
         ensures whole { E.holds words.new }
         ensures unchanged { result ≡ true → words.new ≡ words.old }
     {
-        self.tends();
+        self.kept();
         let as_read = self.has_words(node, words);
         self.copy_words(node, words);
         as_read
@@ -81,7 +81,7 @@ impl<E: Invariant, const W: usize, P: Within<MapRule<E, W>>> MapWriter<E, W, P> 
             (key_in words.now) read.old }
         ensures unchanged { result ≢ Ok Compared.Changed → read.new ≡ read.old }
     {
-        self.keeps_a_node();
+        self.kept();
         let place = self.place_of(words[0]);
         let Some(node) = place.node else {
             return Ok(Compared::Gone);
@@ -130,7 +130,7 @@ impl<E: Entry<W>, const W: usize, P: Within<MapRule<E, W>>> MapWriter<E, W, P> {
         ensures { HasComparedToReplace E.decode E.valid E.key_of (E.key_of entry) (E.in_words read)
             (E.in_words entry) self.old result self.new }
     {
-        self.keeps_width();
+        self.kept_width();
         let mut words = read.to_words();
         match self.compare_replace_words(&entry.to_words(), &mut words)? {
             Compared::Gone => Ok(None),
@@ -147,7 +147,7 @@ impl<E: Entry<W>, const W: usize, P: Within<MapRule<E, W>>> MapWriter<E, W, P> {
         ensures { HasComparedToRemove E.decode E.valid E.key_of (E.key_of read) (E.in_words read)
             self.old result self.new }
     {
-        self.keeps_width();
+        self.kept_width();
         let mut words = read.to_words();
         match self.compare_remove_words(&mut words) {
             Compared::Gone => None,

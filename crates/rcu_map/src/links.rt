@@ -21,7 +21,7 @@ pub(crate) fn keep<F: Shape, P: Within<GraphRule<F>>>(
         (watcher_part P.lens seat) writer) }
 {
     let writer = Writer::new(alloc, graph, seat)?;
-    writer.tends();
+    writer.kept();
     Ok(writer)
 }
 
@@ -38,5 +38,5 @@ pub(crate) fn pass<F: Shape, P: Within<GraphRule<F>>>(
 {
     let next = writer.link_of(old, 0);
     writer.link(previous, 0, next);
-    writer.tends();
+    writer.kept();
 }

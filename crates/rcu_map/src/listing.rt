@@ -28,7 +28,7 @@ impl<E: Invariant, const W: usize, P: Within<MapRule<E, W>>> Map<E, W, P> {
         ensures others { seat.new ≡ after_word_step seat.old
             (P.lens.set seat.old.view.client (P.lens.get seat.new.view.client)) }
     {
-        self.plan();
+        self.kept();
         let Some(node) = self.graph.follow(seat, self.layout(), at.node, 0) else {
             return Cursor::at_root(at.bucket + 1);
         };
@@ -52,7 +52,7 @@ impl<E: Entry<W>, const W: usize, P: Within<MapRule<E, W>>> Map<E, W, P> {
             result ≡ E.decode words }
         ensures sound { E.valid result }
     {
-        self.keeps_width();
+        self.kept_width();
         let mut words = [0; W];
         self.read_words(seat, node, key, &mut words);
         E::of_words(&words)
@@ -85,7 +85,7 @@ impl<E: Entry<W>, const W: usize, P: Within<MapRule<E, W>>> Map<E, W, P> {
         ensures name { (listing result).name ≡ seat.entry.ghost_name }
         ensures first { (listing result).at ≡ at_root 0 }
     {
-        self.plan();
+        self.kept();
         Entries {
             map: self,
             seat,

@@ -69,6 +69,16 @@ impl<E: Invariant, const W: usize, P: Within<MapRule<E, W>>> Map<E, W, P> {
         graph.plan()
     }
 
+    /// Gives a proof the invariant of a map, and does nothing.
+    #[inline(always)]
+    pub fn kept(&self)
+        ensures of_map { IsPlanOfMap W self.now.plan }
+        ensures roots { self.now.plan.roots ≤ self.now.plan.nodes }
+        ensures row { 1 + self.now.plan.words < 2 ^ 64 }
+    {
+        self.graph.kept();
+    }
+
     /// Returns a second handle to the same map.
     pub fn try_clone(&self) -> Result<Map<E, W, P>, AllocError>
         ensures { IfOk result (λ map. map ≡ self.now) }
@@ -131,7 +141,7 @@ impl<E: Invariant, const W: usize, P: Within<MapRule<E, W>>> Map<E, W, P> {
             (P.lens.get seat.old.view.client).known node words →
             IsWhole E.holds self.now.plan.words words → key_in words ≡ key → entry.new ≡ words }
     {
-        self.plan();
+        self.kept();
         let layout = self.layout();
         entry[0] = key;
         for word in 1..layout.plan.words {
@@ -201,13 +211,13 @@ impl<E: Invariant, const W: usize, P: Within<MapRule<E, W>>> Map<E, W, P> {
 }
 
 impl<E: Entry<W>, const W: usize, P: Within<MapRule<E, W>>> Map<E, W, P> {
-    /// States the invariant of a map of entries, and does nothing: a caller learns its clause by
-    /// the call.
-    pub(crate) fn keeps_width(&self)
+    /// Gives a proof the number of an entry's words, and does nothing.
+    #[inline(always)]
+    pub(crate) fn kept_width(&self)
         ensures { self.now.plan.words ≡ W }
     {
         words_are_two::<E, W>();
-        self.plan();
+        self.kept();
     }
 
     /// Returns the entry of this key, by two loads for each node of its bucket up to there, and one
@@ -224,7 +234,7 @@ impl<E: Entry<W>, const W: usize, P: Within<MapRule<E, W>>> Map<E, W, P> {
         ensures keyed { IfSome result (λ entry. E.key_of entry ≡ key) }
         ensures sound { IfSome result (λ entry. E.valid entry) }
     {
-        self.keeps_width();
+        self.kept_width();
         let mut words = [0; W];
         if !self.get_words(seat, key, &mut words) {
             return None;

@@ -77,7 +77,7 @@ impl<E: Invariant, const W: usize, P: Within<MapRule<E, W>>> MapWriter<E, W, P> 
             (answered result old.new) self.new }
         ensures unchanged { result ≢ Ok true → old.new ≡ old.old }
     {
-        self.keeps_a_node();
+        self.kept();
         let place = self.place_of(words[0]);
         let Some(node) = place.node else {
             if how.puts(false) {
@@ -140,7 +140,7 @@ impl<E: Entry<W>, const W: usize, P: Within<MapRule<E, W>>> MapWriter<E, W, P> {
         ensures { HasAnswered E.decode E.valid E.key_of how (E.key_of entry)
             (E.in_words entry) self.old result self.new }
     {
-        self.keeps_width();
+        self.kept_width();
         let mut old = [0; W];
         if self.put_words(how, &entry.to_words(), &mut old)? {
             return Ok(Some(E::of_words(&old)));
@@ -193,7 +193,7 @@ impl<E: Entry<W>, const W: usize, P: Within<MapRule<E, W>>> MapWriter<E, W, P> {
             self.new }
         ensures unchanged { IfNone result (self.new ≡ self.old) }
     {
-        self.keeps_width();
+        self.kept_width();
         let mut old = [0; W];
         if !self.remove_words(key, &mut old) {
             return None;

@@ -76,13 +76,20 @@ impl<E: Invariant, const W: usize, P: Within<MapRule<E, W>>> MapWriter<E, W, P> 
         Ok(MapWriter { nodes, len: 0 })
     }
 
-    /// States the invariant of a writer, and does nothing: a caller learns its clause by the call.
-    pub fn tends(&self)
-        ensures { IsMap E.holds self.now.view.client.plan.roots self.now.view.client.plan.seed
+    /// Gives a proof the invariant of a writer, and does nothing. A node is free or waits for its
+    /// grace period, if there is an entry or if one more may be inserted: so each can be replaced.
+    #[inline(always)]
+    pub fn kept(&self)
+        ensures map { IsMap E.holds self.now.view.client.plan.roots self.now.view.client.plan.seed
             self.now.view.client.plan.words self.now.view.client.plan.nodes
             (nodes_in self.now.view.client.known) }
+        ensures entry { (key : ℕ) →
+            HasKey (buckets_in self.now) (nodes_in self.now.view.client.known) key →
+            AreAllLive (nodes_in self.now.view.client.known) → ⊥ }
+        ensures room { (IsAtCapacity self.now → ⊥) →
+            AreAllLive (nodes_in self.now.view.client.known) → ⊥ }
     {
-        self.nodes.tends();
+        self.nodes.kept();
     }
 
     /// Returns its plan, as [`Map::plan`] does.
@@ -126,20 +133,6 @@ impl<E: Invariant, const W: usize, P: Within<MapRule<E, W>>> MapWriter<E, W, P> 
         ensures { IsTrue result ↔ IsOnlyForReplacements self.now }
     {
         self.is_full() && self.has_free_node()
-    }
-
-    /// States the invariant of a writer for replacements, and does nothing: a caller learns its
-    /// clauses by the call. A node is free or waits for its grace period, if there is an entry or
-    /// if one more may be inserted.
-    pub(crate) fn keeps_a_node(&self)
-        ensures entry { (key : ℕ) →
-            HasKey (buckets_in self.now) (nodes_in self.now.view.client.known) key →
-            AreAllLive (nodes_in self.now.view.client.known) → ⊥ }
-        ensures room { (IsAtCapacity self.now → ⊥) →
-            AreAllLive (nodes_in self.now.view.client.known) → ⊥ }
-    {
-        // A borrow of a field gives the prover the invariant of the type.
-        let _ = &self.nodes;
     }
 
     /// Returns whether a node is free, so that an entry can be replaced.
@@ -254,15 +247,15 @@ impl<E: Invariant, const W: usize, P: Within<MapRule<E, W>>> MapWriter<E, W, P> 
             (nodes_in self.new.view.client.known) }
     {
         let number = self.nodes.reclaim();
-        self.nodes.tends();
+        self.nodes.kept();
         number
     }
 }
 
 impl<E: Entry<W>, const W: usize, P: Within<MapRule<E, W>>> MapWriter<E, W, P> {
-    /// States the invariant of a writer of entries, and does nothing: a caller learns its clause by
-    /// the call.
-    pub(crate) fn keeps_width(&self)
+    /// Gives a proof the number of an entry's words, and does nothing.
+    #[inline(always)]
+    pub(crate) fn kept_width(&self)
         ensures { self.now.view.client.plan.words ≡ W }
     {
         words_are_two::<E, W>();
@@ -282,7 +275,7 @@ impl<E: Entry<W>, const W: usize, P: Within<MapRule<E, W>>> MapWriter<E, W, P> {
         ensures keyed { IfSome result (λ entry. E.key_of entry ≡ key) }
         ensures sound { IfSome result (λ entry. E.valid entry) }
     {
-        self.keeps_width();
+        self.kept_width();
         let mut words = [0; W];
         if !self.get_words(key, &mut words) {
             return None;

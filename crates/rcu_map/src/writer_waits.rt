@@ -52,7 +52,7 @@ impl<E: Entry<W>, const W: usize, P: Within<MapRule<E, W>>> MapWriter<E, W, P> {
             (HasGivenUp (buckets_in self.old) seat.old seat.new self.old self.new) }
     {
         let waited = self.nodes.wait_until_free(rt, live, seat);
-        self.nodes.tends();
+        self.nodes.kept();
         waited
     }
 

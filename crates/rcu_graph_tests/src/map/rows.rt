@@ -127,7 +127,7 @@ fn found(map: &Rows, seat: &mut MapSeat<Row, 0>, row: &mut [u64], room: &mut [u6
     ensures state { seat.new ≡ after_word_step seat.old seat.new.view.client }
     ensures walking { IsWalking map.now seat.new }
 {
-    map.plan();
+    map.kept();
     for key in 1..=KEYS {
         if !map.get_words(seat, key, room) || !has(room, row, key, 3) {
             return key - 1;
@@ -147,7 +147,7 @@ fn listed(map: &Rows, seat: &mut MapSeat<Row, 0>, row: &mut [u64], room: &mut [u
     ensures state { seat.new ≡ after_word_step seat.old seat.new.view.client }
     ensures walking { IsWalking map.now seat.new }
 {
-    map.plan();
+    map.kept();
     let mut key = 0;
     for count in 0..=KEYS {
         if !map.next_words_after(seat, key, room) {

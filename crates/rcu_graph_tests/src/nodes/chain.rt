@@ -47,7 +47,7 @@ impl ChainWriter {
             (node_at (nodes_in self.now.writer.view.client.known) from).words
             (nodes_in self.now.writer.view.client.known) (word_to to) }
     {
-        self.writer.tends();
+        self.writer.kept();
         let Some(node) = to else {
             return true;
         };

@@ -14,7 +14,7 @@ returns g c =
     record {
       same = c.in_ok-writer.ensures;
       kept = record {
-        few = c.tends.ensures.few ∙ ap (λ (p : Plan). p.nodes) planned;
+        few = c.kept.ensures.few ∙ ap (λ (p : Plan). p.nodes) planned;
         tended =
             subst (λ (links : ℕ). AreTended (g.F.Shape.fits c.args.graph.now.plan)
             (g.F.Shape.joins c.args.graph.now.plan) c.args.graph.now.plan.roots links
@@ -22,6 +22,6 @@ returns g c =
             c.requires.one
             (subst (λ (p : Plan). AreTended (g.F.Shape.fits p) (g.F.Shape.joins p) p.roots p.links
             (nodes_in writer.view.client.known))
-            planned c.tends.ensures.tended);
+            planned c.kept.ensures.tended);
       };
     }

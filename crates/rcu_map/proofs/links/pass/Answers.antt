@@ -33,7 +33,7 @@ returns g c =
       state = c.link.ensures.state;
       kept = are_kept g.F.Shape.fits g.F.Shape.joins c.args.writer.now c.link.new.self
           (ap (λ (w : Watching Planned). w.view.client.plan) c.link.ensures.state) c.requires.one
-          c.tends.ensures.few c.tends.ensures.tended;
+          c.kept.ensures.few c.kept.ensures.tended;
       led = subst (λ (links : ℕ). AreLed (g.F.Shape.joins p) links
           (relinked (nodes_in c.args.writer.now.view.client.known) c.args.previous 0
           c.link_of-next.result))

@@ -10,7 +10,7 @@ use Rattle.rcu_cell.proofs.cell.Cell.load.Goals as goal
 pub follow-requires-clause-at : goal.follow-requires-clause-at
 follow-requires-clause-at g c =
     let root = c.self.invariant.root in
-    let inside = c.plan.ensures.roots in
+    let inside = c.kept.ensures.roots in
     record {
       walking = subst (λ (o : Object Plan). IsWalking o (seat_part g.P.Within.lens c.args.seat.now))
           (sym c.self.view_is)
@@ -42,7 +42,7 @@ pub returns-clause-reads : goal.returns-clause-reads
 returns-clause-reads g c =
     let k = c.self.invariant in
     let root = k.root in
-    let inside = c.plan.ensures.roots in
+    let inside = c.kept.ensures.roots in
     let p : Plan = c.self.inside.graph.plan in
     let f = c.follow.ensures.came g.F.Version.first (inl (omega (arith, root), refl)) in
     subst (λ (o : Object Plan). ReadsSlot o (seat_part g.P.Within.lens c.follow.new.seat)

@@ -10,7 +10,7 @@ use Rattle.rcu_cell.proofs.writer.Writer.update.Goals as goal
 pub invariant_of-self-2 : goal.invariant_of-self-2
 invariant_of-self-2 g c =
     kept_put g.F.Invariant.holds _ c.self.inside.nodes c.put.new.self c.self.invariant
-    c.tends.ensures.few c.tends.ensures.tended c.in_ok-by.by c.args.words.now c.in_ok-by.ensures
+    c.kept.ensures.few c.kept.ensures.tended c.in_ok-by.by c.args.words.now c.in_ok-by.ensures
 
 pub returns-clause-state : goal.returns-clause-state
 returns-clause-state g c =
@@ -18,7 +18,7 @@ returns-clause-state g c =
     (record { slot = c.shown-slot.result; by = c.in_ok-by.by }) c.put.new.self)
     c.self.view_is
     (updated g.F.Invariant.holds _ c.self.inside.nodes c.put.new.self c.self.invariant
-    c.tends.ensures.few c.tends.ensures.tended c.in_ok-by.by c.args.words.now c.in_ok-by.ensures
+    c.kept.ensures.few c.kept.ensures.tended c.in_ok-by.by c.args.words.now c.in_ok-by.ensures
     c.shown-slot.result
     (c.shown-slot.ensures
     ∙ ap (λ (w : Watching Planned). shown_in (nodes_in w.view.client.known))

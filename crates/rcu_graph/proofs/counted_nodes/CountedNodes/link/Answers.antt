@@ -16,13 +16,13 @@ use Rattle.rcu_graph.proofs.counted_nodes.CountedNodes.link.Goals as goal
 
 pub word_of-word-requires : goal.word_of-word-requires
 word_of-word-requires g c =
-    let s = c.plan.ensures in
+    let s = c.kept.ensures in
     word_fits c.args.to c.args.graph.now.plan.nodes _
     (target_inside (g.F.Shape.fits c.args.graph.now.plan) (g.F.Shape.joins c.args.graph.now.plan)
     c.args.graph.now.plan.nodes c.args.graph.now.plan.roots c.args.graph.now.plan.links
-    (nodes_in c.args.self.now.nodes.view.client.known) c.args.link _ (word_to c.args.to) s.few
-    c.requires.target)
-    (omega (arith, c.plan.ensures.nodes_fit))
+    (nodes_in c.args.self.now.nodes.view.client.known) c.args.link _ (word_to c.args.to)
+    s.writer.few c.requires.target)
+    (omega (arith, c.kept.ensures.nodes_fit))
 
 pub link-requires : goal.link-requires
 link-requires g c = record {
@@ -39,33 +39,35 @@ link-requires g c = record {
 
 pub count-requires-clause-inside : goal.count-requires-clause-inside
 count-requires-clause-inside g c =
-    let s = c.plan.ensures in
+    let s = c.kept.ensures in
     let p : Plan = c.args.graph.now.plan in
     let nodes : List Node = nodes_in c.args.self.now.nodes.view.client.known in
     let inside : (k : ℕ) → c.word_of-word.result ≡ suc k → k < p.nodes =
     λ k is. target_inside (g.F.Shape.fits p) (g.F.Shape.joins p) p.nodes p.roots p.links nodes
-    c.args.link _ (word_to c.args.to) s.few c.requires.target k (sym c.word_of-word.ensures ∙ is) in
+    c.args.link _ (word_to c.args.to) s.writer.few c.requires.target k
+    (sym c.word_of-word.ensures ∙ is) in
     λ k is. let low = inside k is in omega (arith, low, c.requires.counted.many)
 
 pub count-requires-clause-few : goal.count-requires-clause-few
 count-requires-clause-few g c =
-    let s = c.plan.ensures in
+    let s = c.kept.ensures in
     let p : Plan = c.args.graph.now.plan in
     let nodes : List Node = nodes_in c.args.self.now.nodes.view.client.known in
     let inside : (k : ℕ) → c.word_of-word.result ≡ suc k → k < p.nodes =
     λ k is. target_inside (g.F.Shape.fits p) (g.F.Shape.joins p) p.nodes p.roots p.links nodes
-    c.args.link _ (word_to c.args.to) s.few c.requires.target k (sym c.word_of-word.ensures ∙ is) in
+    c.args.link _ (word_to c.args.to) s.writer.few c.requires.target k
+    (sym c.word_of-word.ensures ∙ is) in
     λ k is.
     let low = inside k is in
     let a = count_fits (g.F.Shape.fits p) (g.F.Shape.joins p) p.nodes p.roots p.links p.words
-    nodes c.args.self.now.counts.items c.args.self.now.unlinking.items s.few s.sized
+    nodes c.args.self.now.counts.items c.args.self.now.unlinking.items s.writer.few s.sized
     c.requires.counted k low in
     let fit = s.links_fit in
     omega (arith, a, fit)
 
 pub collect_unreachable-requires : goal.collect_unreachable-requires
 collect_unreachable-requires g c =
-    let s = c.plan.ensures in
+    let s = c.kept.ensures in
     let nodes : List Node = nodes_in c.args.self.now.nodes.view.client.known in
     let counts : List ℕ = c.args.self.now.counts.items in
     let unlinking : List ℕ = c.args.self.now.unlinking.items in
@@ -97,13 +99,13 @@ collect_unreachable-requires g c =
           (g.F.Shape.joins c.args.graph.now.plan) c.args.graph.now.plan.nodes
           c.args.graph.now.plan.roots c.args.graph.now.plan.links c.args.graph.now.plan.words
           nodes
-          counts unlinking s.few s.sized c.requires.counted c.args.from c.args.link x
+          counts unlinking s.writer.few s.sized c.requires.counted c.args.from c.args.link x
           c.requires.live c.requires.link_inside c.requires.target);
     }
 
 pub returns : goal.returns
 returns g c =
-    let s = c.plan.ensures in
+    let s = c.kept.ensures in
     let nodes : List Node = nodes_in c.args.self.now.nodes.view.client.known in
     let counts : List ℕ = c.args.self.now.counts.items in
     let unlinking : List ℕ = c.args.self.now.unlinking.items in
@@ -117,8 +119,8 @@ returns g c =
     let whole = relinked_whole (g.F.Shape.fits c.args.graph.now.plan)
     (g.F.Shape.joins c.args.graph.now.plan) c.args.graph.now.plan.nodes
     c.args.graph.now.plan.roots c.args.graph.now.plan.links c.args.graph.now.plan.words nodes
-    counts unlinking s.few s.sized c.requires.counted c.args.from c.args.link x c.requires.live
-    c.requires.link_inside c.requires.target in
+    counts unlinking s.writer.few s.sized c.requires.counted c.args.from c.args.link x
+    c.requires.live c.requires.link_inside c.requires.target in
     record {
       watches = c.collect_unreachable.ensures.graph;
       state =

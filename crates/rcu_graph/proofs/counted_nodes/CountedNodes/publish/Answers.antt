@@ -19,7 +19,7 @@ use Rattle.rcu_graph.proofs.counted_nodes.CountedNodes.publish.Goals as goal
 
 pub count_links_of-requires : goal.count_links_of-requires
 count_links_of-requires g c =
-    let s = c.plan.ensures in
+    let s = c.kept.ensures in
     let p : Plan = c.args.graph.now.plan in
     let nodes : List Node = nodes_in c.args.self.now.nodes.view.client.known in
     let counts : List ℕ = c.args.self.now.counts.items in
@@ -31,12 +31,12 @@ count_links_of-requires g c =
       inside =
           ready_inside (g.F.Shape.fits p) (g.F.Shape.joins p) p.nodes p.roots p.links p.words
           nodes counts
-          unlinking s.few s.sized c.requires.counted c.args.from c.args.link c.args.to
+          unlinking s.writer.few s.sized c.requires.counted c.args.from c.args.link c.args.to
           c.requires.to_inside c.requires.ready;
       few = λ k low.
           let a = counts_fit (g.F.Shape.fits p) (g.F.Shape.joins p) p.nodes p.roots p.links
           p.words
-          nodes counts unlinking s.few s.sized c.requires.counted c.args.from c.args.link
+          nodes counts unlinking s.writer.few s.sized c.requires.counted c.args.from c.args.link
           c.args.to
           c.requires.to_inside c.requires.ready k low in
           let fit = s.links_fit in
@@ -69,11 +69,11 @@ publish-requires g c =
     }
 
 pub word_of-requires : goal.word_of-requires
-word_of-requires g c = omega (arith, c.requires.to_inside, c.plan.ensures.nodes_fit)
+word_of-requires g c = omega (arith, c.requires.to_inside, c.kept.ensures.nodes_fit)
 
 pub count-requires-clause-inside : goal.count-requires-clause-inside
 count-requires-clause-inside g c =
-    let s = c.plan.ensures in
+    let s = c.kept.ensures in
     let n = c.count_links_of.ensures in
     let p : Plan = c.args.graph.now.plan in
     let nodes : List Node = nodes_in c.args.self.now.nodes.view.client.known in
@@ -87,7 +87,7 @@ count-requires-clause-inside g c =
 
 pub count-requires-clause-few : goal.count-requires-clause-few
 count-requires-clause-few g c =
-    let s = c.plan.ensures in
+    let s = c.kept.ensures in
     let n = c.count_links_of.ensures in
     let p : Plan = c.args.graph.now.plan in
     let nodes : List Node = nodes_in c.args.self.now.nodes.view.client.known in
@@ -99,7 +99,7 @@ count-requires-clause-few g c =
     omega (arith, e, c.requires.to_inside) in
     λ k is.
     let a = new_fits (g.F.Shape.fits p) (g.F.Shape.joins p) p.nodes p.roots p.links p.words
-    nodes counts unlinking s.few s.sized c.requires.counted c.args.from c.args.link c.args.to
+    nodes counts unlinking s.writer.few s.sized c.requires.counted c.args.from c.args.link c.args.to
     c.requires.to_inside c.requires.ready c.count_links_of.new.self.counts.items n.many n.counts
     c.requires.live c.requires.link_inside c.requires.joined k (inside k is) in
     let fit = s.links_fit in
@@ -107,7 +107,7 @@ count-requires-clause-few g c =
 
 pub collect_unreachable-requires : goal.collect_unreachable-requires
 collect_unreachable-requires g c =
-    let s = c.plan.ensures in
+    let s = c.kept.ensures in
     let n = c.count_links_of.ensures in
     let nodes : List Node = nodes_in c.args.self.now.nodes.view.client.known in
     let counts : List ℕ = c.args.self.now.counts.items in
@@ -143,14 +143,14 @@ collect_unreachable-requires g c =
           (g.F.Shape.joins c.args.graph.now.plan) c.args.graph.now.plan.nodes
           c.args.graph.now.plan.roots c.args.graph.now.plan.links c.args.graph.now.plan.words
           nodes
-          counts unlinking s.few s.sized c.requires.counted c.args.from c.args.link c.args.to
+          counts unlinking s.writer.few s.sized c.requires.counted c.args.from c.args.link c.args.to
           c.requires.to_inside c.requires.ready new n.many n.counts c.requires.live
           c.requires.link_inside c.requires.joined);
     }
 
 pub returns : goal.returns
 returns g c =
-    let s = c.plan.ensures in
+    let s = c.kept.ensures in
     let n = c.count_links_of.ensures in
     let nodes : List Node = nodes_in c.args.self.now.nodes.view.client.known in
     let counts : List ℕ = c.args.self.now.counts.items in
@@ -166,7 +166,7 @@ returns g c =
     let whole = published_whole (g.F.Shape.fits c.args.graph.now.plan)
     (g.F.Shape.joins c.args.graph.now.plan) c.args.graph.now.plan.nodes
     c.args.graph.now.plan.roots c.args.graph.now.plan.links c.args.graph.now.plan.words nodes
-    counts unlinking s.few s.sized c.requires.counted c.args.from c.args.link c.args.to
+    counts unlinking s.writer.few s.sized c.requires.counted c.args.from c.args.link c.args.to
     c.requires.to_inside c.requires.ready new n.many n.counts c.requires.live
     c.requires.link_inside c.requires.joined in
     record {

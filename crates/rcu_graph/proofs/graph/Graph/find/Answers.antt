@@ -17,7 +17,7 @@ chain-init g c = record {
       (sym (g.met.P.Within.is_lens.as_it_is c.args.seat.now.view.client));
   planned = refl;
   reader = c.requires.walking.reads;
-  inside = omega (arith, c.requires.chain.is_root, c.plan.ensures.roots);
+  inside = omega (arith, c.requires.chain.is_root, c.kept.ensures.roots);
   on = (
     (g.F.Shape.first c.args.self.now.plan) c.args.root,
     inl (c.requires.chain.is_root, refl),

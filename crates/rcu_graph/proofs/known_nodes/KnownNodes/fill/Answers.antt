@@ -11,12 +11,12 @@ pub fill_words-requires : goal.fill_words-requires
 fill_words-requires g c = record {
   free = record {
     watches = c.requires.graph;
-    keeps = c.plan.ensures.keeps;
-    few = c.plan.ensures.few;
+    keeps = c.kept.ensures.writer.keeps;
+    few = c.kept.ensures.writer.few;
     inside = c.requires.node;
     free = c.requires.free;
-    link_count = (c.plan.ensures.sized c.args.node c.requires.node).0;
-    word_count = (c.plan.ensures.sized c.args.node c.requires.node).1;
+    link_count = (c.kept.ensures.sized c.args.node c.requires.node).0;
+    word_count = (c.kept.ensures.sized c.args.node c.requires.node).1;
   };
   words = c.requires.words;
 }
@@ -25,12 +25,12 @@ pub fill_links-requires : goal.fill_links-requires
 fill_links-requires g c =
     let can : CanFill c.args.graph.now c.args.self.now c.args.node = record {
       watches = c.requires.graph;
-      keeps = c.plan.ensures.keeps;
-      few = c.plan.ensures.few;
+      keeps = c.kept.ensures.writer.keeps;
+      few = c.kept.ensures.writer.few;
       inside = c.requires.node;
       free = c.requires.free;
-      link_count = (c.plan.ensures.sized c.args.node c.requires.node).0;
-      word_count = (c.plan.ensures.sized c.args.node c.requires.node).1;
+      link_count = (c.kept.ensures.sized c.args.node c.requires.node).0;
+      word_count = (c.kept.ensures.sized c.args.node c.requires.node).1;
     } in
     record {
       free = can_fill_on c.args.self.now c.args.node c.args.graph.now c.args.words.now
@@ -50,5 +50,5 @@ pub returns-clause-state : goal.returns-clause-state
 returns-clause-state g c =
     all_filled c.args.self.now c.args.node c.args.words.now c.args.links.now c.fill_words.new.self
     c.fill_links.new.self
-    (low_in c.args.node c.args.graph.now.plan.nodes _ c.plan.ensures.few c.requires.node)
+    (low_in c.args.node c.args.graph.now.plan.nodes _ c.kept.ensures.writer.few c.requires.node)
     c.fill_words.ensures c.fill_links.ensures

@@ -36,7 +36,7 @@ word_of-requires g c =
     let small = low_in l c.args.graph.now.plan.links _ c.requires.links
     (omega (arith, c.loop-link-test.true, c.requires.links)) in
     below_more (get_or links l None) c.args.graph.now.plan.nodes 18446744073709551615
-    (omega (arith, c.plan.ensures.nodes_fit))
+    (omega (arith, c.kept.ensures.nodes_fit))
     (All-get_or (λ (to : Option ℕ). IfSome to (λ other. other < c.args.graph.now.plan.nodes)) links
     l None small
     c.requires.inside)

@@ -74,7 +74,7 @@ returns g c =
       kept = are_kept g.F.Shape.fits g.F.Shape.joins c.args.self.now c.publish.new.self
           (ap (λ (w : Watching Planned). w.view.client.plan) c.publish.ensures.state
           ∙ ap (λ (w : Watching Planned). w.view.client.plan) filled)
-          c.requires.one c.tends.ensures.few c.tends.ensures.tended;
+          c.requires.one c.kept.ensures.few c.kept.ensures.tended;
       led = subst (λ (links : ℕ). AreLed (g.F.Shape.joins p) links
           (published (nodes_in (after_fill c.args.self.now c.in_ok-node.node c.args.words.now
           (c.args.next ∷ [])).view.client.known) c.args.previous 0 c.in_ok-node.node))

@@ -43,7 +43,7 @@ returns-then-is_ok-clause-waited g c =
       looked = i.reclaimed;
       free = found_one (nodes_in c.loop.self.view.client.known) c.loop.self.view.client.plan.nodes
           c.free_node.result
-          (sym c.is_ok.ensures.value ∙ c.if-is_ok.true) c.tends.ensures.few f.inside f.free;
+          (sym c.is_ok.ensures.value ∙ c.if-is_ok.true) c.kept.ensures.few f.inside f.free;
       rounds = rounds_at_end c.loop.waited c.args.seat.now c.loop.seat c.args.self.now c.loop.self
           c.loop.self i.rounds i.last refl;
     }

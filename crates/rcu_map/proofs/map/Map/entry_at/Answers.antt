@@ -9,7 +9,7 @@ read_words-requires g c =
       omega (arith, small),
       (
         record { walking = r.walking; words = r.words; on = inr r.held; inside = r.inside },
-        length-replicate g.row.W 0 ∙ sym c.keeps_width.ensures,
+        length-replicate g.row.W 0 ∙ sym c.kept_width.ensures,
       ),
     )
 

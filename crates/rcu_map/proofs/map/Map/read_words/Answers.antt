@@ -33,7 +33,7 @@ loop-word-preserved g c =
 pub returns-clause-told : goal.returns-clause-told
 returns-clause-told g c = λ words on whole is. let i = c.loop-word.invariant in
     let many = ap (λ (r : Layout). r.plan.words) c.layout-layout.ensures in
-    let wide = c.plan.ensures.wide in
+    let wide = c.kept.ensures.of_map.wide in
     read_all c.loop-word.entry words c.args.self.now.plan.words
     (i.size ∙ (length-set c.args.entry.now 0 c.args.key ∙ c.requires.room)) whole.sized
     (λ j low. i.told words on is j (omega (arith, low, many, wide)))

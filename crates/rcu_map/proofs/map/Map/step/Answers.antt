@@ -56,7 +56,7 @@ returns-in_default-clause-stepped g c =
     (at_root (c.args.at.bucket + 1)))
     c.self.view_is
     (stepped_over g.E.Invariant.holds c.self.inside.graph seat new c.args.at inside o same e.walking
-    (subst (λ (map : Object Plan). map.plan.roots ≤ map.plan.nodes) back c.plan.ensures.roots)
+    (subst (λ (map : Object Plan). map.plan.roots ≤ map.plan.nodes) back c.kept.ensures.roots)
     (e.came o.words o.on)))
 
 pub returns-clause-stepped : goal.returns-clause-stepped

@@ -21,7 +21,7 @@ returns-in_err-put_over-clause-replaced g c =
     rw (p.1, full.unchanged)
     (none_free g.E.Invariant.holds c.args.self.now (key_in c.args.words.now) c.args.read.now
     c.args.words.now p.0 was full.full
-    (c.keeps_a_node.ensures.entry (key_in c.args.words.now) (c.in-Some.node, one)))
+    (c.kept.ensures.entry (key_in c.args.words.now) (c.in-Some.node, one)))
 
 pub returns-clause-replaced : goal.returns-clause-replaced
 returns-clause-replaced g c =

@@ -37,7 +37,7 @@ returns-in_err-free_node-clause-put g c =
       wanted = search rules;
       full = inr (record {
         used = search rules;
-        waits = c.keeps_a_node.ensures.entry (key_in c.args.words.now)
+        waits = c.kept.ensures.entry (key_in c.args.words.now)
             (c.in-Some.node, search rules);
       });
       unchanged = refl;

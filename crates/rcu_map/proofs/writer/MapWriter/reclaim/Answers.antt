@@ -11,7 +11,7 @@ use Rattle.rcu_map.proofs.writer.MapWriter.reclaim.Goals as goal
 pub invariant_of-self : goal.invariant_of-self
 invariant_of-self g c =
     let e = c.reclaim-number.ensures.state in
-    let t = c.tends.ensures in
+    let t = c.kept.ensures in
     kept_reclaimed g.E.Invariant.holds _ c.self.inside.nodes c.reclaim-number.new.self
     (ap (λ (w : Watching Planned). w.view.client.plan) e)
     (looked_as_live c.self.inside.nodes c.reclaim-number.new.self c.reclaim-number.result e)

@@ -15,8 +15,8 @@ invariant_of-self g c =
     w.ensures.waited w.ensures.given_up in
     kept_reclaimed g.E.Invariant.holds _ c.self.inside.nodes w.new.self
     (reclaimed_plan c.self.inside.nodes w.new.self reclaimed)
-    (reclaimed_nodes c.self.inside.nodes w.new.self reclaimed) c.tends.ensures.few
-    c.tends.ensures.tended
+    (reclaimed_nodes c.self.inside.nodes w.new.self reclaimed) c.kept.ensures.few
+    c.kept.ensures.tended
     c.self.inside.len c.self.invariant
 
 pub returns-clause-waited : goal.returns-clause-waited

@@ -14,7 +14,7 @@ returns c = λ up.
     let n : ℕ = c.in-Some.node in
     let here : word_to c.args.to ≡ suc n = ap word_to c.in-Some.is in
     let few : length nodes ≡ 4 =
-    c.tends.ensures.few ∙ ap (λ (p : Plan). p.nodes) c.args.self.now.sized in
+    c.kept.ensures.few ∙ ap (λ (p : Plan). p.nodes) c.args.self.now.sized in
     let low : n < length nodes = (let small = c.if-node-ge4.false in omega (arith, small, few)) in
     let live : is_live (state_at nodes n) ≡ true = search rules in
     let first : c.word.result ≡ slice_index (node_at nodes c.args.from).words 0 = c.word.ensures in

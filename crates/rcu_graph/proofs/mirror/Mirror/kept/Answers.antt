@@ -1,7 +1,7 @@
 use Rattle.std.proofs.Common.{◌∙◌, ◌*◌, ℕ, ap, arith, length, subst, sym}
 use Rattle.rcu_graph.specs.Mirror.{AreSized, Mirrored}
 use Rattle.rcu_graph.proofs.Mirrors.{length-nodes_of, sizes_of}
-use Rattle.rcu_graph.proofs.mirror.Mirror.plan.Goals as goal
+use Rattle.rcu_graph.proofs.mirror.Mirror.kept.Goals as goal
 
 pub returns-clause-few : goal.returns-clause-few
 returns-clause-few c =

@@ -6,7 +6,7 @@ use Rattle.rcu_map.specs.Chains.{buckets_in}
 use Rattle.rcu_map.specs.Entries.{HasKey}
 use Rattle.rcu_map.specs.Room.{AreAllLive, IsAtCapacity}
 use Rattle.rcu_map.proofs.Rooms.{not_all_live, not_all_used}
-use Rattle.rcu_map.proofs.writer.MapWriter.keeps_a_node.Goals as goal
+use Rattle.rcu_map.proofs.writer.MapWriter.kept.Goals as goal
 
 pub returns-clause-entry : goal.returns-clause-entry
 returns-clause-entry g c =
