@@ -8,7 +8,21 @@ use crate::shape::MapRule;
 use crate::writer::MapWriter;
 use rcu_graph::Full;
 use rcu_live::{Alone, Within};
+use std::hint::spin_loop;
 use std::sync::{Mutex, MutexGuard, Wait};
+
+/// How often the first thread in line looks at the lock before it sleeps: for half a millisecond.
+const LOOKS: u32 = 50;
+
+/// The most steps of a pause between two looks: some 10 microseconds, or a hundred updates of the
+/// thread that has the lock.
+const LONGEST: u32 = 1024;
+
+fn pause(steps: u32) {
+    for _ in 0..steps {
+        spin_loop();
+    }
+}
 
 /// The writer of a map behind a lock: threads that share it update the map, one call at a time.
 /// [`MapWriter`] says what each call does to the map. None holds the lock while it waits for a
@@ -16,6 +30,9 @@ use std::sync::{Mutex, MutexGuard, Wait};
 #[derive(Drop)]
 pub struct Updater<E: Entry<W>, const W: usize, P: Within<MapRule<E, W>> = Alone> {
     writer: Mutex<MapWriter<E, W, P>>,
+    /// The first thread in line for the writer has this lock, and the others sleep. If all of them
+    /// slept for the writer, each update would wake one, and they would change at each update.
+    line: Mutex<()>,
 }
 
 impl<E: Entry<W>, const W: usize, P: Within<MapRule<E, W>>> Updater<E, W, P> {
@@ -23,12 +40,33 @@ impl<E: Entry<W>, const W: usize, P: Within<MapRule<E, W>>> Updater<E, W, P> {
     pub fn new(writer: MapWriter<E, W, P>) -> Self {
         Updater {
             writer: Mutex::new(writer),
+            line: Mutex::new(()),
         }
+    }
+
+    /// Looks at the lock a few times, with longer and longer pauses, until it is free.
+    fn look(&self) -> Option<MutexGuard<'_, MapWriter<E, W, P>>> {
+        let mut steps = 1u32;
+        for _ in 0..LOOKS {
+            if let Some(writer) = self.writer.try_lock() {
+                return Some(writer);
+            }
+            pause(steps);
+            steps = steps.saturating_mul(2).min(LONGEST);
+        }
+        None
     }
 
     /// Lends the writer, for several steps without another thread's between them.
     pub fn lock(&self, rt: &impl Wait) -> MutexGuard<'_, MapWriter<E, W, P>> {
-        self.writer.lock(rt)
+        if let Some(writer) = self.writer.try_lock() {
+            return writer;
+        }
+        let _first = self.line.lock(rt);
+        match self.look() {
+            Some(writer) => writer,
+            None => self.writer.lock(rt),
+        }
     }
 
     /// Inserts, replaces or upserts an entry, as `how` says, and returns the one that had its key.
