@@ -16,8 +16,8 @@ use std::marker::Model;
 /// The rule of the map that each engine has among its shared words.
 pub(crate) type Rule = MapRule<KeyedWords, 0>;
 
-/// The running engine, with numbers as callbacks, and a map. A begin costs a step for each node of
-/// its tree: under one lock a leaf of 64 serves better than Linux's, of 16.
+/// The running engine, with numbers as callbacks, and a map. A begin costs a walk up its tree for
+/// each leaf with a processor: under one lock a leaf of 64 serves better than Linux's, of 16.
 pub(crate) type TreeEngine = Engine<Tree<64, 64>, u64, Rule>;
 
 /// The engine of an open handle.

@@ -1,19 +1,24 @@
 -- Each set has a list of masks.
 use Rattle.std.proofs.Common.{◌≡◌, ℕ, zero, suc, ◌+◌, ◌*◌, ◌-◌, ◌%◌, ◌^◌, ◌<◌, ◌≤◌, ◌&&◌, nat_lt}
 use Rattle.std.proofs.Common.{nat_le, Bool, true, false, List, length, replicate, slice_index}
-use Rattle.std.proofs.Common.{slice_set, bit_or, refl, sym, subst, ◌∙◌, arith, inl, inr}
-use Rattle.std.proofs.lemmas.Bool.{cases_Bool, cases_eq}
+use Rattle.std.proofs.Common.{slice_set, bit_or, refl, sym, subst, ap, ◌∙◌, arith, inl, inr}
+use Rattle.std.proofs.lemmas.Bool.{cases_Bool, cases_eq, cases_lt}
 use Rattle.std.proofs.lemmas.Bool.Decides.{nat_tests}
-use Rattle.std.proofs.lemmas.List.{length-replicate}
-use Rattle.rcu_geometry.specs.Geometry.{Shape, IsLegalShape, nodes, first_leaf}
+use Rattle.std.proofs.lemmas.List.{get_or-set_other, get_or-set_same}
+use Rattle.rcu_geometry.specs.Geometry.{Shape, IsLegalShape, nodes, first_leaf, levels, parent}
+use Rattle.rcu_geometry.specs.Geometry.{bit_in_parent}
+use Rattle.rcu_geometry.proofs.Levels.{start_rises}
+use Rattle.rcu_geometry.proofs.Places.{has_parent}
 use Rattle.rcu_node.specs.CpuSet.{is_in}
 use Rattle.rcu_node.specs.Masks.{AreLinked, AreMasks, members}
-use Rattle.rcu_node.specs.Steps.{AreFilled, AreLinkedFrom, leaf_bit}
+use Rattle.rcu_node.specs.Steps.{AreFilled, AreLinkedUpTo, leaf_bit}
 use Rattle.rcu_node.specs.Words.{has_bit}
 use Rattle.rcu_node.proofs.Bits.{has_bit-zero, has_bit_set_same, has_bit_set_other}
-use Rattle.rcu_node.proofs.Fills.{IsSetAbove, filled_all, filled_members, filled_more, filled_none}
-use Rattle.rcu_node.proofs.Fills.{bit_set, linked_all, nothing_set}
-use Rattle.rcu_node.proofs.Members.{masks_of_members}
+use Rattle.rcu_node.proofs.CpuSetLemmas.{is_in-beyond}
+use Rattle.rcu_node.proofs.Fills.{IsRaised, end_at_root, filled_members, filled_more, filled_none}
+use Rattle.rcu_node.proofs.Fills.{is_leaf_mask, leaf_later, leaf_put, raised}
+use Rattle.rcu_node.proofs.Marks.{zeros_linked}
+use Rattle.rcu_node.proofs.Members.{leaf_here, masks_of_members}
 
 -- one bit more, which is set
 more_set : (test : ℕ → Bool) (n word : ℕ)
@@ -55,7 +60,7 @@ word_of test (suc n) few =
       | inr off ↦ (before.0, more_clear test n before.0 before.1 off)
     ]
 
--- a word has the bits of a leaf, and of any other node
+-- a word has the bits of a leaf
 leaf_word : (s : Shape) (set : List Bool) (node : ℕ) → IsLegalShape s
     → (word : ℕ) × ((bit : ℕ) → has_bit word bit ≡ leaf_bit s set node bit)
 leaf_word s set node legal =
@@ -74,54 +79,136 @@ leaf_word s set node legal =
     turned false true c = refl
     turned false false c = refl
 
--- the next number
-next : (n : ℕ) → n + 1 ≡ suc n
-next n = omega arith
+-- masks of leaves as these, but linked
+pub record AreRaised (s : Shape) (masks new : List ℕ) : Type 0 where
+  pub linked : AreLinked s new
+  pub leaves : (k : ℕ) → first_leaf s ≤ k → slice_index new k ≡ slice_index masks k
 
--- so the nodes can be filled
-filled : (s : Shape) (set : List Bool) (node : ℕ) → IsLegalShape s → node ≤ nodes s
-    → (masks : List ℕ) × AreFilled s set masks node
-filled s set zero legal few = (
-  replicate (nodes s) 0,
-  filled_none s set (replicate (nodes s) 0) (length-replicate {A = ℕ} (nodes s) 0),
-)
-filled s set (suc node) legal few =
-    let before = filled s set node legal (omega (arith, few)) in
-    let word = leaf_word s set node legal in
-    let new = slice_set before.0 node word.0 in
-    let more : AreFilled s set new (node + 1) =
-    filled_more s set before.0 new node word.0 before.1 (omega (arith, few)) word.1 refl in
-    (new, subst (λ k. AreFilled s set new k) (next node) more)
-
--- a node sets its bit in its parent, if it is not empty
-step : (s : Shape) (masks : List ℕ) (node : ℕ) → IsLegalShape s → 0 < node → node < nodes s
-    → AreLinkedFrom s masks (node + 1) → (new : List ℕ) × IsSetAbove s masks new node
-step s masks node legal some here before = elim (cases_eq (slice_index masks node) 0) [
-  | inl empty ↦ (
+-- the walk up from a node links all
+raise : (s : Shape) (masks : List ℕ) (fuel node : ℕ)
+    → IsLegalShape s → AreLinkedUpTo s masks node → node < fuel
+    → (new : List ℕ) × AreRaised s masks new
+raise s masks zero node legal before enough = absurd (let no : ⊥ = omega (arith, enough) in no)
+raise s masks (suc fuel) node legal before enough = elim (cases_eq node 0) [
+  | inl root ↦ (
     masks,
-    record { linked = nothing_set s masks node before some here empty; members = refl },
+    record { linked = end_at_root s masks node before root; leaves = λ k leaf. refl },
   )
-  | inr full ↦ (_, bit_set s masks node legal before some here full)
+  | inr other ↦
+      (let some : 0 < node = grind (arith, other) in
+      let family = has_parent s node legal some before.here in
+      let up_before = family.before in
+      let few = legal.fan_high in let bit = family.bit in
+      let low : bit_in_parent s node < 64 = omega (arith, few, bit) in
+      let old = slice_index masks (parent s node) in
+      let word = bit_or old (1 * 2 ^ bit_in_parent s node % 2 ^ 64) in
+      let new = slice_set masks (parent s node) word in
+      let is : IsRaised s masks new (parent s node) =
+      raised s masks node word legal before some
+      (record {
+        on = has_bit_set_same old (bit_in_parent s node) low;
+        rest = λ i apart. has_bit_set_other old (bit_in_parent s node) i low apart;
+      }) in
+      elim (cases_eq old 0) [
+        | inl empty ↦
+            (let rest =
+            raise s new fuel (parent s node) legal (is.on empty)
+            (omega (arith, up_before, enough)) in (
+              rest.0,
+              record {
+                linked = rest.1.linked;
+                leaves = λ k leaf. rest.1.leaves k leaf ∙ is.leaves k leaf;
+              },
+            ))
+        | inr full ↦ (new, record { linked = is.end full; leaves = is.leaves })
+      ])
 ]
 
+-- linked masks with the leaves before this one filled
+pub record AreSoFar (s : Shape) (set : List Bool) (masks : List ℕ) (leaf : ℕ) : Type 0 where
+  pub linked : AreLinked s masks
+  pub filled : AreFilled s set masks leaf
+
+-- so one more leaf can be filled
+one_more : (s : Shape) (set : List Bool) (masks : List ℕ) (leaf : ℕ)
+    → IsLegalShape s → length set ≡ s.cpus → first_leaf s ≤ leaf → leaf < nodes s
+    → AreSoFar s set masks leaf
+    → (new : List ℕ) × AreSoFar s set new (leaf + 1)
+one_more s set masks leaf legal sized first here before =
+    let word = leaf_word s set leaf legal in
+    let there : leaf < length masks =
+    (let long = before.linked.owned.sized in omega (arith, long, here)) in
+    elim (cases_eq word.0 0) [
+      | inl none ↦ (
+        masks,
+        record {
+          linked = before.linked;
+          filled = filled_more s set masks masks leaf word.0 before.filled first there word.1
+              (λ k k_leaf. elim (cases_eq k leaf) [
+                | inl same ↦ ap (slice_index masks) same
+                    ∙ before.filled.rest leaf (omega arith)
+                    ∙ sym none
+                    ∙ sym (ap (slice_index (slice_set masks leaf word.0)) same
+                    ∙ get_or-set_same masks leaf word.0 0 there)
+                | inr other ↦ sym (get_or-set_other masks leaf k word.0 0 other)
+              ]);
+        },
+      )
+      | inr some ↦
+          (let put =
+          leaf_put s masks leaf word.0 legal before.linked first here
+          (before.filled.rest leaf (omega arith))
+          (is_leaf_mask s set leaf word.0 sized some word.1) in
+          let all =
+          raise s (slice_set masks leaf word.0) (suc leaf) leaf legal put (omega arith) in (
+            all.0,
+            record {
+              linked = all.1.linked;
+              filled = filled_more s set masks all.0 leaf word.0 before.filled first there word.1
+                  all.1.leaves;
+            },
+          ))
+    ]
+
 -- and so all can
-linked : (s : Shape) (masks : List ℕ) (node : ℕ)
-    → IsLegalShape s → node ≤ nodes s → AreLinkedFrom s masks node
-    → (new : List ℕ) × (AreLinked s new × (members s new ≡ members s masks))
-linked s masks zero legal few from = (masks, (linked_all s masks 0 (omega arith) from, refl))
-linked s masks (suc zero) legal few from = (masks, (linked_all s masks 1 (omega arith) from, refl))
-linked s masks (suc (suc node)) legal few from =
-    let one = step s masks (suc node) legal (omega arith) (omega (arith, few))
-    (subst (λ k. AreLinkedFrom s masks k) (sym (next (suc node))) from) in
-    let rest = linked s one.0 (suc node) legal (omega (arith, few)) one.1.linked in
-    (rest.0, (rest.1.0, rest.1.1 ∙ one.1.members))
+so_far : (s : Shape) (set : List Bool) (count : ℕ) → IsLegalShape s → length set ≡ s.cpus
+    → first_leaf s + count ≤ nodes s
+    → (masks : List ℕ) × AreSoFar s set masks (first_leaf s + count)
+so_far s set zero legal sized few = (
+  replicate (nodes s) 0,
+  (let at : first_leaf s ≡ first_leaf s + 0 = omega arith in
+      record {
+        linked = zeros_linked s (replicate (nodes s) 0) refl;
+        filled = subst (λ leaf. AreFilled s set (replicate (nodes s) 0) leaf) at
+            (filled_none s set (replicate (nodes s) 0) refl);
+      }),
+)
+so_far s set (suc count) legal sized few =
+    let before = so_far s set count legal sized (omega (arith, few)) in
+    let leaf = first_leaf s + count in
+    let more = one_more s set before.0 leaf legal sized (omega arith) (omega (arith, few))
+    before.1 in
+    let at : leaf + 1 ≡ first_leaf s + suc count = omega arith in
+    (more.0, subst (λ k. AreSoFar s set more.0 k) at more.1)
 
 -- the masks of a set
 pub some_masks : (s : Shape) (set : List Bool) → IsLegalShape s → length set ≡ s.cpus
     → (masks : List ℕ) × AreMasks s set masks
 some_masks s set legal sized =
-    let leaves = filled s set (nodes s) legal (omega arith) in
-    let all = linked s leaves.0 (nodes s) legal (omega arith)
-    (filled_all s set leaves.0 legal sized leaves.1) in
-    let is : members s all.0 ≡ set = all.1.1 ∙ filled_members s set leaves.0 legal sized leaves.1 in
-    (all.0, subst (λ (of : List Bool). AreMasks s of all.0) is (masks_of_members s all.0 all.1.0))
+    let rises = start_rises s (levels s - 1) (levels s) (omega arith) in
+    let all = so_far s set (nodes s - first_leaf s) legal sized (omega (arith, rises)) in
+    let masks = all.0 in
+    let leaf = first_leaf s + (nodes s - first_leaf s) in
+    let is : members s masks ≡ set =
+    filled_members s set masks leaf legal sized all.1.filled (omega arith)
+    (λ c past. elim (cases_lt c s.cpus) [
+      | inl below ↦
+          (let later = leaf_later s leaf c legal (omega arith) past in
+          let here = leaf_here s c legal below in
+          absurd (let no : ⊥ = omega (arith, later, here, rises) in no))
+      | inr beyond ↦ is_in-beyond set c (omega (arith, sized, beyond))
+    ]) in (
+      masks,
+      subst (λ (of : List Bool). AreMasks s of masks) is
+          (masks_of_members s masks all.1.linked),
+    )

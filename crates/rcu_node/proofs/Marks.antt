@@ -17,7 +17,7 @@ use Rattle.rcu_node.proofs.Members.{cpu_bit}
 use Rattle.rcu_node.proofs.OneBit.{not_empty}
 
 -- masks of zeros have no bit
-zero_at : (n k : ℕ) → slice_index (replicate n 0) k ≡ 0
+pub zero_at : (n k : ℕ) → slice_index (replicate n 0) k ≡ 0
 zero_at n k = elim (cases_lt k n) [
   | inl below ↦ get_or-replicate n k 0 0 below
   | inr past ↦ get_or_past (replicate n 0) k 0 (omega (arith, past, length-replicate {A = ℕ} n 0))

@@ -45,7 +45,7 @@ all_empty s masks legal linked empty (suc fuel) node enough here = elim (cases_e
 ]
 
 -- a bit that nothing has is not set
-none_set : (word bit : ℕ) → (has_bit word bit ≡ true → ⊥) → has_bit word bit ≡ false
+pub none_set : (word bit : ℕ) → (has_bit word bit ≡ true → ⊥) → has_bit word bit ≡ false
 none_set word bit never = elim (cases_Bool (has_bit word bit)) [
   | inl set ↦ absurd (never set)
   | inr none ↦ none

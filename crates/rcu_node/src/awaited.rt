@@ -64,7 +64,8 @@ pub trait Awaited: Drop {
 
     /// Begins a grace period of this tag, which awaits the set. The set is one of as many
     /// processors, and the tag's number is `4k + 1`. Costs a step for every 64 processors, and in a
-    /// tree one for each node.
+    /// tree one for each node above the leaves, and some for each leaf with a processor of this set
+    /// or of the last one.
     fn begin(&mut self, now: Tag, set: &CpuSet)
         requires alike { length set.now ≡ length (awaited self.old) }
         requires running { is_running now.number ≡ true }

@@ -3,7 +3,7 @@ ghost use Rattle.std.specs.Prelude.{◌≡◌, ◌<◌, ◌≤◌, ◌+◌, ◌-
 ghost use Rattle.std.specs.Prelude.{nat_lt};
 ghost use Rattle.std.specs.Prelude.{if◌then◌else◌, length, slice_index, slice_set, bit_or};
 ghost use Rattle.std.specs.Prelude.{replicate};
-ghost use Rattle.std.specs.Prelude.{IfOk, IfErr, OnOk};
+ghost use Rattle.std.specs.Prelude.{IfErr, IfNone, IfOk, IfSome, OnOk};
 ghost use Rattle.rcu_node.specs.CpuSet.{IsSetFault, is_in, size_of, union};
 ghost use Rattle.rcu_node.specs.Words.{flags_in, has_bit};
 
@@ -101,6 +101,27 @@ impl CpuSet {
         let word = self.words[place];
         let next = self.words.get(place + 1).copied().unwrap_or(0);
         cut(word, next, from % WORD_BITS, width)
+    }
+
+    /// Returns the first processor of the set from this one on (Linux's `cpumask_next`). Costs a
+    /// step, and one more for every 64 processors that it skips.
+    pub(crate) fn next_from(&self, from: u32) -> Option<u32>
+        ensures later { IfSome result (λ cpu. from ≤ cpu) }
+        ensures inside { IfSome result (λ cpu. cpu < length self.now) }
+        ensures here { IfSome result (λ cpu. is_in self.now cpu ≡ true) }
+        ensures none_before { IfSome result (λ cpu.
+            (k : ℕ) → from ≤ k → k < cpu → is_in self.now k ≡ false) }
+        ensures none { IfNone result ((k : ℕ) → from ≤ k → is_in self.now k ≡ false) }
+    {
+        let mut cpu = from;
+        while cpu < self.cpus {
+            let flags = self.bits_from(cpu, WORD_BITS);
+            if flags != 0 {
+                return Some(cpu + flags.trailing_zeros());
+            }
+            cpu += WORD_BITS;
+        }
+        None
     }
 
     /// Puts the processor into the set, and returns whether it is new.

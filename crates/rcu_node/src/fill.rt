@@ -1,16 +1,17 @@
-//! The masks at a grace period's start, level by level from below.
-ghost use Rattle.std.specs.Prelude.{◌≡◌, ◌<◌, ◌+◌, ℕ, length};
-ghost use Rattle.rcu_geometry.specs.Geometry.{IsLegalShape, nodes as nodes_of};
+//! The masks at a grace period's start, from the leaves up.
+ghost use Rattle.std.specs.Prelude.{◌≡◌, ◌<◌, ◌≤◌, ℕ, length, replicate, slice_index, slice_set};
+ghost use Rattle.std.specs.Prelude.{IfNone, IfSome};
+ghost use Rattle.rcu_geometry.specs.Geometry.{IsLegalShape, first_leaf, nodes as nodes_of};
 ghost use Rattle.rcu_node.specs.Masks.{AreGroups, AreLinked};
 ghost use Rattle.rcu_node.specs.Masks.{group_masks, members, now_masks, start_masks};
-ghost use Rattle.rcu_node.specs.Steps.{AreLinkedFrom, leaf_bit};
-ghost use Rattle.rcu_node.specs.Words.{has_bit};
+ghost use Rattle.rcu_node.specs.Steps.{AreLinkedUpTo, IsLeafMask};
 
 use crate::cpu_set::CpuSet;
-use crate::node::{Node, group_mask, now_mask, put_now, put_start, set as set_bits};
+use crate::node::{Node, group_mask, now_mask, put_both};
 use rcu_geometry::Geometry;
 
-/// Sets the masks to those of a set.
+/// Sets both masks of each node, which are empty, to those of a set. Costs a step for every 64
+/// processors, and a walk up the tree for each leaf with a processor of the set.
 pub fn fill<const LEAF: u32, const FAN: u32>(
     geometry: &Geometry<LEAF, FAN>,
     nodes: &mut Vec<Node>,
@@ -18,112 +19,82 @@ pub fn fill<const LEAF: u32, const FAN: u32>(
 )
     requires legal { IsLegalShape geometry.now }
     requires leaf { geometry.now.leaf ≡ LEAF }
-    requires sized { length nodes.old.items ≡ nodes_of geometry.now }
     requires set { length set.now ≡ geometry.now.cpus }
     requires groups { AreGroups geometry.now (group_masks nodes.old.items) }
+    requires now { now_masks nodes.old.items ≡ replicate (nodes_of geometry.now) 0 }
+    requires start { start_masks nodes.old.items ≡ replicate (nodes_of geometry.now) 0 }
     ensures masks { AreLinked geometry.now (now_masks nodes.new.items) }
     ensures members { members geometry.now (now_masks nodes.new.items) ≡ set.now }
-    ensures start { start_masks nodes.new.items ≡ start_masks nodes.old.items }
+    ensures both { start_masks nodes.new.items ≡ now_masks nodes.new.items }
     ensures group { group_masks nodes.new.items ≡ group_masks nodes.old.items }
-{
-    fill_leaves(geometry, nodes, set);
-    link(geometry, nodes);
-}
-
-/// Sets the leaves to the bits of a set, and clears the masks of the other nodes.
-fn fill_leaves<const LEAF: u32, const FAN: u32>(
-    geometry: &Geometry<LEAF, FAN>,
-    nodes: &mut Vec<Node>,
-    set: &CpuSet,
-)
-    requires legal { IsLegalShape geometry.now }
-    requires leaf { geometry.now.leaf ≡ LEAF }
-    requires sized { length nodes.old.items ≡ nodes_of geometry.now }
-    requires set { length set.now ≡ geometry.now.cpus }
-    ensures masks { AreLinkedFrom geometry.now (now_masks nodes.new.items)
-        (nodes_of geometry.now) }
-    ensures members { members geometry.now (now_masks nodes.new.items) ≡ set.now }
-    ensures start { start_masks nodes.new.items ≡ start_masks nodes.old.items }
-    ensures group { group_masks nodes.new.items ≡ group_masks nodes.old.items }
-{
-    for node in 0..geometry.nodes() {
-        put_now(nodes, node, leaf_mask(geometry, set, node));
-    }
-}
-
-/// Returns the bits of a set in a leaf, and 0 for any other node.
-fn leaf_mask<const LEAF: u32, const FAN: u32>(
-    geometry: &Geometry<LEAF, FAN>,
-    set: &CpuSet,
-    node: u32,
-) -> u64
-    requires legal { IsLegalShape geometry.now }
-    requires leaf { geometry.now.leaf ≡ LEAF }
-    requires here { node < nodes_of geometry.now }
-    requires set { length set.now ≡ geometry.now.cpus }
-    ensures { (bit : ℕ) → has_bit result bit ≡ leaf_bit geometry.now set.now node bit }
 {
     let first = geometry.level_start(geometry.levels() - 1);
-    if node < first {
-        return 0;
+    let mut leaf = first;
+    while let Some(cpu) = set.next_from((leaf - first) * LEAF) {
+        leaf = geometry.leaf_of(cpu);
+        let mask = set.bits_from((leaf - first) * LEAF, LEAF);
+        fill_leaf(geometry, nodes, leaf, mask);
+        leaf += 1;
     }
-    set.bits_from((node - first) * LEAF, LEAF)
 }
 
-/// From the last node on, each node sets its bit in its parent if its mask is not empty.
-fn link<const LEAF: u32, const FAN: u32>(geometry: &Geometry<LEAF, FAN>, nodes: &mut Vec<Node>)
+/// Sets the mask of an empty leaf, and walks up from there as long as masks were empty (Linux's
+/// `rcu_init_new_rnp`).
+fn fill_leaf<const LEAF: u32, const FAN: u32>(
+    geometry: &Geometry<LEAF, FAN>,
+    nodes: &mut Vec<Node>,
+    leaf: u32,
+    mask: u64,
+)
     requires legal { IsLegalShape geometry.now }
-    requires masks { AreLinkedFrom geometry.now (now_masks nodes.old.items)
-        (nodes_of geometry.now) }
+    requires leaf { first_leaf geometry.now ≤ leaf }
+    requires here { leaf < nodes_of geometry.now }
+    requires mask { IsLeafMask geometry.now leaf mask }
+    requires masks { AreLinked geometry.now (now_masks nodes.old.items) }
+    requires empty { slice_index (now_masks nodes.old.items) leaf ≡ 0 }
+    requires both { start_masks nodes.old.items ≡ now_masks nodes.old.items }
     requires groups { AreGroups geometry.now (group_masks nodes.old.items) }
     ensures masks { AreLinked geometry.now (now_masks nodes.new.items) }
-    ensures members { members geometry.now (now_masks nodes.new.items)
-        ≡ members geometry.now (now_masks nodes.old.items) }
-    ensures start { start_masks nodes.new.items ≡ start_masks nodes.old.items }
+    ensures leaves { (k : ℕ) → first_leaf geometry.now ≤ k
+        → slice_index (now_masks nodes.new.items) k
+        ≡ slice_index (slice_set (now_masks nodes.old.items) leaf mask) k }
+    ensures both { start_masks nodes.new.items ≡ now_masks nodes.new.items }
     ensures group { group_masks nodes.new.items ≡ group_masks nodes.old.items }
 {
-    let mut node = geometry.nodes();
-    while node > 1 {
-        node -= 1;
-        set_in_parent(geometry, nodes, node);
+    put_both(nodes, leaf, mask);
+    let mut node = leaf;
+    while let Some(parent) = set_in_parent(geometry, nodes, node) {
+        node = parent;
     }
 }
 
-/// Sets a node's bit in its parent if its mask is not empty.
+/// One step of the walk, at a node that was empty and is not now. The step sets the node's bit in
+/// its parent. If the parent was empty too, the walk goes on there; otherwise, and at the root, it
+/// ends.
 fn set_in_parent<const LEAF: u32, const FAN: u32>(
     geometry: &Geometry<LEAF, FAN>,
     nodes: &mut Vec<Node>,
     node: u32,
-)
+) -> Option<u32>
     requires legal { IsLegalShape geometry.now }
-    requires some { 0 < node }
-    requires here { node < nodes_of geometry.now }
-    requires masks { AreLinkedFrom geometry.now (now_masks nodes.old.items) (node + 1) }
+    requires masks { AreLinkedUpTo geometry.now (now_masks nodes.old.items) node }
+    requires both { start_masks nodes.old.items ≡ now_masks nodes.old.items }
     requires groups { AreGroups geometry.now (group_masks nodes.old.items) }
-    ensures masks { AreLinkedFrom geometry.now (now_masks nodes.new.items) node }
-    ensures members { members geometry.now (now_masks nodes.new.items)
-        ≡ members geometry.now (now_masks nodes.old.items) }
-    ensures start { start_masks nodes.new.items ≡ start_masks nodes.old.items }
+    ensures end { IfNone result (AreLinked geometry.now (now_masks nodes.new.items)) }
+    ensures on { IfSome result (λ parent.
+        AreLinkedUpTo geometry.now (now_masks nodes.new.items) parent) }
+    ensures up { IfSome result (λ parent. parent < node) }
+    ensures leaves { (k : ℕ) → first_leaf geometry.now ≤ k
+        → slice_index (now_masks nodes.new.items) k ≡ slice_index (now_masks nodes.old.items) k }
+    ensures both { start_masks nodes.new.items ≡ now_masks nodes.new.items }
     ensures group { group_masks nodes.new.items ≡ group_masks nodes.old.items }
 {
-    if now_mask(nodes, node) == 0 {
-        return;
-    }
+    let parent = geometry.parent(node)?;
+    let mask = now_mask(nodes, parent);
     let own = group_mask(nodes, node);
-    if let Some(parent) = geometry.parent(node) {
-        set_bits(nodes, parent, own);
+    put_both(nodes, parent, mask | own);
+    if mask != 0 {
+        return None;
     }
-}
-
-/// Copies the current masks to the masks at the start.
-pub fn keep_start(nodes: &mut Vec<Node>, count: u32)
-    requires { count ≡ length nodes.old.items }
-    ensures start { start_masks nodes.new.items ≡ now_masks nodes.old.items }
-    ensures now { now_masks nodes.new.items ≡ now_masks nodes.old.items }
-    ensures group { group_masks nodes.new.items ≡ group_masks nodes.old.items }
-{
-    for node in 0..count {
-        let own = now_mask(nodes, node);
-        put_start(nodes, node, own);
-    }
+    Some(parent)
 }

@@ -3,6 +3,7 @@
 
 pub mod awaited;
 pub mod cpu_set;
+mod emptying;
 mod fill;
 pub mod flat;
 pub mod laws;

@@ -1,5 +1,5 @@
 //! A node's masks, and single reads and writes of them.
-ghost use Rattle.std.specs.Prelude.{◌≡◌, ◌<◌, length, slice_index, slice_set, bit_and, bit_or};
+ghost use Rattle.std.specs.Prelude.{◌≡◌, ◌<◌, length, slice_index, slice_set, bit_and};
 ghost use Rattle.std.specs.Int.{bit_not, w64};
 ghost use Rattle.rcu_node.specs.Masks.{group_masks, now_masks, start_masks};
 
@@ -50,18 +50,6 @@ pub fn clear(nodes: &mut Vec<Node>, node: u32, bits: u64)
     put_now(nodes, node, mask);
 }
 
-/// Sets bits of a node's mask.
-pub fn set(nodes: &mut Vec<Node>, node: u32, bits: u64)
-    requires { node < length nodes.old.items }
-    ensures now { now_masks nodes.new.items ≡ slice_set (now_masks nodes.old.items) node
-        (bit_or (slice_index (now_masks nodes.old.items) node) bits) }
-    ensures start { start_masks nodes.new.items ≡ start_masks nodes.old.items }
-    ensures group { group_masks nodes.new.items ≡ group_masks nodes.old.items }
-{
-    let mask = now_mask(nodes, node) | bits;
-    put_now(nodes, node, mask);
-}
-
 /// Stores a node's mask.
 pub fn put_now(nodes: &mut Vec<Node>, node: u32, mask: u64)
     requires { node < length nodes.old.items }
@@ -73,15 +61,16 @@ pub fn put_now(nodes: &mut Vec<Node>, node: u32, mask: u64)
     at.qsmask = mask;
 }
 
-/// Stores a node's mask at the start.
-pub fn put_start(nodes: &mut Vec<Node>, node: u32, mask: u64)
+/// Stores a node's mask, both of now and at the start.
+pub fn put_both(nodes: &mut Vec<Node>, node: u32, mask: u64)
     requires { node < length nodes.old.items }
+    ensures now { now_masks nodes.new.items ≡ slice_set (now_masks nodes.old.items) node mask }
     ensures start { start_masks nodes.new.items
         ≡ slice_set (start_masks nodes.old.items) node mask }
-    ensures now { now_masks nodes.new.items ≡ now_masks nodes.old.items }
     ensures group { group_masks nodes.new.items ≡ group_masks nodes.old.items }
 {
     let at = &mut nodes[node as usize];
+    at.qsmask = mask;
     at.qsmaskinit = mask;
 }
 

@@ -9,7 +9,8 @@ ghost use Rattle.rcu_node.specs.Masks.{AreGroups, AreLinked};
 ghost use Rattle.rcu_node.specs.Masks.{group_masks, members, now_masks, start_masks};
 
 use crate::cpu_set::CpuSet;
-use crate::fill::{fill, keep_start};
+use crate::emptying::empty;
+use crate::fill::fill;
 use crate::making::new_nodes;
 use crate::node::{Node, group_mask, now_mask, start_mask};
 use crate::period_sets::PeriodSets;
@@ -129,8 +130,8 @@ impl<const LEAF: u32, const FAN: u32> PeriodSets for Nodes<LEAF, FAN> {
     }
 
     fn begin(&mut self, set: &CpuSet) {
+        empty(&self.geometry, &mut self.nodes);
         fill(&self.geometry, &mut self.nodes, set);
-        keep_start(&mut self.nodes, self.geometry.nodes());
         self.count = set.count();
     }
 

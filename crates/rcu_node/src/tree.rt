@@ -17,7 +17,8 @@ use std::alloc::Global;
 ///
 /// Each node has a mask of its awaited children, which are processors in a leaf. A report clears a
 /// bit in a leaf, and goes on in the parent if the mask is then empty. It costs at most a step for
-/// each level. A begin costs a step for each node.
+/// each level. A begin costs a step for every 64 processors and for each node above the leaves, and
+/// some for each leaf with a processor of this set or of the last one.
 pub type Tree<const LEAF: u32, const FAN: u32> = TaggedSets<Nodes<LEAF, FAN>>;
 
 impl<const LEAF: u32, const FAN: u32> Tree<LEAF, FAN> {

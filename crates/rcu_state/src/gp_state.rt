@@ -204,7 +204,7 @@ impl<A: Awaited, T: Drop> GpState<A, T> {
 
     /// Begins a grace period, which awaits the online processors (Linux's `rcu_gp_init`). Returns
     /// its number, and how many processors it awaits. Costs the same as a begin of the awaited set,
-    /// in a [`Tree`](rcu_node::tree::Tree) a step for each node.
+    /// [`Awaited::begin`].
     ///
     /// Faults: `Running` (8) if one runs; `Exhausted` (11) if the number is the last one.
     pub fn begin(&mut self) -> Result<(u64, u32), Fault>

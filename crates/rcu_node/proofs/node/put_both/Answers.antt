@@ -2,22 +2,21 @@ use Rattle.std.proofs.Common.{refl}
 use Rattle.std.proofs.lemmas.List.{map-set}
 use Rattle.rcu_node.specs.declared.node.Node.{Node}
 use Rattle.rcu_node.proofs.NodeWrites.{map_kept}
-use Rattle.rcu_node.proofs.node.put_start.Goals as goal
+use Rattle.rcu_node.proofs.node.put_both.Goals as goal
 
 pub returns-clause-now : goal.returns-clause-now
 returns-clause-now c =
     let new : Node = record {
-      qsmask = c.index_mut-at.result.now.qsmask;
+      qsmask = c.args.mask;
       qsmaskinit = c.args.mask;
       grpmask = c.index_mut-at.result.now.grpmask;
     } in
-    map_kept (λ node. node.qsmask) c.args.nodes.now.items c.args.node new c.index_mut-at.result.now
-    c.index_mut-at.ensures.value refl
+    map-set (λ (node : Node). node.qsmask) c.args.nodes.now.items c.args.node new
 
 pub returns-clause-start : goal.returns-clause-start
 returns-clause-start c =
     let new : Node = record {
-      qsmask = c.index_mut-at.result.now.qsmask;
+      qsmask = c.args.mask;
       qsmaskinit = c.args.mask;
       grpmask = c.index_mut-at.result.now.grpmask;
     } in
@@ -26,7 +25,7 @@ returns-clause-start c =
 pub returns-clause-group : goal.returns-clause-group
 returns-clause-group c =
     let new : Node = record {
-      qsmask = c.index_mut-at.result.now.qsmask;
+      qsmask = c.args.mask;
       qsmaskinit = c.args.mask;
       grpmask = c.index_mut-at.result.now.grpmask;
     } in
