@@ -24,18 +24,17 @@ QUOTES = {
     "let number = board.load(&mut self.seat);": ("load",),
     "let now = board.load(&mut self.seat);": ("load",),
     "let number = board.close_section(seat);": ("load",),
-    "live.stored(board.store(": ("store", "Live::stored"),
-    "let stored = board.store(": ("store",),  # or in two lines
-    "live.stored(stored);": ("Live::stored",),
-    "stored.wakes(&self.board, &self.sleepers);": ("Stored::wakes",),
-    "stored.wakes_nobody();": (),
-    "sleepers.wake_for(board, cpu);": ("Sleepers::wake_for",),
-    "if board.is_asked(cpu) {": ("Board::is_asked",),
-    "let (asked, _look) = self.table.shared.load_new_seat::<LookAtAsked>(ASKED);": ("look",),
+    "let stored = board.store(": ("store",),
+    "live.stored(&mut self.seat, stored);": ("Live::stored",),
+    "live.stored(seat, stored);": ("Live::stored",),
+    "stored.wakes(&self.board, seat, &self.sleepers);": ("Stored::wakes",),
+    "sleepers.wake_for(board, seat, cpu);": ("Sleepers::wake_for",),
+    "if board.is_asked(seat, cpu) {": ("Board::is_asked",),
+    "let asked = self.table.shared.load::<LookAtAsked>(seat, ASKED);": ("look",),
     "asked == u64::from(cpu) + 1": (),
-    "self.answer(board);": ("Sleepers::answer",),
-    "let taken_back = board.take_back();": ("Board::take_back",),
-    "let (asked, _seat) = self.table.shared.swap_new_seat::<TakeBack>(ASKED, 0);": ("clear",),
+    "self.answer(board, seat);": ("Sleepers::answer",),
+    "let taken_back = board.take_back(seat);": ("Board::take_back",),
+    "let asked = self.table.shared.swap::<TakeBack>(seat, ASKED, 0);": ("clear",),
     "self.wakes.wake_all(taken_back);": ("WakeCount::wake_all",),
     "self.word.fetch_add(1, Ordering::SeqCst);": ("add",),
     "self.word.wake_all();": ("wake",),
@@ -70,13 +69,12 @@ QUOTES = {
     "self.wakes.sleep(rt, unheard);": ("WakeCount::sleep",),
     "self.word.park(rt, (counted.wakes & 0xffff_ffff) as u32);": ("park",),
 }
-IN_TWO_LINES = ("let stored = board.store(", "live.stored(stored);")
 # What names a processor, wakes or sleeps: in the files of its words all, and elsewhere these. It has
 # to be a step of some function here.
 STEPS = {
-    "wake_words.rt": r"self\.|engine\.\w+\(",
+    "wake_words.rt": r"self\.(?!now\b)|engine\.\w+\(",
     "sleepers.rt": r"self\.",
-    "": (r"sleepers\.|\.sleepers\b|\.hear\(|\.stored\(|\.wakes\(|board\.store\(|wakes_nobody\(|"
+    "": (r"sleepers\.|\.sleepers\b|\.hear\(|\.stored\(|\.wakes\(|board\.store\(|"
          r"\bpark\b|\.sleep\(|\.ask\(|ask_and_hear\(|whom_to_ask\(|ASKED|_new_seat|WakeCount|"
          r"Stored \{"),
 }
@@ -348,7 +346,7 @@ def rows(sources):
         if list(pair) != list(own):
             yield from judge(f"a wait beside {name}", ALONE,
                              lambda part, pair=pair: Program(wait, *pair), (), is_over)
-    yield from (f"not there: {it}" for it in sources.missing() if it not in IN_TWO_LINES)
+    yield from (f"not there: {it}" for it in sources.missing())
     yield from (f"no step of the model: {it}" for it in sources.unread(STEPS, NO_STEPS))
 
 

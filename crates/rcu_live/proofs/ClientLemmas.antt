@@ -12,7 +12,7 @@ use Rattle.rcu_live.specs.Numbers.{is_open_at, is_past}
 use Rattle.rcu_live.specs.Rule.{Fits, IsKept}
 use Rattle.rcu_live.specs.View.{if_cpu, client_view}
 use Rattle.rcu_live.specs.declared.view.Role.{Role}
-use Rattle.rcu_live.specs.declared.view.Role.TheVariants.{Asker, Cpu, Engine, Looker, Watcher}
+use Rattle.rcu_live.specs.declared.view.Role.TheVariants.{Asker, Cpu, Engine, Watcher}
 use Rattle.rcu_live.specs.declared.view.View.{View}
 use Rattle.rcu_live.proofs.Numbers.{open_at}
 
@@ -32,7 +32,6 @@ is_of_cpu Cpu o a e = (refl, e)
 is_of_cpu Watcher o a e = absurd (cc)
 is_of_cpu Engine o a e = absurd (cc)
 is_of_cpu Asker o a e = absurd (cc)
-is_of_cpu Looker o a e = absurd (cc)
 
 pub at_map_back : {A B : Type 0} (f : A → B) (l : List A) (j : ℕ) (b : B)
     → get_elem? (map f l) j ≡ some b → (a : A) × (get_elem? l j ≡ some a) × (f a ≡ b)

@@ -16,7 +16,7 @@ use Rattle.rcu_live.specs.View.{Closed, Loaded, Opened, after_close, after_load,
 use Rattle.rcu_live.specs.View.{client_view}
 use Rattle.rcu_live.specs.Words.{base_of, own_word_index, mask_index}
 use Rattle.rcu_live.specs.declared.view.Role.{Role}
-use Rattle.rcu_live.specs.declared.view.Role.TheVariants.{Asker, Cpu, Engine, Looker, Watcher}
+use Rattle.rcu_live.specs.declared.view.Role.TheVariants.{Asker, Cpu, Engine, Watcher}
 use Rattle.rcu_live.specs.declared.view.View.{View}
 use Rattle.rcu_live.proofs.Frames.{unchanged, unseen}
 use Rattle.rcu_live.proofs.ClientLemmas.{not_past}
@@ -28,7 +28,6 @@ none_shown Cpu = refl
 none_shown Watcher = refl
 none_shown Engine = refl
 none_shown Asker = refl
-none_shown Looker = refl
 
 the_same : {a b : ℕ} → Some a ≡ Some b → b ≡ a
 the_same e = cc

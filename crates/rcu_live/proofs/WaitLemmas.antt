@@ -31,6 +31,8 @@ module _ {C : Type 0} where
       seen = n;
       loads = s.view.loads + times;
       stores = s.view.stores + times;
+      looks = s.view.looks + times;
+      answered = true;
       own_word = n + 1;
     };
   }
@@ -63,6 +65,8 @@ module _ {C : Type 0} where
             omega arith in
             let stores : s.view.stores + suc times + 1 ≡ s.view.stores + suc (suc times) =
             omega arith in
+            let looks : s.view.looks + suc times + 1 ≡ s.view.looks + suc (suc times) =
+            omega arith in
             new
             ∙ awake_rests t 0 n awake
             ∙ ap (λ (y : Seated C). rests y 1 n) before
@@ -71,6 +75,8 @@ module _ {C : Type 0} where
                 seen = n;
                 loads = loads i;
                 stores = stores i;
+                looks = looks i;
+                answered = true;
                 own_word = n + 1;
               };
             })

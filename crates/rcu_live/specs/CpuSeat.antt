@@ -1,6 +1,6 @@
 -- A processor's seat: its calls, when each is accepted, and the seat after it.
-use Rattle.std.specs.Prelude.{◌≡◌, ℕ, ◌+◌, ◌-◌, ◌≤◌, ◌^◌, ◌==◌, nat_lt, not, if◌then◌else◌, [], ◌∷◌}
-use Rattle.std.specs.Prelude.{Option}
+use Rattle.std.specs.Prelude.{◌≡◌, ℕ, ◌+◌, ◌-◌, ◌≤◌, ◌^◌, ◌==◌, ◌&&◌, nat_lt, not, if◌then◌else◌}
+use Rattle.std.specs.Prelude.{[], ◌∷◌, Bool, Option}
 use Rattle.atomic_table.specs.Seated.{TableId}
 use Rattle.rcu_seq.specs.Fault.{first_fault}
 use Rattle.rcu_seq.specs.Numbers.{Number}
@@ -11,8 +11,8 @@ use Rattle.rcu_seq.specs.declared.fault.Fault.TheVariants.{Offline}
 use Rattle.rcu_cpu.specs.CpuData.{Processor, deepest}
 use Rattle.rcu_live.specs.Board.{Object}
 use Rattle.rcu_live.specs.Numbers.{idle_word}
-use Rattle.rcu_live.specs.View.{after_close, after_load, after_open, after_store, cpu_seat}
-use Rattle.rcu_live.specs.View.{with_client}
+use Rattle.rcu_live.specs.View.{after_close, after_load, after_open, after_store, after_waking}
+use Rattle.rcu_live.specs.View.{cpu_seat, with_client}
 use Rattle.rcu_live.specs.declared.view.View.{View}
 
 -- a processor's seat: its object, its processor, the depth of its sections, and its view
@@ -94,6 +94,11 @@ module _ {C : Type 0} where
       first_fault ((s.view.own_word == 0, Offline) ∷ (s.view.own_word == idle_word, CpuIdle)
       ∷ (nat_lt 0 s.depth, InSection) ∷ [])
 
+  -- the same after a report, behind whose store the seat looked once whether it has to wake the
+  -- waiters that sleep until then; or after a store behind which it did not
+  abbrev pub reported : Bool → Seated C → Seated C
+  reported wakes s = record s { view = after_waking wakes s.view }
+
   -- after the processor became idle: one more store, of the idle word
   abbrev pub after_idle : Seated C → Seated C
   after_idle s = record s { view = after_store s.view idle_word }
@@ -110,11 +115,12 @@ module _ {C : Type 0} where
   after_quiesce s n = record s { view = after_store (after_load s.view n) (n + 1) }
 
   -- after a quiescent state that stores only if that changes the own word: the same as after one
-  -- that stores, except for the number of stores
+  -- that stores, except for the number of stores, and for a look behind the latest one
   abbrev pub after_quiesce_since : Seated C → Number → Seated C
   after_quiesce_since s n = record s {
     view = record (after_store (after_load s.view n) (n + 1)) {
       stores = if s.view.own_word == n + 1 then s.view.stores else s.view.stores + 1;
+      answered = (s.view.own_word == n + 1) && s.view.answered;
     };
   }
 
@@ -131,14 +137,18 @@ module _ {C : Type 0} where
     view = after_open (record (after_close closed s.view n) {
       own_word = n + 1;
       stores = if s.view.own_word == n + 1 then s.view.stores else s.view.stores + 1;
+      answered = (s.view.own_word == n + 1) && s.view.answered;
     }) m;
   }
 
   -- a section was renewed: the open one ended, a quiescent state was passed at the number n, which
   -- is at least all that the seat saw before, and another section began, at a number that is no
-  -- less
-  pub record RenewedAt (closed : C → C) (s : Seated C) (n : Number) (t : Seated C) : Type 0 where
-    pub state : t ≡ after_renew closed s n t.view.seen
+  -- less. If the seat stored, it looked whether it has to wake waiters, by an engine on which they
+  -- sleep
+  pub record RenewedAt (wakes : Bool) (closed : C → C) (s : Seated C) (n : Number) (t : Seated C)
+      : Type 0 where
+    pub state : t ≡ reported (wakes && not (s.view.own_word == n + 1))
+        (after_renew closed s n t.view.seen)
     pub later : s.view.seen ≤ n
     pub onward : n ≤ t.view.seen
     pub bounded : n ≤ 2 ^ 62

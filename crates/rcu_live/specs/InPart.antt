@@ -26,6 +26,8 @@ module _ {D C : Type 0} (lens : Lens D C) where
     seen = v.seen;
     loads = v.loads;
     stores = v.stores;
+    looks = v.looks;
+    answered = v.answered;
     own_word = v.own_word;
     section = v.section;
     own_word_loads = v.own_word_loads;

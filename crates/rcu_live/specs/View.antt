@@ -1,13 +1,14 @@
 -- The views of seats: at the start, as they are dealt, and after each kind of step.
 use Rattle.std.specs.Prelude.{◌≡◌, ℕ, zero, suc, ◌+◌, ◌-◌, ◌/◌, ◌%◌, ◌^◌, ◌<◌, ◌≤◌, List, []}
-use Rattle.std.specs.Prelude.{◌∷◌, Option, Some, None, true, false, length, min}
+use Rattle.std.specs.Prelude.{◌∷◌, Option, Some, None, Bool, true, false, not, length, min}
+use Rattle.std.specs.Prelude.{if◌then◌else◌}
 use Rattle.std.specs.Int.{trailing_zeros, w64}
 use Rattle.rcu_seq.specs.Numbers.{Number}
 use Rattle.rcu_live.specs.Client.{ClientView}
 use Rattle.rcu_live.specs.Numbers.{is_number_word, is_past}
 use Rattle.rcu_live.specs.Words.{base_of, first_own_word, own_word_index}
 use Rattle.rcu_live.specs.declared.view.Role.{Role}
-use Rattle.rcu_live.specs.declared.view.Role.TheVariants.{Cpu, Watcher, Engine, Asker, Looker}
+use Rattle.rcu_live.specs.declared.view.Role.TheVariants.{Cpu, Watcher, Engine, Asker}
 use Rattle.rcu_live.specs.declared.view.View.{View}
 
 -- this for a processor's seat, none for another
@@ -16,7 +17,6 @@ if_cpu Cpu o = o
 if_cpu Watcher o = None
 if_cpu Engine o = None
 if_cpu Asker o = None
-if_cpu Looker o = None
 
 -- how many processors from this one on, in a row, have no bit in their online mask, among the 64
 -- that share it and the existing ones
@@ -44,6 +44,8 @@ module _ {C : Type 0} where
     seen = 0;
     loads = 0;
     stores = 0;
+    looks = 0;
+    answered = false;
     own_word = own_word;
     section = None;
     own_word_loads = [];
@@ -75,11 +77,6 @@ module _ {C : Type 0} where
   -- an asking of a processor whose seat had stored this often
   abbrev pub asking_of : ℕ → ℕ → ℕ → C → View C
   asking_of cpu stores base c = record (fresh Asker cpu 0 base c) { stores = stores }
-
-  -- a look at which processor is asked, by one whose seat had stored this often, which found this
-  -- word
-  abbrev pub look_of : ℕ → ℕ → ℕ → ℕ → C → View C
-  look_of cpu stores word base c = record (fresh Looker cpu word base c) { stores = stores }
 
   -- seat split: the engine's seat after the next processor's is dealt
   abbrev pub after_deal : View C → View C
@@ -114,9 +111,25 @@ module _ {C : Type 0} where
     client = closed v.client;
   }
 
-  -- after a store of the own word: one store more
+  -- after a store of the own word: one store more, which no look has followed yet
   abbrev pub after_store : View C → ℕ → View C
-  after_store v word = record v { stores = v.stores + 1; own_word = word }
+  after_store v word = record v { stores = v.stores + 1; answered = false; own_word = word }
+
+  -- after a load of which processor is asked, which found this seat's or not
+  abbrev pub after_asked_load : View C → Bool → View C
+  after_asked_load v is_asked = record v { looks = v.looks + 1; answered = not is_asked }
+
+  -- after the seat took the asking of its processor back
+  abbrev pub after_take_back : View C → View C
+  after_take_back v = record v { answered = true }
+
+  -- after what follows a store that reports: by an engine on which waiters sleep, one load of which
+  -- processor is asked, and the asking is taken back if that load found this seat's
+  abbrev pub after_waking : Bool → View C → View C
+  after_waking wakes v = record v {
+    looks = if wakes then v.looks + 1 else v.looks;
+    answered = if wakes then true else v.answered;
+  }
 
   -- after the processor's bit was set in its online mask
   abbrev pub after_announcement : View C → View C

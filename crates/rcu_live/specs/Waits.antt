@@ -20,8 +20,9 @@ abbrev pub wait_fault : ℕ → Fault
 wait_fault depth = if nat_lt 0 depth then InSection else Exhausted
 
 module _ {C : Type 0} where
-  -- after this many quiescent states, the last of which saw n. A processor that is offline or idle
-  -- passes none, since no grace period waits for it
+  -- after this many quiescent states, the last of which saw n, each with a look whether it has to
+  -- wake other waiters. A processor that is offline or idle passes none, since no grace period
+  -- waits for it
   abbrev pub after_rests : Seated C → ℕ → Number → Seated C
   after_rests s zero n = s
   after_rests s (suc times) n =
@@ -31,6 +32,8 @@ module _ {C : Type 0} where
           seen = n;
           loads = s.view.loads + suc times;
           stores = s.view.stores + suc times;
+          looks = s.view.looks + suc times;
+          answered = true;
           own_word = n + 1;
         };
       }

@@ -1,5 +1,5 @@
 //! The shared words, and each kind of step on them.
-ghost use Rattle.std.specs.Prelude.{◌≡◌, ◌%◌, ◌<◌, ◌^◌, [], IfOk, false, length};
+ghost use Rattle.std.specs.Prelude.{◌≡◌, ◌%◌, ◌<◌, ◌^◌, [], IfOk, false, length, true};
 ghost use Rattle.rcu_live.specs.declared.view.Role.TheVariants.{Cpu};
 ghost use Rattle.rcu_live.specs.Board.{IsCpuCount, IsSized};
 ghost use Rattle.rcu_live.specs.Numbers.{may_open};
@@ -8,7 +8,8 @@ ghost use Rattle.rcu_live.specs.TableSeat.{MayOpen, MayStore, Stepped};
 ghost use Rattle.rcu_live.specs.View.{Closed, IsOfEngine, Loaded, Opened, OwnWordLoaded};
 ghost use Rattle.rcu_live.specs.View.{after_announcement, after_arrive_store, after_begin_store};
 ghost use Rattle.rcu_live.specs.View.{after_deal, after_end_store, after_online_mask_load};
-ghost use Rattle.rcu_live.specs.View.{after_store, engine_seat, next_cpu_seat, watcher_seat};
+ghost use Rattle.rcu_live.specs.View.{after_store, after_waking, engine_seat, next_cpu_seat};
+ghost use Rattle.rcu_live.specs.View.{watcher_seat};
 ghost use Rattle.rcu_live.specs.Words.{own_word_index};
 
 use crate::client::{Client, NoClient};
@@ -16,6 +17,7 @@ use crate::rule::{
     Arrive, Begin, ClearOnlineBit, Close, DealCpu, DealWatcher, End, Load, LoadOnlineMask, LoadOwn,
     Open, SetOnlineBit, Store, Words,
 };
+use crate::shared::Shared;
 use crate::sleepers::Sleepers;
 use crate::view::View;
 use crate::words::{NUMBER, first_words, mask_index, own_word_index};
@@ -75,14 +77,19 @@ impl Model for Stored {
 impl Stored {
     /// Wakes the waiters that sleep until this processor reports.
     #[inline]
-    pub(crate) fn wakes<P: Client>(self, board: &Board<P>, sleepers: &Sleepers) {
+    pub(crate) fn wakes<P: Client>(
+        self,
+        board: &Board<P>,
+        seat: &mut TableSeat<P>,
+        sleepers: &Sleepers,
+    )
+        requires table { seat.old.table_id ≡ board.now.table }
+        requires role { seat.old.me.0.role ≡ Cpu }
+        requires own { seat.old.me.0.cpu ≡ self }
+        ensures { Stepped (λ old new. new ≡ after_waking true old) seat.old seat.new }
+    {
         let Stored { cpu } = self;
-        sleepers.wake_for(board, cpu);
-    }
-
-    /// Wakes no thread: with the words alone, no waiter sleeps.
-    pub(crate) fn wakes_nobody(self) {
-        let Stored { cpu: _ } = self;
+        sleepers.wake_for(board, seat, cpu);
     }
 }
 
@@ -325,5 +332,20 @@ impl<P: Client> Board<P> {
         ensures { Stepped (λ old new. new ≡ after_end_store old number) seat.old seat.new }
     {
         self.table.shared.store::<End>(seat, NUMBER, number)
+    }
+}
+
+impl<P: Client> Shared<P> for Board<P> {
+    ghost object = { λ board. board };
+
+    ghost wakes = { false };
+
+    fn board(&self) -> &Board<P> {
+        self
+    }
+
+    /// With the words alone, no waiter sleeps.
+    fn stored(&self, _seat: &mut TableSeat<P>, stored: Stored) {
+        let Stored { cpu: _ } = stored;
     }
 }

@@ -1,6 +1,6 @@
 //! A processor's seat: its read sections, its quiescent states and its idleness.
-ghost use Rattle.std.specs.Prelude.{◌≡◌, ◌≢◌, ◌<◌, ◌≤◌, ◌+◌, ◌==◌, ℕ, IfOk, None, OnErr, OnOk};
-ghost use Rattle.std.specs.Prelude.{Some, false, not};
+ghost use Rattle.std.specs.Prelude.{◌≡◌, ◌≢◌, ◌<◌, ◌≤◌, ◌+◌, ◌==◌, ◌&&◌, ℕ, IfOk, None, OnErr};
+ghost use Rattle.std.specs.Prelude.{OnOk, Some, false, not};
 ghost use Rattle.std.specs.Result.{result_err};
 ghost use Rattle.rcu_live.specs.Board.{HasWord};
 ghost use Rattle.rcu_live.specs.Client.{AllowsAt, AllowsWord};
@@ -10,7 +10,7 @@ ghost use Rattle.rcu_live.specs.CpuSeat.{renew_refusal, repin_refusal, unpin_ref
 ghost use Rattle.rcu_live.specs.CpuSeat.{after_enter, after_exit, after_idle, after_look};
 ghost use Rattle.rcu_live.specs.CpuSeat.{after_quiesce, after_quiesce_since, arrive_refusal};
 ghost use Rattle.rcu_live.specs.CpuSeat.{at_first, depart_refusal, enter_refusal, exit_refusal};
-ghost use Rattle.rcu_live.specs.CpuSeat.{quiesce_refusal, wake_refusal};
+ghost use Rattle.rcu_live.specs.CpuSeat.{quiesce_refusal, reported, wake_refusal};
 ghost use Rattle.rcu_live.specs.Numbers.{idle_word, is_past};
 ghost use Rattle.rcu_live.specs.View.{cpu_seat};
 ghost use Rattle.rcu_live.specs.Words.{own_word_index};
@@ -27,9 +27,9 @@ const IDLE_WORD: u64 = 1 << 63;
 
 /// A processor's seat, for one thread.
 ///
-/// After each store of its own word, except in a wake, a pin or an arrival, a call checks once
-/// whether it has to wake the waiters that sleep until then. [`Shared::stored`] says what that
-/// costs.
+/// After each store of its own word, except in a wake, a pin or an arrival, a call looks once
+/// whether it has to wake the waiters that sleep until then. The contract of each call counts its
+/// loads of the number, its stores and its looks; [`Shared::stored`] says what a look costs.
 #[derive(Drop)]
 pub struct CpuSeat<P: Client = NoClient> {
     /// The state of the processor: whether it is online and whether it is idle, the depth of its
@@ -183,14 +183,15 @@ impl<P: Client> CpuSeat<P> {
         ensures table { self.new.table ≡ self.old.table }
         ensures fault { result_err result ≡ quiesce_refusal self.old }
         ensures state { IfOk result (λ number.
-            NotedAt after_quiesce self.old number self.new) }
+            NotedAt (λ s n. reported L.wakes (after_quiesce s n)) self.old number self.new) }
         ensures unchanged { OnErr result (self.new ≡ self.old) }
     {
         self.data.quiesce()?;
         let board = live.board();
         let number = board.load(&mut self.seat);
         self.data.set_noted(Tag::of_first_epoch(number));
-        live.stored(board.store(&mut self.seat, self.data.cpu(), number + 1));
+        let stored = board.store(&mut self.seat, self.data.cpu(), number + 1);
+        live.stored(&mut self.seat, stored);
         Ok(number)
     }
 
@@ -206,7 +207,8 @@ impl<P: Client> CpuSeat<P> {
         ensures table { self.new.table ≡ self.old.table }
         ensures fault { result_err result ≡ quiesce_refusal self.old }
         ensures state { IfOk result (λ number.
-            NotedAt after_quiesce_since self.old number self.new) }
+            NotedAt (λ s n. reported (L.wakes && not (s.view.own_word == n + 1))
+            (after_quiesce_since s n)) self.old number self.new) }
         ensures unchanged { OnErr result (self.new ≡ self.old) }
     {
         let noted = self.data.quiesce()?.tag;
@@ -214,7 +216,8 @@ impl<P: Client> CpuSeat<P> {
         let now = board.load(&mut self.seat);
         if noted.number != now {
             self.data.set_noted(Tag::of_first_epoch(now));
-            live.stored(board.store(&mut self.seat, self.data.cpu(), now + 1));
+            let stored = board.store(&mut self.seat, self.data.cpu(), now + 1);
+            live.stored(&mut self.seat, stored);
         }
         Ok(now)
     }
@@ -231,7 +234,8 @@ impl<P: Client> CpuSeat<P> {
         requires { self.old.table ≡ (L.object live.now).table }
         ensures table { self.new.table ≡ self.old.table }
         ensures fault { result_err result ≡ renew_refusal self.old }
-        ensures state { IfOk result (λ number. RenewedAt P.closed self.old number self.new) }
+        ensures state { IfOk result (λ number.
+            RenewedAt L.wakes P.closed self.old number self.new) }
         ensures unchanged { OnErr result (self.new ≡ self.old) }
     {
         if self.depth() == 1 {
@@ -251,7 +255,7 @@ impl<P: Client> CpuSeat<P> {
         requires outermost { self.old.depth ≡ 1 }
         ensures open { renew_refusal self.old ≡ None }
         ensures pinned { repin_refusal self.old ≡ None }
-        ensures state { RenewedAt P.closed self.old result self.new }
+        ensures state { RenewedAt L.wakes P.closed self.old result self.new }
     {
         let CpuSeat { data, opened, seat } = self;
         let last = data.noted();
@@ -259,7 +263,8 @@ impl<P: Client> CpuSeat<P> {
         let number = board.close_section(seat);
         if last.number != number {
             data.set_noted(Tag::of_first_epoch(number));
-            live.stored(board.store(seat, data.cpu(), number + 1));
+            let stored = board.store(seat, data.cpu(), number + 1);
+            live.stored(seat, stored);
         }
         let began = board.open_section(seat);
         *opened = Some(began);
@@ -324,7 +329,8 @@ impl<P: Client> CpuSeat<P> {
         ensures fault { result_err result ≡ unpin_refusal self.old }
         ensures depth { IfOk result (λ depth. depth ≡ self.new.depth) }
         ensures state { OnOk result
-            (AcceptedAt (after_unpin P.closed) self.old self.new.view.seen self.new) }
+            (AcceptedAt (λ s n. reported (L.wakes && (s.depth == 1)) (after_unpin P.closed s n))
+            self.old self.new.view.seen self.new) }
         ensures unchanged { OnErr result (self.new ≡ self.old) }
     {
         let CpuSeat { data, opened, seat } = self;
@@ -338,7 +344,8 @@ impl<P: Client> CpuSeat<P> {
             let board = live.board();
             board.close_section(seat);
             *opened = None;
-            live.stored(board.store(seat, data.cpu(), IDLE_WORD));
+            let stored = board.store(seat, data.cpu(), IDLE_WORD);
+            live.stored(seat, stored);
         }
         Ok(depth)
     }
@@ -353,7 +360,8 @@ impl<P: Client> CpuSeat<P> {
         requires { self.old.table ≡ (L.object live.now).table }
         ensures table { self.new.table ≡ self.old.table }
         ensures fault { result_err result ≡ repin_refusal self.old }
-        ensures state { IfOk result (λ number. RenewedAt P.closed self.old number self.new) }
+        ensures state { IfOk result (λ number.
+            RenewedAt L.wakes P.closed self.old number self.new) }
         ensures unchanged { OnErr result (self.new ≡ self.old) }
     {
         if self.depth() != 1 {
@@ -371,12 +379,13 @@ impl<P: Client> CpuSeat<P> {
         requires { self.old.table ≡ (L.object live.now).table }
         ensures table { self.new.table ≡ self.old.table }
         ensures fault { result_err result ≡ quiesce_refusal self.old }
-        ensures state { OnOk result (self.new ≡ after_idle self.old) }
+        ensures state { OnOk result (self.new ≡ reported L.wakes (after_idle self.old)) }
         ensures unchanged { OnErr result (self.new ≡ self.old) }
     {
         self.data.idle()?;
         let board = live.board();
-        live.stored(board.store(&mut self.seat, self.data.cpu(), IDLE_WORD));
+        let stored = board.store(&mut self.seat, self.data.cpu(), IDLE_WORD);
+        live.stored(&mut self.seat, stored);
         Ok(())
     }
 
@@ -431,7 +440,7 @@ impl<P: Client> CpuSeat<P> {
         ensures table { self.new.table ≡ self.old.table }
         ensures fault { result_err result ≡ depart_refusal self.old }
         ensures again { IfOk result (λ again. again ≡ (self.old.view.own_word == 0)) }
-        ensures state { OnOk result (self.new ≡ after_depart self.old) }
+        ensures state { OnOk result (self.new ≡ reported L.wakes (after_depart self.old)) }
         ensures unchanged { OnErr result (self.new ≡ self.old) }
     {
         if self.data.cpu() == 0 {
@@ -444,7 +453,7 @@ impl<P: Client> CpuSeat<P> {
         let board = live.board();
         let stored = board.store(&mut self.seat, self.data.cpu(), 0);
         board.clear_online_bit(&mut self.seat, self.data.cpu());
-        live.stored(stored);
+        live.stored(&mut self.seat, stored);
         Ok(again)
     }
 

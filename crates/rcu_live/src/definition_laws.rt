@@ -1,6 +1,6 @@
 //! Laws that pin the definitions of runs of the engine, on small runs, and those of accepted calls.
-ghost use Rattle.std.specs.Prelude.{◌≡◌, ◌⊎◌, ◌+◌, ◌%◌, ◌<◌, ◌≤◌, ◌^◌, [], ◌∷◌, ℕ, All, List};
-ghost use Rattle.std.specs.Prelude.{None, Some, ◌++◌, false, length, true};
+ghost use Rattle.std.specs.Prelude.{◌≡◌, ◌⊎◌, ◌+◌, ◌%◌, ◌<◌, ◌≤◌, ◌^◌, [], ◌∷◌, ℕ, All, Bool};
+ghost use Rattle.std.specs.Prelude.{List, None, Some, ◌++◌, false, length, true};
 ghost use Rattle.atomic_table.specs.Seated.{TableId};
 ghost use Rattle.atomic_table.specs.Table.{opening};
 ghost use Rattle.rcu_seq.specs.Numbers.{Number, snapshot};
@@ -13,9 +13,9 @@ ghost use Rattle.rcu_cblist.specs.declared.items.Queued.{Queued};
 ghost use Rattle.rcu_barrier.specs.Lists.{barrier_test_answer, list_of};
 ghost use Rattle.rcu_barrier.specs.Runs.{copies, times_listed};
 ghost use Rattle.rcu_barrier.specs.declared.lists.BarrierState.{BarrierState};
-ghost use Rattle.rcu_live.specs.Asking.{IsAwake, stores_of};
+ghost use Rattle.rcu_live.specs.Asking.{IsAwake};
 ghost use Rattle.rcu_live.specs.CpuSeat.{AcceptedAt, NotedAt, RenewedAt, Seated, after_look};
-ghost use Rattle.rcu_live.specs.CpuSeat.{after_quiesce, after_renew};
+ghost use Rattle.rcu_live.specs.CpuSeat.{after_quiesce, after_renew, reported};
 ghost use Rattle.rcu_live.specs.Engine.{HasWaited, Locked, loaded_word};
 ghost use Rattle.rcu_live.specs.EngineLists.{AreDue, is_leave_fault, is_queue_fault};
 ghost use Rattle.rcu_live.specs.Numbers.{idle_word, is_number_word, may_open};
@@ -25,8 +25,8 @@ ghost use Rattle.rcu_live.specs.Runs.{Call, IsNew, IsRun, Makes, MayCall, after_
 ghost use Rattle.rcu_live.specs.Runs.{engine_after, queued_as, queued_before_barrier};
 ghost use Rattle.rcu_live.specs.Runs.{times_handed_out, turns_since};
 ghost use Rattle.rcu_live.specs.Several.{HoldsBoth, IsLens, IsPart, IsWordOf, of_both, whole};
-ghost use Rattle.rcu_live.specs.View.{absent_from, after_own_word_load, after_store, asking_of};
-ghost use Rattle.rcu_live.specs.View.{cpu_seat, engine_seat, look_of};
+ghost use Rattle.rcu_live.specs.View.{absent_from, after_own_word_load, after_store, after_waking};
+ghost use Rattle.rcu_live.specs.View.{asking_of, cpu_seat, engine_seat};
 ghost use Rattle.rcu_live.specs.declared.view.View.{View};
 ghost use Rattle.rcu_live.specs.Waits.{AreRounds, HasPassed, HasStayedInside};
 ghost use Rattle.rcu_live.specs.Watcher.{Watching};
@@ -204,19 +204,27 @@ pub fn a_noted_number_was_seen<P: Client>()
 /// A renewal passes a quiescent state at a number that is no less than the seat saw before, and at
 /// most 2^62: the own word is one more than it. Then a section begins, at a number that is no less.
 pub fn a_renewal_is_a_quiescent_state<P: Client>()
-    ensures earlier { (closed : P.Known → P.Known) (s t : Seated P.Known) (n : Number) →
-        RenewedAt closed s n t → s.view.seen ≤ n }
-    ensures later { (closed : P.Known → P.Known) (s t : Seated P.Known) (n : Number) →
-        RenewedAt closed s n t → n ≤ t.view.seen }
-    ensures bounded { (closed : P.Known → P.Known) (s t : Seated P.Known) (n : Number) →
-        RenewedAt closed s n t → n ≤ 2 ^ 62 }
-    ensures word { (closed : P.Known → P.Known) (s t : Seated P.Known) (n : Number) →
-        RenewedAt closed s n t → t.view.own_word ≡ n + 1 }
-    ensures section { (closed : P.Known → P.Known) (s t : Seated P.Known) (n : Number) →
-        RenewedAt closed s n t → t.view.section ≡ Some t.view.seen }
+    ensures earlier { (wakes : Bool) (closed : P.Known → P.Known) (s t : Seated P.Known)
+        (n : Number) → RenewedAt wakes closed s n t → s.view.seen ≤ n }
+    ensures later { (wakes : Bool) (closed : P.Known → P.Known) (s t : Seated P.Known)
+        (n : Number) → RenewedAt wakes closed s n t → n ≤ t.view.seen }
+    ensures bounded { (wakes : Bool) (closed : P.Known → P.Known) (s t : Seated P.Known)
+        (n : Number) → RenewedAt wakes closed s n t → n ≤ 2 ^ 62 }
+    ensures word { (wakes : Bool) (closed : P.Known → P.Known) (s t : Seated P.Known)
+        (n : Number) → RenewedAt wakes closed s n t → t.view.own_word ≡ n + 1 }
+    ensures section { (wakes : Bool) (closed : P.Known → P.Known) (s t : Seated P.Known)
+        (n : Number) → RenewedAt wakes closed s n t → t.view.section ≡ Some t.view.seen }
     ensures renewed { (closed : P.Known → P.Known) (s : Seated P.Known) (n m : Number) →
         s.view.seen ≤ n → n ≤ m → n ≤ 2 ^ 62 →
-        RenewedAt closed s n (after_renew closed s n m) }
+        RenewedAt false closed s n (after_renew closed s n m) }
+{}
+
+/// A report by a `Live` looks once whether it has to wake waiters, and answers them. A report by
+/// the words alone does not look.
+pub fn a_report_looks_once<P: Client>()
+    ensures looks { (s : Seated P.Known) → (reported true s).view.looks ≡ s.view.looks + 1 }
+    ensures answers { (s : Seated P.Known) → (reported true s).view.answered ≡ true }
+    ensures alone { (s : Seated P.Known) → reported false s ≡ s }
 {}
 
 /// A wait has passed a full grace period: the number has reached the snapshot of the number before
@@ -363,36 +371,28 @@ pub fn absent_processors_have_no_bit()
         → has_bit mask (cpu % 64 + absent_from mask cpu cpus) ≡ true }
 {}
 
-/// A moment fulfils the rule of askings if a seat stored after an asking, and a look after that
-/// store found the processor asked. It does not if such a look found none asked, if a processor is
-/// asked that no asking named, or if a look came after a store that was not made.
+/// A moment fulfils the rule of askings if a processor's seat has stored after an asking and not
+/// looked yet, and if it has looked and taken the asking back. It does not if the seat has looked
+/// and the asking is still in force, or if a processor is asked that no asking named.
 pub fn no_moment_has_slept_through_a_report()
-    ensures found { IsAwake {C = Unit {0}} (record {
+    ensures stored { IsAwake {C = Unit {0}} (record {
       words = 0 ∷ 2 ∷ [];
       homes = [];
-      views =
-          after_store (cpu_seat 0 1 tt) 5 ∷ asking_of 1 0 0 tt ∷ look_of 1 1 2 0 tt ∷ [];
+      views = after_store (cpu_seat 0 1 tt) 5 ∷ asking_of 1 0 0 tt ∷ [];
+    }) }
+    ensures answered { IsAwake {C = Unit {0}} (record {
+      words = 0 ∷ 0 ∷ [];
+      homes = [];
+      views = after_waking true (after_store (cpu_seat 0 1 tt) 5) ∷ asking_of 1 0 0 tt ∷ [];
     }) }
     ensures slept_through { IsAwake {C = Unit {0}} (record {
       words = 0 ∷ 2 ∷ [];
       homes = [];
-      views =
-          after_store (cpu_seat 0 1 tt) 5 ∷ asking_of 1 0 0 tt ∷ look_of 1 1 0 0 tt ∷ [];
+      views = after_waking true (after_store (cpu_seat 0 1 tt) 5) ∷ asking_of 1 0 0 tt ∷ [];
     }) → ⊥ }
     ensures from_nowhere { IsAwake {C = Unit {0}} (record {
       words = 0 ∷ 3 ∷ [];
       homes = [];
-      views =
-          cpu_seat 0 1 tt ∷ asking_of 1 0 0 tt ∷ [];
+      views = cpu_seat 0 1 tt ∷ asking_of 1 0 0 tt ∷ [];
     }) → ⊥ }
-    ensures too_late { IsAwake {C = Unit {0}} (record {
-      words = 0 ∷ 0 ∷ [];
-      homes = [];
-      views =
-          cpu_seat 0 1 tt ∷ look_of 1 1 0 0 tt ∷ [];
-    }) → ⊥ }
-    ensures own { stores_of {C = Unit {0}} 1 (after_store (cpu_seat 0 1 tt) 5
-        ∷ asking_of 1 7 0 tt ∷ []) ≡ 1 }
-    ensures other { stores_of {C = Unit {0}} 0 (after_store (cpu_seat 0 1 tt) 5
-        ∷ asking_of 0 7 0 tt ∷ []) ≡ 0 }
 {}

@@ -1,6 +1,6 @@
 //! Laws of meetings and cookies, of the rule of sections and cookies, of waits that sleep, and of
 //! every run of the engine, whichever threads make its calls.
-ghost use Rattle.std.specs.Prelude.{◌≡◌, ◌≢◌, ◌⊎◌, ◌<◌, ◌≤◌, ◌+◌, ◌∷◌, ℕ, List, Some, slice_get};
+ghost use Rattle.std.specs.Prelude.{◌≡◌, ◌≢◌, ◌<◌, ◌≤◌, ◌+◌, ◌∷◌, ℕ, List, Some, slice_get};
 ghost use Rattle.std.specs.Prelude.{slice_index, true, false};
 ghost use mathlib.Core.Option.{some};
 ghost use lib.ListN.{get_elem?};
@@ -23,7 +23,7 @@ ghost use Rattle.rcu_live.specs.Runs.{queued_before_barrier, times_handed_out, t
 ghost use Rattle.rcu_live.specs.View.{IsOfEngine};
 ghost use Rattle.rcu_live.specs.declared.meeting.Met.{Met};
 ghost use Rattle.rcu_live.specs.Words.{own_word_index};
-ghost use Rattle.rcu_live.specs.declared.view.Role.TheVariants.{Cpu, Looker};
+ghost use Rattle.rcu_live.specs.declared.view.Role.TheVariants.{Cpu};
 ghost use Rattle.rcu_live.specs.declared.view.View.{View};
 
 use crate::client::Client;
@@ -124,19 +124,17 @@ pub fn no_callback_runs_early<T: Drop, P: Client>()
 
 /// No quiescent state is slept through. Take the processor that was asked last to wake the sleeping
 /// thread. Its own word is always the one that its seat stored last, so the collection after the
-/// asking finds every store before the asking. If the seat has stored since, and looked after its
-/// latest store at which processor is asked, as each report does, that look found it asked, or the
-/// asking was taken back. A thread that finds its processor asked, or takes an asking back, wakes
-/// all.
+/// asking finds every store before the asking. If the seat has stored since, and has answered after
+/// its latest store, as after each report by a `Live`, no processor is asked any more: the asking
+/// was taken back. A thread that takes an asking back wakes all.
 pub fn no_quiescent_state_is_slept_through<P: Client>()
     ensures before { (plan : P.Plan) (cpus : ℕ) (s : State (Unit {0}) (View P.Known)) (k : ℕ)
         (seat : View P.Known) → IsMoment (P.holds plan) cpus s →
         get_elem? s.views k ≡ some seat → seat.role ≡ Cpu →
         slice_index s.words (own_word_index seat.cpu) ≡ seat.own_word }
-    ensures behind { (plan : P.Plan) (cpus : ℕ) (s : State (Unit {0}) (View P.Known)) (i j k : ℕ)
-        (asking look seat : View P.Known) → IsMoment (P.holds plan) cpus s →
-        IsLastAsking s.views i asking → get_elem? s.views j ≡ some look → look.role ≡ Looker →
-        get_elem? s.views k ≡ some seat → seat.role ≡ Cpu → asking.cpu ≡ seat.cpu →
-        look.cpu ≡ seat.cpu → asking.stores ≢ seat.stores → look.stores ≡ seat.stores →
-        (asked_at s ≡ 0) ⊎ (look.own_word ≡ seat.cpu + 1) }
+    ensures behind { (plan : P.Plan) (cpus : ℕ) (s : State (Unit {0}) (View P.Known)) (i k : ℕ)
+        (asking seat : View P.Known) → IsMoment (P.holds plan) cpus s →
+        IsLastAsking s.views i asking → get_elem? s.views k ≡ some seat → seat.role ≡ Cpu →
+        asking.cpu ≡ seat.cpu → asking.stores ≢ seat.stores → seat.answered ≡ true →
+        asked_at s ≡ 0 }
 {}

@@ -1,5 +1,5 @@
 //! The shared object.
-ghost use Rattle.std.specs.Prelude.{◌≡◌, ℕ, IfSome, None, Some};
+ghost use Rattle.std.specs.Prelude.{◌≡◌, ℕ, IfSome, None, Some, true};
 ghost use Rattle.std.specs.Arc.{arc_value};
 ghost use Rattle.rcu_live.specs.CpuSeat.{AcceptedAt, after_look};
 ghost use Rattle.rcu_live.specs.Met.{MeetsSection, meet_answer};
@@ -7,7 +7,7 @@ ghost use Rattle.rcu_live.specs.Numbers.{idle_word};
 ghost use Rattle.rcu_live.specs.Opening.{engine_at_first};
 ghost use Rattle.rcu_live.specs.Watcher.{WatchedAt};
 
-use crate::board::{Board, Stored};
+use crate::board::{Board, Stored, TableSeat};
 use crate::client::{Client, NoClient};
 use crate::cpu_seat::CpuSeat;
 use crate::engine::Engine;
@@ -92,12 +92,14 @@ impl<const LEAF: u32, const FAN: u32, T: Drop, P: Client> Live<LEAF, FAN, T, P> 
 impl<const LEAF: u32, const FAN: u32, T: Drop, P: Client> Shared<P> for Live<LEAF, FAN, T, P> {
     ghost object = { λ live. live };
 
+    ghost wakes = { true };
+
     fn board(&self) -> &Board<P> {
         &self.board
     }
 
     #[inline]
-    fn stored(&self, stored: Stored) {
-        stored.wakes(&self.board, &self.sleepers);
+    fn stored(&self, seat: &mut TableSeat<P>, stored: Stored) {
+        stored.wakes(&self.board, seat, &self.sleepers);
     }
 }

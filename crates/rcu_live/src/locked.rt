@@ -4,7 +4,7 @@ ghost use Rattle.std.specs.Prelude.{◌≡◌, Err, IfErr, None, OnErr, OnOk, So
 ghost use Rattle.std.specs.Result.{result_err};
 ghost use Rattle.rcu_seq.specs.declared.fault.Fault.{Fault};
 ghost use Rattle.rcu_live.specs.CpuSeat.{NotedAt, after_depart, after_quiesce, arrive_refusal};
-ghost use Rattle.rcu_live.specs.CpuSeat.{depart_refusal};
+ghost use Rattle.rcu_live.specs.CpuSeat.{depart_refusal, reported};
 ghost use Rattle.rcu_live.specs.EngineLists.{is_leave_fault};
 
 use crate::client::Client;
@@ -81,7 +81,8 @@ impl<const LEAF: u32, const FAN: u32, T: Drop, P: Client> Live<LEAF, FAN, T, P> 
             result ≡ Err fault }
         ensures unchanged { (fault : Fault) → depart_refusal seat.old ≡ Some fault →
             seat.new ≡ seat.old }
-        ensures stored { depart_refusal seat.old ≡ None → seat.new ≡ after_depart seat.old }
+        ensures stored { depart_refusal seat.old ≡ None →
+            seat.new ≡ reported true (after_depart seat.old) }
         ensures leave_fault { IfErr result (λ fault. depart_refusal seat.old ≡ None →
             is_leave_fault fault ≡ true) }
         ensures again { IfErr result (λ fault. depart_refusal seat.old ≡ None →

@@ -133,23 +133,24 @@ impl<S, C> Play<S, View<C>> for Ask {
     ghost then = { λ step _ _ now. (now.0.role ≡ Asker) × (step.first ≡ now.0.cpu + 1) };
 }
 
-/// Look at which processor is asked: a load, which makes the seat of that look.
+/// Look of a processor's seat at which processor is asked.
 pub struct LookAtAsked;
 
 impl<S, C> Play<S, View<C>> for LookAtAsked {
-    ghost use Rattle.rcu_live.specs.declared.view.Role.TheVariants.{Looker};
+    ghost use Rattle.std.specs.Prelude.{◌+◌, ◌==◌};
+    ghost use Rattle.rcu_live.specs.View.{after_asked_load};
 
-    ghost then = { λ _ _ n now. (now.0.role ≡ Looker) × (now.0.own_word ≡ n) };
+    ghost then = { λ _ me n now.
+        (now.0 ≡ after_asked_load me.0 (n == me.0.cpu + 1)) × (now.1 ≡ me.1) };
 }
 
-/// Taking back: no processor is asked any more. It is an exchange, which makes a seat that knows
-/// nothing.
+/// Taking back, by the seat of the asked processor: no processor is asked any more.
 pub struct TakeBack;
 
 impl<S, C> Play<S, View<C>> for TakeBack {
-    ghost use Rattle.rcu_live.specs.declared.view.Role.TheVariants.{Watcher};
+    ghost use Rattle.rcu_live.specs.View.{after_take_back};
 
-    ghost then = { λ _ _ _ now. now.0.role ≡ Watcher };
+    ghost then = { λ _ me _ now. (now.0 ≡ after_take_back me.0) × (now.1 ≡ me.1) };
 }
 
 /// A client's step on one of its words.

@@ -1,8 +1,11 @@
 //! How a wait sleeps until a processor reports. `bindings/model/waits.py` reads the steps, and
 //! explores all of their interleavings.
-ghost use Rattle.std.specs.Prelude.{◌≡◌};
+ghost use Rattle.std.specs.Prelude.{◌≡◌, false, true};
+ghost use Rattle.rcu_live.specs.TableSeat.{Stepped};
+ghost use Rattle.rcu_live.specs.View.{after_take_back, after_waking};
+ghost use Rattle.rcu_live.specs.declared.view.Role.TheVariants.{Cpu};
 
-use crate::board::Board;
+use crate::board::{Board, TableSeat};
 use crate::client::Client;
 use crate::wake_words::{Asked, NotHeard, WakeCount};
 use std::sync::Wait;
@@ -46,18 +49,28 @@ impl Sleepers {
         self.wakes.sleep(rt, unheard);
     }
 
-    /// Wakes all if this processor is asked. Costs a load if it is not.
+    /// Looks once whether the seat's processor is asked, and if it is, takes the asking back and
+    /// wakes all.
     #[inline]
-    pub(crate) fn wake_for<P: Client>(&self, board: &Board<P>, cpu: u32) {
-        if board.is_asked(cpu) {
-            self.answer(board);
+    pub(crate) fn wake_for<P: Client>(&self, board: &Board<P>, seat: &mut TableSeat<P>, cpu: u32)
+        requires table { seat.old.table_id ≡ board.now.table }
+        requires role { seat.old.me.0.role ≡ Cpu }
+        requires own { seat.old.me.0.cpu ≡ cpu }
+        ensures { Stepped (λ old new. new ≡ after_waking true old) seat.old seat.new }
+    {
+        if board.is_asked(seat, cpu) {
+            self.answer(board, seat);
         }
     }
 
     /// Takes the asking back, and wakes all.
     #[cold]
-    fn answer<P: Client>(&self, board: &Board<P>) {
-        let taken_back = board.take_back();
+    fn answer<P: Client>(&self, board: &Board<P>, seat: &mut TableSeat<P>)
+        requires table { seat.old.table_id ≡ board.now.table }
+        requires unanswered { seat.old.me.0.answered ≡ false }
+        ensures { Stepped (λ old new. new ≡ after_take_back old) seat.old seat.new }
+    {
+        let taken_back = board.take_back(seat);
         self.wakes.wake_all(taken_back);
     }
 }

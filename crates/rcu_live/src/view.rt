@@ -8,26 +8,28 @@ pub enum Role {
     Engine,
     /// An asking: that step makes the seat, which takes no other step.
     Asker,
-    /// A look at which processor is asked: likewise.
-    Looker,
 }
 
 /// The view of a seat: what it has seen. It exists only in proofs: no value of it is made.
 pub struct View<C> {
     pub role: Role,
-    /// For a processor's seat, its processor; for the engine's, the first processor without a seat.
-    /// For an asking, and for a look at which processor is asked, the processor that was asked, or
-    /// that looked.
+    /// For a processor's seat, its processor; for the engine's, the first processor without a seat;
+    /// for an asking, the processor that was asked.
     pub cpu: u32,
     /// The greatest number seen; for the engine's seat, the number.
     pub seen: u64,
     /// How many loads the seat made. A load of an online mask counts once for each own word that it
     /// shows.
     pub loads: u64,
-    /// How many times the seat stored its processor's own word. For an asking, and for a look at
-    /// which processor is asked, how many times that had happened by then.
+    /// How many times the seat stored its processor's own word. For an asking, how many times that
+    /// had happened by then.
     pub stores: u64,
-    /// The processor's own word. For a look at which processor is asked, the word that it found.
+    /// How many times the seat loaded which processor is asked to wake sleeping waiters.
+    pub looks: u64,
+    /// Since its latest store of the own word, the seat loaded which processor is asked, and either
+    /// found another one, or none, or took the asking back.
+    pub answered: bool,
+    /// The processor's own word.
     pub own_word: u64,
     /// The number at which the open section began.
     pub section: Option<u64>,

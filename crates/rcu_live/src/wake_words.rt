@@ -3,11 +3,14 @@
 //! Each step is sequentially consistent, and so is each store of an own word. So either the look
 //! after that store finds which processor is asked, or the collection after the asking finds the
 //! store.
-ghost use Rattle.std.specs.Prelude.{◌≡◌, ◌≢◌, ◌<◌, IfSome, None};
+ghost use Rattle.std.specs.Prelude.{◌≡◌, ◌≢◌, ◌<◌, IfSome, None, false};
 ghost use Rattle.rcu_live.specs.Engine.{after_collect, collect_answer, latest_word};
+ghost use Rattle.rcu_live.specs.TableSeat.{Stepped};
+ghost use Rattle.rcu_live.specs.View.{after_asked_load, after_take_back};
 ghost use Rattle.rcu_live.specs.declared.grace_periods.Collected.TheVariants.{NotYet};
+ghost use Rattle.rcu_live.specs.declared.view.Role.TheVariants.{Cpu};
 
-use crate::board::Board;
+use crate::board::{Board, TableSeat};
 use crate::client::Client;
 use crate::engine::Engine;
 use crate::grace_periods::Collected;
@@ -126,16 +129,26 @@ impl<P: Client> Board<P> {
         (Asked { cpu, counted }, other)
     }
 
-    /// Returns whether this processor is asked: one load.
+    /// Returns whether the seat's processor is asked: one load.
     #[inline]
-    pub(crate) fn is_asked(&self, cpu: u32) -> bool {
-        let (asked, _look) = self.table.shared.load_new_seat::<LookAtAsked>(ASKED);
+    pub(crate) fn is_asked(&self, seat: &mut TableSeat<P>, cpu: u32) -> bool
+        requires table { seat.old.table_id ≡ self.now.table }
+        requires role { seat.old.me.0.role ≡ Cpu }
+        requires own { seat.old.me.0.cpu ≡ cpu }
+        ensures { Stepped (λ old new. new ≡ after_asked_load old result) seat.old seat.new }
+    {
+        let asked = self.table.shared.load::<LookAtAsked>(seat, ASKED);
         asked == u64::from(cpu) + 1
     }
 
-    /// Takes the asking back: no processor is asked any more.
-    pub(crate) fn take_back(&self) -> TakenBack {
-        let (asked, _seat) = self.table.shared.swap_new_seat::<TakeBack>(ASKED, 0);
+    /// Takes the asking back, after a look that found the seat's processor asked: no processor is
+    /// asked any more. One exchange.
+    pub(crate) fn take_back(&self, seat: &mut TableSeat<P>) -> TakenBack
+        requires table { seat.old.table_id ≡ self.now.table }
+        requires unanswered { seat.old.me.0.answered ≡ false }
+        ensures { Stepped (λ old new. new ≡ after_take_back old) seat.old seat.new }
+    {
+        let asked = self.table.shared.swap::<TakeBack>(seat, ASKED, 0);
         TakenBack { asked }
     }
 }

@@ -1,6 +1,6 @@
 //! The engine of the workers, and its answers.
 ghost use Rattle.std.specs.Prelude.{◌≡◌, ℕ, IfErr, IfOk, OnErr, OnOk, true};
-ghost use Rattle.rcu_live.specs.CpuSeat.{after_depart, after_quiesce};
+ghost use Rattle.rcu_live.specs.CpuSeat.{after_depart, after_quiesce, reported};
 ghost use Rattle.rcu_live.specs.EngineLists.{AreDue, is_run_fault};
 ghost use Rattle.rcu_stress.specs.Engine.{Collecting, Departing, LockedAnswer, Queueing, Running};
 ghost use Rattle.rcu_stress.specs.Engine.{Tending, Turning};
@@ -63,7 +63,7 @@ pub(crate) trait LockedCalls: Shared<NoClient> + Drop {
         requires { seat.old.table ≡ (Self.object self.now).table }
         ensures table { seat.new.table ≡ seat.old.table }
         ensures cpu { seat.new.cpu ≡ seat.old.cpu }
-        ensures state { OnOk result (seat.new ≡ after_depart seat.old) }
+        ensures state { OnOk result (seat.new ≡ reported Self.wakes (after_depart seat.old)) }
         ensures told { IfOk result (λ moved.
             answers seat.old.view.stores (Departing moved)) };
 }

@@ -3,7 +3,7 @@ ghost use Rattle.std.specs.Prelude.{◌≡◌, ◌+◌, ◌%◌, ◌<◌, ◌≤
 ghost use Rattle.std.specs.Prelude.{IsSomeAnd, OnErr, OnOk, false, length, true};
 ghost use Rattle.rand_pcg.specs.Pcg.{pcg32};
 ghost use Rattle.rcu_seq.specs.Tags.{is_done_first};
-ghost use Rattle.rcu_live.specs.CpuSeat.{after_depart, after_idle, after_quiesce};
+ghost use Rattle.rcu_live.specs.CpuSeat.{after_depart, after_idle, after_quiesce, reported};
 ghost use Rattle.rcu_live.specs.EngineLists.{is_run_fault};
 ghost use Rattle.rcu_live.specs.Watcher.{after_watch};
 ghost use Rattle.rcu_stress.specs.Draws.{generator_of};
@@ -385,7 +385,8 @@ impl<'a, E: LockedCalls> Job<'a, E> {
             IsSomeAnd left (λ moved. E.answers self.old.seat.view.stores (Departing moved))) }
         ensures stayed { leaves_by self.old.worker word ≡ false → self.new ≡ self.old }
         ensures returned { OnOk result (leaves_by self.old.worker word ≡ true →
-            self.new.seat ≡ after_quiesce (after_depart self.old.seat) self.new.seat.view.seen) }
+            self.new.seat ≡ after_quiesce (reported E.wakes (after_depart self.old.seat))
+            self.new.seat.view.seen) }
         ensures rest { self.new ≡ record self.old { seat = self.new.seat } }
     {
         if self.worker != 0 && word / 4 % 8 == 0 {
@@ -400,7 +401,8 @@ impl<'a, E: LockedCalls> Job<'a, E> {
     fn sleep_and_wake(&mut self, word: u32) -> Result<(), Fault>
         ensures stayed { sleeps_by word ≡ false → self.new ≡ self.old }
         ensures woken { OnOk result (sleeps_by word ≡ true →
-            self.new.seat ≡ after_quiesce (after_idle self.old.seat) self.new.seat.view.seen) }
+            self.new.seat ≡ after_quiesce (reported E.wakes (after_idle self.old.seat))
+            self.new.seat.view.seen) }
         ensures rest { self.new ≡ record self.old { seat = self.new.seat } }
     {
         if word / 64 % 4 == 0 {

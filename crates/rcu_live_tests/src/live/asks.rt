@@ -1,10 +1,11 @@
 //! Waits that sleep and reports that wake them, a step at a time and on one thread, in each order
 //! that matters. A wake-up that is lost has such a test sleep for good, in every run.
-ghost use Rattle.std.specs.Prelude.{◌≡◌};
+ghost use Rattle.std.specs.Prelude.{◌≡◌, true};
 
 use crate::live::sleeps::Report;
 use crate::live::steps::{Four, of_epoch};
 use crate::live::threads::{Pair, last_seat, make_pair, opened};
+use rcu_live::board::TableSeat;
 use rcu_live::{Board, CpuSeat, NoClient, Shared, Stored};
 use rcu_seq::Cookie;
 use rcu_state::Turned;
@@ -190,13 +191,15 @@ impl<'a, R: Wait> Between<'a, R> {
 impl<'a, R: Wait> Shared<NoClient> for Between<'a, R> {
     ghost object = { λ between. between.live.now };
 
+    ghost wakes = { true };
+
     fn board(&self) -> &Board {
         self.live.words()
     }
 
-    fn stored(&self, stored: Stored) {
+    fn stored(&self, seat: &mut TableSeat<NoClient>, stored: Stored) {
         self.heard.set(self.is_heard());
-        self.live.stored(stored);
+        self.live.stored(seat, stored);
     }
 }
 

@@ -11,5 +11,5 @@ split_seat-requires g c = (
   splits _ _ _ _ _ _
       (hands_part_over _ g.P.Within.lens _ _ _ _ _ (g.met.P.Within.is_part _) _ _ _
       c.seat.invariant.role)
-      (alike _ _ refl refl refl refl) (λ r. absurd (cc)) (λ r. absurd (cc)) refl,
+      (alike _ _ refl refl refl refl) (λ r. absurd (cc)) refl,
 )

@@ -1,4 +1,4 @@
-use Rattle.rcu_live.proofs.SleptThrough.{no_store_is_slept_through}
+use Rattle.std.proofs.Common.{sym, ⊎_elim}
 use Rattle.rcu_live.proofs.laws.no_quiescent_state_is_slept_through.Goals as goal
 
 pub returns-clause-before : goal.returns-clause-before
@@ -7,6 +7,8 @@ returns-clause-before g c =
 
 pub returns-clause-behind : goal.returns-clause-behind
 returns-clause-behind g c =
-    λ plan cpus s i j k asking look seat m last here role there cpu asked looked stored since.
-    no_store_is_slept_through (g.P.Client.holds plan) cpus s m i j k asking look seat last here role
-    there cpu asked looked stored since
+    λ plan cpus s i k asking seat m last there cpu asked since answered.
+    ⊎_elim (λ none. none)
+    (λ stands. absurd (since
+    (m.awake.unreported i k asking seat last there stands cpu (sym asked) answered)))
+    (m.awake.stands i asking last)

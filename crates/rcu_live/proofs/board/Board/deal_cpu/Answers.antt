@@ -11,5 +11,5 @@ split_seat-requires g c = (
   splits (g.P.Client.holds _) _ _ _ _ _
       (deals_cpu (g.P.Client.holds _) _ _ (g.met.P.Client.stable _) _ _ _ c.requires.engine
       (search rules))
-      (alike_dealt _ c.requires.engine) (λ r. absurd (cc)) (λ r. absurd (cc)) refl,
+      (alike_dealt _ c.requires.engine) (λ r. absurd (cc)) refl,
 )

@@ -10,5 +10,5 @@ split_seat-requires g c = (
   search rules,
   splits (g.P.Client.holds _) _ _ _ _ _
       (deals_watcher (g.P.Client.holds _) _ _ (g.met.P.Client.stable _) _ _ _)
-      (alike_itself _) (λ r. absurd (cc)) (λ r. absurd (cc)) refl,
+      (alike_itself _) (λ r. absurd (cc)) refl,
 )

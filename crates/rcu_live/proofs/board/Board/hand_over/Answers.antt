@@ -10,5 +10,5 @@ split_seat-requires g c = (
   search rules,
   splits (g.P.Client.holds _) _ _ _ _ _
       (hands_over (g.P.Client.holds _) _ _ (g.met.P.Client.stable _) _ _ _ c.requires.engine)
-      (alike _ _ refl refl refl refl) (λ r. absurd (cc)) (λ r. absurd (cc)) refl,
+      (alike _ _ refl refl refl refl) (λ r. absurd (cc)) refl,
 )
