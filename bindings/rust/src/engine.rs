@@ -2,13 +2,11 @@
 
 use crate::deferred::Deferred;
 use crate::error::Error;
-use crate::hash_map::HashMap;
 use crate::inner::Inner;
 use crate::map::{Map, MapSizes};
 use crate::reader::Reader;
 use crate::words::{Key, Value, Words};
 use std::fmt;
-use std::hash::{BuildHasher, Hash, RandomState};
 use std::sync::Arc;
 
 /// How many readers an engine has at most, if its opener does not say: it takes some 600 KiB.
@@ -117,50 +115,6 @@ impl Engine {
     ) -> Result<(Engine, Map<K, V>), Error> {
         let engine = Engine::open(readers, Some((sizes, V::Words::COUNT)))?;
         let map = Map::of(&engine.inner);
-        Ok((engine, map))
-    }
-
-    /// An engine as [`Engine::new`], with a map of any keys and values, which its readers read
-    /// without a lock. What it has of them is hashed by keys that are drawn at random.
-    ///
-    /// # Errors
-    /// Those too, and [`Error::BadSizes`].
-    ///
-    /// ```
-    /// use rcu::{Engine, MapSizes};
-    ///
-    /// # fn main() -> Result<(), Box<dyn std::error::Error>> {
-    /// let sizes = MapSizes { buckets: 64, entries: 200, seed: 1 };
-    /// let (engine, colours) = Engine::with_hash_map::<String, Vec<u8>>(sizes)?;
-    /// colours.insert("red".to_string(), vec![255, 0, 0])?;
-    /// let mut reader = engine.reader()?;
-    /// reader.read(|guard| assert_eq!(colours.get(guard, "red").unwrap()[0], 255));
-    /// # Ok(())
-    /// # }
-    /// ```
-    pub fn with_hash_map<K, V>(sizes: MapSizes) -> Result<(Engine, HashMap<K, V>), Error>
-    where
-        K: Eq + Hash + Send + Sync + 'static,
-        V: Send + Sync + 'static,
-    {
-        Engine::with_hash_map_and_hasher(sizes, RandomState::new())
-    }
-
-    /// As [`Engine::with_hash_map`], with the hasher that it is given.
-    ///
-    /// # Errors
-    /// As there.
-    pub fn with_hash_map_and_hasher<K, V, S>(
-        sizes: MapSizes,
-        hasher: S,
-    ) -> Result<(Engine, HashMap<K, V, S>), Error>
-    where
-        K: Eq + Hash + Send + Sync + 'static,
-        V: Send + Sync + 'static,
-        S: BuildHasher,
-    {
-        let engine = Engine::open(READERS, Some((sizes, <[u64; 2]>::COUNT)))?;
-        let map = HashMap::of(&engine.inner, hasher);
         Ok((engine, map))
     }
 

@@ -1,52 +1,54 @@
-//! A map of any keys and values, over the words of an engine's map.
+//! A map of any keys and values that grows, over the engine's deferral.
 //!
-//! The map of words has the hash of a key as its key. Its value says where the pairs of that hash
-//! are: the first one's place, and that of the others, nearly always 0. Both places own a part of
-//! an `Arc`. An update puts other places in, by one store of the engine's map, and defers the drop
-//! of what the old ones own; so a section that found them may read what is there until it ends. The
-//! proofs of the map say that a section finds places that it had; all else here is tested.
+//! The map has one table of places for its pairs (`pairs.rs`), in a slot. A section loads the slot
+//! once, and reads in the table that it finds. An update changes one place, or puts a larger table
+//! with the same pairs into the slot; what it took out is deferred. So this rests on one proved
+//! sentence: a cookie is done only once each section has ended that was open at its taking. A
+//! section that found a pair, or a table, was open when that was deferred. All else here is tested,
+//! and bindings/model/growth.py walks the orders of its loads and stores.
 
-use crate::deferred::Deferred;
-use crate::error::{Full, NotPut};
-use crate::handles::SeatHandle;
-use crate::inner::Inner;
-use crate::pairs::{owned, pairs_at, parts_of, places_of, Others, Pair, Pairs, Places};
+use crate::engine::Engine;
+use crate::line::Line;
+use crate::pairs::{Pair, Pairs, Table, View};
 use crate::reader::Guard;
-use crate::updates::{How, Refused};
+use crate::shared::Shared;
 use std::borrow::Borrow;
 use std::fmt;
 use std::hash::{BuildHasher, Hash, RandomState};
-use std::marker::PhantomData;
 use std::num::NonZeroU64;
 use std::ptr;
-use std::sync::atomic::{AtomicUsize, Ordering::AcqRel, Ordering::Acquire};
-use std::sync::{Arc, Mutex, MutexGuard, PoisonError};
+use std::sync::atomic::{AtomicU64, AtomicUsize, Ordering::Acquire, Ordering::Release};
+use std::sync::{Arc, MutexGuard, PoisonError};
 
-/// The map of an engine, of any keys and values, made by
-/// [`Engine::with_hash_map`](crate::Engine::with_hash_map). Sections read it without a lock, and
-/// borrow what they find; what is replaced or removed is dropped once no section can read it.
+/// A map of any keys and values, which grows with its entries. Sections of one engine read it
+/// without a lock, and borrow what they find. What is replaced or removed is dropped once no section
+/// can read it ([`Engine::defer`] says by whom). An engine may have any number of maps, and each
+/// keeps its engine.
 ///
-/// Updates take a lock of the map while they compare keys, and the engine's for moments. So a key's
-/// `Eq` and `Hash`, and the closures that this map is given, must not update the same map: they
-/// would wait for themselves. An entry that is put in needs free room. If none is free, but some
-/// will be, [`HashMap::insert`], [`HashMap::replace`] and [`HashMap::put`] wait for a grace period,
-/// as [`Map`](crate::Map) says.
+/// A look loads the map's table, goes along a few places of it, and compares keys of the same hash.
+/// Updates take a lock of the map, and wait for no section. So a key's `Eq` and the closures that
+/// this map is given must not update the same map: they would wait for themselves.
+///
+/// The table has 4 to 8 places for 3 entries, of 16 bytes each. An insertion for which it has no
+/// room makes a table that is twice as large: it takes one pass over the old one, in which other
+/// updates wait and readers go on. A table that has less to do stays as it is, until
+/// [`HashMap::shrink_to_fit`] or [`HashMap::clear`].
 ///
 /// ```
-/// use rcu::{Engine, MapSizes};
+/// use rcu::{Engine, HashMap};
 /// use std::thread;
 ///
-/// # fn main() -> Result<(), Box<dyn std::error::Error>> {
-/// let sizes = MapSizes { buckets: 64, entries: 200, seed: 1 };
-/// let (engine, ages) = Engine::with_hash_map::<String, u32>(sizes)?;
-/// ages.insert("Ada".to_string(), 36)?;
+/// # fn main() -> Result<(), rcu::Error> {
+/// let engine = Engine::new()?;
+/// let ages = HashMap::new(&engine);
+/// ages.put("Ada".to_string(), 36);
 /// let mut reader = engine.reader()?;
 /// thread::scope(|scope| {
 ///     scope.spawn(|| {
 ///         let age = reader.read(|guard| ages.get(guard, "Ada").copied());
 ///         assert!(age == Some(36) || age == Some(37));
 ///     });
-///     let old = ages.replace("Ada".to_string(), 37).unwrap();
+///     let old = ages.put("Ada".to_string(), 37);
 ///     assert_eq!(old.map(|pair| *pair.value()), Some(36));
 /// });
 /// # Ok(())
@@ -54,9 +56,9 @@ use std::sync::{Arc, Mutex, MutexGuard, PoisonError};
 /// ```
 ///
 /// ```compile_fail,E0505
-/// # use rcu::{Engine, MapSizes};
-/// # let sizes = MapSizes { buckets: 1, entries: 1, seed: 0 };
-/// let (engine, map) = Engine::with_hash_map::<String, String>(sizes).unwrap();
+/// # use rcu::{Engine, HashMap};
+/// let engine = Engine::new().unwrap();
+/// let map = HashMap::<String, String>::new(&engine);
 /// let reader = engine.reader().unwrap();
 /// let guard = reader.enter();
 /// let found = map.get(&guard, "key");
@@ -65,9 +67,9 @@ use std::sync::{Arc, Mutex, MutexGuard, PoisonError};
 /// ```
 ///
 /// ```compile_fail,E0505
-/// # use rcu::{Engine, MapSizes};
-/// # let sizes = MapSizes { buckets: 1, entries: 1, seed: 0 };
-/// let (engine, map) = Engine::with_hash_map::<String, String>(sizes).unwrap();
+/// # use rcu::{Engine, HashMap};
+/// let engine = Engine::new().unwrap();
+/// let map = HashMap::<String, String>::new(&engine);
 /// let reader = engine.reader().unwrap();
 /// let guard = reader.enter();
 /// let found = map.get(&guard, "key");
@@ -75,12 +77,67 @@ use std::sync::{Arc, Mutex, MutexGuard, PoisonError};
 /// println!("{found:?}"); // it outlives the map
 /// ```
 pub struct HashMap<K, V, S = RandomState> {
-    inner: Arc<Inner>,
+    engine: Engine,
     hasher: S,
-    /// Who updates has it, and alone replaces places.
-    updates: Mutex<()>,
+    /// The table that sections find.
+    table: Shared<Table<K, V>>,
+    updates: Line<Own<K, V>>,
     len: AtomicUsize,
-    owns: PhantomData<Arc<Pair<K, V>>>,
+    /// How many keys ever came.
+    came: AtomicU64,
+}
+
+/// What an updater has under the lock.
+struct Own<K, V> {
+    /// The table of the map.
+    table: Arc<Table<K, V>>,
+    /// How many of its places are used: where a look goes on.
+    used: usize,
+}
+
+/// What an update took out, which is deferred with the lock let go: what the engine does then may
+/// be an update of this map.
+#[must_use]
+struct Out<K, V> {
+    pair: Option<Arc<Pair<K, V>>>,
+    table: Option<Arc<Table<K, V>>>,
+}
+
+/// How the pair was that a key had, and what was taken out.
+type Put<K, V> = (Option<Arc<Pair<K, V>>>, Out<K, V>);
+
+impl<K, V> Own<K, V> {
+    /// The table, as who has the lock reads it.
+    fn view(&self) -> View<'_, K, V> {
+        // SAFETY: this is under the lock of the map.
+        unsafe { self.table.view() }
+    }
+}
+
+impl<K, V> HashMap<K, V>
+where
+    K: Eq + Hash + Send + Sync + 'static,
+    V: Send + Sync + 'static,
+{
+    /// A map for sections of this engine, with no entry: it takes less than a KiB. Its keys are
+    /// hashed with a key that is drawn at random.
+    pub fn new(engine: &Engine) -> HashMap<K, V> {
+        HashMap::with_hasher(engine, RandomState::new())
+    }
+
+    /// As [`HashMap::new`], with room for so many entries at first.
+    ///
+    /// ```
+    /// # fn main() -> Result<(), rcu::Error> {
+    /// let engine = rcu::Engine::new()?;
+    /// let squares = rcu::HashMap::with_capacity(&engine, 1000);
+    /// (0..1000u32).for_each(|root| drop(squares.put(root, root * root))); // it need not grow
+    /// # Ok(())
+    /// # }
+    /// ```
+    pub fn with_capacity(engine: &Engine, capacity: usize) -> HashMap<K, V> {
+        HashMap::with_capacity_and_hasher(engine, capacity, RandomState::new())
+    }
 }
 
 impl<K, V, S> HashMap<K, V, S>
@@ -89,14 +146,25 @@ where
     V: Send + Sync + 'static,
     S: BuildHasher,
 {
-    /// The only user of the engine's map.
-    pub(crate) fn of(inner: &Arc<Inner>, hasher: S) -> HashMap<K, V, S> {
+    /// As [`HashMap::new`], with this hasher.
+    pub fn with_hasher(engine: &Engine, hasher: S) -> HashMap<K, V, S> {
+        HashMap::with_capacity_and_hasher(engine, 0, hasher)
+    }
+
+    /// As [`HashMap::with_capacity`], with this hasher.
+    pub fn with_capacity_and_hasher(
+        engine: &Engine,
+        capacity: usize,
+        hasher: S,
+    ) -> HashMap<K, V, S> {
+        let table = Arc::new(Table::with_room(capacity));
         HashMap {
-            inner: Arc::clone(inner),
+            engine: engine.clone(),
             hasher,
-            updates: Mutex::new(()),
+            table: Shared::of(engine, Arc::clone(&table)),
+            updates: Line::new(Own { table, used: 0 }),
             len: AtomicUsize::new(0),
-            owns: PhantomData,
+            came: AtomicU64::new(0),
         }
     }
 
@@ -104,21 +172,20 @@ where
         NonZeroU64::new(self.hasher.hash_one(key)).unwrap_or(NonZeroU64::MIN)
     }
 
+    /// The table that a section finds, as it may read it.
+    fn view<'a>(&'a self, guard: &'a Guard<'_>) -> View<'a, K, V> {
+        let table = self.table.load(guard);
+        // SAFETY: the section found the table, and is borrowed. It is one of the map's engine.
+        unsafe { table.view() }
+    }
+
     /// The lock of the updates. A thread that panicked under it left the map as it was.
-    fn lock(&self) -> MutexGuard<'_, ()> {
+    fn lock(&self) -> MutexGuard<'_, Own<K, V>> {
         self.updates.lock().unwrap_or_else(PoisonError::into_inner)
     }
 
-    /// The seat of the section.
-    fn seat<'a>(&self, guard: &'a Guard<'_>) -> &'a SeatHandle {
-        assert!(
-            self.inner.id == guard.id(),
-            "the section is of another engine"
-        );
-        guard.seat()
-    }
-
     /// The value of a key, as the section finds it: one that it had at some moment of the section.
+    /// A key that is in the map as long as the section lasts is found, also while the map grows.
     ///
     /// # Panics
     /// If the section is of another engine.
@@ -127,14 +194,9 @@ where
     where
         K: Borrow<Q>,
     {
-        let places = self.seat(guard).map_get(self.hash(key))?;
-        // SAFETY: the section found the places, and the map is borrowed.
-        let found = unsafe { pairs_at::<K, V>(places) };
-        if found.first.is_of(key) {
-            return Some(&found.first.value);
-        }
-        let other = found.others.iter().find(|it| it.is_of(key));
-        other.map(|it| &it.value)
+        let hash = self.hash(key);
+        let found = self.view(guard).find(hash, |it| it.borrow() == key);
+        found.map(|(_, pair)| &pair.value)
     }
 
     /// Returns whether the section finds an entry of the key, as [`HashMap::get`].
@@ -149,163 +211,164 @@ where
         self.get(guard, key).is_some()
     }
 
-    /// The entries, in an order that hangs on the hashes, each key once at most. A key that is in
-    /// the map as long as the section lasts is among them.
+    /// The entries, in no order, each key once at most. A key that is in the map as long as the
+    /// section lasts is among them, and none that comes after this call.
     ///
     /// # Panics
     /// If the section is of another engine.
+    ///
+    /// ```
+    /// # fn main() -> Result<(), rcu::Error> {
+    /// let engine = rcu::Engine::new()?;
+    /// let squares = rcu::HashMap::new(&engine);
+    /// (1..=9).for_each(|root| drop(squares.put(root, root * root)));
+    /// let mut reader = engine.reader()?;
+    /// let sum: i32 = reader.read(|guard| squares.iter(guard).map(|(_, square)| square).sum());
+    /// assert_eq!(sum, 285);
+    /// # Ok(())
+    /// # }
+    /// ```
     pub fn iter<'a>(&'a self, guard: &'a Guard<'_>) -> Pairs<'a, K, V> {
-        Pairs::of(self.seat(guard))
+        let came = self.came.load(Acquire);
+        self.view(guard).up_to(came)
     }
 
-    /// The pairs of a hash that are in the map, under the lock of the updates.
-    fn pairs_of(&self, hash: NonZeroU64) -> Option<Others<K, V>> {
-        let places: Places = self.inner.lock().rcu.map_find(hash)?;
-        // SAFETY: only who has the lock of the updates takes places out, and the caller has it.
-        Some(unsafe { parts_of(places) })
+    /// Puts another table with the same pairs in the place of the map's, and returns that one.
+    fn replace_table(&self, own: &mut Own<K, V>, table: Table<K, V>) -> Arc<Table<K, V>> {
+        let table = Arc::new(table);
+        // SAFETY: this is under the lock, and the table is replaced behind it.
+        unsafe { own.table.give_to(&table) };
+        own.table = Arc::clone(&table);
+        own.used = self.len();
+        self.table.exchange(table)
     }
 
-    /// Puts places of these pairs in the place of those of the hash, and returns those: their owner
-    /// defers them, with the lock let go.
-    fn put_pairs(&self, hash: NonZeroU64, pairs: Others<K, V>) -> Result<Option<Places>, Refused> {
-        let places = places_of(pairs);
-        let put = self.inner.put_once(How::Put, hash, places);
-        put.inspect_err(|_| {
-            // SAFETY: they are in no map.
-            drop(unsafe { owned::<K, V>(places) });
-        })
+    /// Makes room for one more pair. Returns the table that had none.
+    fn make_room(&self, own: &mut Own<K, V>) -> Option<Arc<Table<K, V>>> {
+        let is_full = own.used == own.table.room();
+        is_full.then(|| self.replace_table(own, own.table.larger(self.len() + 1)))
     }
 
-    /// Drops what places own once no section can read it. They are in the map no more.
-    fn defer(&self, places: Option<Places>) {
-        let Some(places) = places else { return };
-        // SAFETY: the map had them, and it owned what they own.
-        let owned = unsafe { owned::<K, V>(places) };
-        self.inner.defer(Deferred::Drop(owned.first));
-        if let Some(others) = owned.others {
-            self.inner.defer(Deferred::Drop(others));
-        }
+    /// Puts a pair in whose key is in the map no more than its number says.
+    fn put_new(
+        &self,
+        own: &mut Own<K, V>,
+        hash: NonZeroU64,
+        mut pair: Arc<Pair<K, V>>,
+    ) -> Option<Arc<Table<K, V>>> {
+        let old_table = self.make_room(own);
+        let number = self.came.load(Acquire) + 1;
+        Pair::set_number(&mut pair, number);
+        self.came.store(number, Release);
+        own.used += usize::from(own.table.insert(hash, pair));
+        self.len.store(self.len() + 1, Release);
+        old_table
     }
 
     /// Puts the pair in, if that is wanted where this pair has its key, or none. Returns the pair
     /// that had the key.
-    fn put_once(
+    fn put_under(
         &self,
-        pair: &Arc<Pair<K, V>>,
-        wanted: impl Fn(Option<&Pair<K, V>>) -> bool,
-    ) -> Result<Option<Arc<Pair<K, V>>>, Refused> {
-        let hash = self.hash(&pair.key);
-        let updates = self.lock();
-        let mut pairs = self.pairs_of(hash).unwrap_or_default();
-        let at = pairs.iter().position(|it| it.key == pair.key);
-        let old = at.map(|at| Arc::clone(&pairs[at]));
-        if !wanted(old.as_deref()) {
-            return Ok(old);
+        own: &mut Own<K, V>,
+        (hash, mut pair): (NonZeroU64, Arc<Pair<K, V>>),
+        is_wanted: impl FnOnce(Option<&Pair<K, V>>) -> bool,
+    ) -> Put<K, V> {
+        let view = own.view();
+        let found = view.find(hash, |key| *key == pair.key);
+        let old = found.map(|(at, _)| view.part_at(at));
+        let mut out = Out {
+            pair: None,
+            table: None,
+        };
+        if !is_wanted(old.as_deref()) {
+            return (old, out);
         }
-        match at {
-            Some(at) => pairs[at] = Arc::clone(pair),
-            None => pairs.push(Arc::clone(pair)),
+        match found {
+            Some((at, there)) => {
+                Pair::set_number(&mut pair, there.number);
+                // SAFETY: this is under the lock, and what is replaced is deferred.
+                out.pair = Some(unsafe { own.table.replace(at, pair) });
+            }
+            None => out.table = self.put_new(own, hash, pair),
         }
-        let places = self.put_pairs(hash, pairs)?;
-        if old.is_none() {
-            self.len.fetch_add(1, AcqRel);
-        }
-        drop(updates);
-        self.defer(places);
-        Ok(old)
+        (old, out)
     }
 
-    /// The same, and waits for room.
     fn put_by(
         &self,
-        key: K,
-        value: V,
-        wanted: impl Fn(Option<&Pair<K, V>>) -> bool,
-    ) -> Result<Option<Arc<Pair<K, V>>>, NotPut> {
-        let pair = Pair::new(key, value);
-        loop {
-            match self.put_once(&pair, &wanted) {
-                Ok(old) => return Ok(old),
-                Err(Refused::Full) => return Err(NotPut::Full),
-                Err(Refused::Until(cookie)) => self.inner.wait_until(cookie)?,
-            }
+        pair: Arc<Pair<K, V>>,
+        is_wanted: impl FnOnce(Option<&Pair<K, V>>) -> bool,
+    ) -> Option<Arc<Pair<K, V>>> {
+        let hash = self.hash(&pair.key);
+        let (old, out) = self.put_under(&mut self.lock(), (hash, pair), is_wanted);
+        self.defer(out.pair);
+        self.defer(out.table);
+        old
+    }
+
+    /// Drops it once no section can read it. The lock is let go: what the engine does now and then
+    /// may be an update of this map.
+    fn defer<T: Send + Sync + 'static>(&self, out: Option<Arc<T>>) {
+        if let Some(out) = out {
+            self.engine.defer_drop(out);
         }
     }
 
     /// Puts an entry in if none has its key. Otherwise returns the one that has it: then nothing
-    /// happened.
-    ///
-    /// # Errors
-    /// [`NotPut::Full`] if no entry has the key, and there are as many as the map has room for;
-    /// [`NotPut::InSection`] if it would wait, and the thread has a section open.
-    pub fn insert(&self, key: K, value: V) -> Result<Option<Arc<Pair<K, V>>>, NotPut> {
-        self.put_by(key, value, |old| old.is_none())
+    /// happened. (The maps of std replace it, as [`HashMap::put`] does.)
+    #[must_use = "it replaces no entry: `put` does"]
+    pub fn insert(&self, key: K, value: V) -> Option<Arc<Pair<K, V>>> {
+        self.put_by(Pair::new(key, value), |old| old.is_none())
     }
 
     /// Puts an entry in the place of the one that has its key, and returns that. If none has it,
     /// nothing happens.
-    ///
-    /// # Errors
-    /// [`NotPut::InSection`] as of [`HashMap::insert`]. It is never [`NotPut::Full`].
-    pub fn replace(&self, key: K, value: V) -> Result<Option<Arc<Pair<K, V>>>, NotPut> {
-        self.put_by(key, value, |old| old.is_some())
+    pub fn replace(&self, key: K, value: V) -> Option<Arc<Pair<K, V>>> {
+        self.put_by(Pair::new(key, value), |old| old.is_some())
+    }
+
+    /// Puts an entry in, in the place of the one that has its key, if there is one. Returns that.
+    pub fn put(&self, key: K, value: V) -> Option<Arc<Pair<K, V>>> {
+        self.put_by(Pair::new(key, value), |_| true)
     }
 
     /// Replaces the entry of a key if its value is `current`: that one, and not one that is equal to
     /// it. As long as that is borrowed, no other value has its place. Returns whether it did.
     ///
-    /// # Errors
-    /// As of [`HashMap::replace`].
-    ///
     /// ```
-    /// # use rcu::{Engine, MapSizes};
-    /// # fn main() -> Result<(), Box<dyn std::error::Error>> {
-    /// # let sizes = MapSizes { buckets: 1, entries: 1, seed: 0 };
-    /// let (engine, map) = Engine::with_hash_map::<String, String>(sizes)?;
-    /// map.insert("key".to_string(), "old".to_string())?;
+    /// # fn main() -> Result<(), rcu::Error> {
+    /// let engine = rcu::Engine::new()?;
+    /// let map = rcu::HashMap::new(&engine);
+    /// map.put("key", "old".to_string());
     /// let reader = engine.reader()?;
     /// let guard = reader.enter();
     /// let seen = map.get(&guard, "key").unwrap();
-    /// assert!(map.compare_replace("key".to_string(), seen, format!("not {seen}"))?);
+    /// assert!(map.compare_replace("key", seen, format!("not {seen}")));
     /// assert!(!map.compare_remove("key", seen)); // it has another one by now
     /// assert_eq!(map.get(&guard, "key").unwrap(), "not old");
     /// # Ok(())
     /// # }
     /// ```
-    pub fn compare_replace(&self, key: K, current: &V, value: V) -> Result<bool, NotPut> {
+    pub fn compare_replace(&self, key: K, current: &V, value: V) -> bool {
         let is_current =
             |old: Option<&Pair<K, V>>| old.is_some_and(|it| ptr::eq(&it.value, current));
-        let old = self.put_by(key, value, is_current)?;
-        Ok(is_current(old.as_deref()))
+        is_current(self.put_by(Pair::new(key, value), is_current).as_deref())
     }
 
-    /// Puts an entry in, in the place of the one that has its key, if there is one. Returns that.
-    ///
-    /// # Errors
-    /// As of [`HashMap::insert`].
-    pub fn put(&self, key: K, value: V) -> Result<Option<Arc<Pair<K, V>>>, NotPut> {
-        self.put_by(key, value, |_| true)
-    }
-
-    /// The value of a key, as the section finds it; if it finds none, one is made and put in. It
-    /// waits for nobody. If another thread puts one in meanwhile, that is the one.
-    ///
-    /// # Errors
-    /// [`Full`] if there is no room for an entry, or none yet.
+    /// The value of a key, as the section finds it; if it finds none, one is made and put in. If
+    /// another thread puts one in meanwhile, that is the one.
     ///
     /// # Panics
     /// If the section is of another engine, or the closure panics.
     ///
     /// ```
-    /// # use rcu::{Engine, MapSizes};
-    /// # fn main() -> Result<(), Box<dyn std::error::Error>> {
-    /// # let sizes = MapSizes { buckets: 1, entries: 2, seed: 0 };
-    /// let (engine, lengths) = Engine::with_hash_map::<String, usize>(sizes)?;
+    /// # fn main() -> Result<(), rcu::Error> {
+    /// let engine = rcu::Engine::new()?;
+    /// let lengths = rcu::HashMap::new(&engine);
     /// let mut reader = engine.reader()?;
     /// for _ in 0..2 {
     ///     reader.read(|guard| {
-    ///         let length = lengths.get_or_insert_with(guard, "four".to_string(), || 4);
-    ///         assert_eq!(length, Ok(&4));
+    ///         assert_eq!(*lengths.get_or_insert_with(guard, "four".to_string(), || 4), 4);
     ///     });
     /// }
     /// assert_eq!(lengths.len(), 1);
@@ -317,19 +380,19 @@ where
         guard: &'a Guard<'_>,
         key: K,
         make: impl FnOnce() -> V,
-    ) -> Result<&'a V, Full> {
+    ) -> &'a V {
         if let Some(value) = self.get(guard, &key) {
-            return Ok(value);
+            return value;
         }
         let pair = Pair::new(key, make());
-        let put = self.put_once(&pair, |old| old.is_none());
-        let pair = put.map_err(|_| Full)?.unwrap_or(pair);
-        // SAFETY: it is in the map, or was in the section, and the map is borrowed. The map's part
-        // of it stays until the section ends.
-        Ok(unsafe { &(*Arc::as_ptr(&pair)).value })
+        let new = Arc::as_ptr(&pair);
+        let there = self.put_by(pair, |old| old.is_none());
+        let found = there.map_or(new, |it| Arc::as_ptr(&it));
+        // SAFETY: it is in the map, or was since the section began, and the map is borrowed.
+        unsafe { &(*found).value }
     }
 
-    /// Takes the entry of a key out, and returns it. It waits for nobody.
+    /// Takes the entry of a key out, and returns it.
     pub fn remove<Q: Eq + Hash + ?Sized>(&self, key: &Q) -> Option<Arc<Pair<K, V>>>
     where
         K: Borrow<Q>,
@@ -338,7 +401,7 @@ where
     }
 
     /// Takes the entry of a key out if its value is `current`, as [`HashMap::compare_replace`].
-    /// Returns whether it did. It waits for nobody.
+    /// Returns whether it did.
     pub fn compare_remove<Q: Eq + Hash + ?Sized>(&self, key: &Q, current: &V) -> bool
     where
         K: Borrow<Q>,
@@ -356,70 +419,91 @@ where
         K: Borrow<Q>,
     {
         let hash = self.hash(key);
-        let updates = self.lock();
-        let mut pairs = self.pairs_of(hash)?;
-        let at = pairs.iter().position(|it| it.key.borrow() == key)?;
-        if !is_wanted(&pairs[at]) {
+        let mut own = self.lock();
+        let (at, pair) = own.view().find(hash, |it| it.borrow() == key)?;
+        if !is_wanted(pair) {
             return None;
         }
-        let places = self.take_out(hash, &pairs[at], pairs.len());
-        drop(updates);
-        self.defer(places);
-        Some(pairs.swap_remove(at))
+        let pair = self.take_out(&mut own, at);
+        drop(own);
+        self.defer(Some(Arc::clone(&pair)));
+        Some(pair)
     }
 
-    /// Takes a pair of this hash out, of so many, under the lock of the updates. Returns the places
-    /// of a last one, for their owner to defer.
-    fn take_out(&self, hash: NonZeroU64, pair: &Pair<K, V>, of: usize) -> Option<Places> {
-        self.len.fetch_sub(1, AcqRel);
-        if of == 1 {
-            return self.inner.lock().rcu.map_remove(hash);
-        }
-        // So no node is needed. The next one that is put in of this hash leaves it out.
-        pair.take_out();
-        None
+    /// Takes the pair of a place out, which its caller defers.
+    fn take_out(&self, own: &mut Own<K, V>, at: usize) -> Arc<Pair<K, V>> {
+        // SAFETY: this is under the lock, and each caller defers it.
+        let (pair, unused) = unsafe { own.table.take_out(at) };
+        own.used -= unused;
+        self.len.store(self.len() - 1, Release);
+        pair
     }
 
-    /// Takes each entry out for which the closure returns false. An entry that is put in meanwhile
-    /// may be among those that it is asked of. It waits for nobody.
+    /// Takes each entry out for which the closure returns false. Other updates wait meanwhile.
     ///
     /// # Panics
-    /// Where the closure does: then the entries stay of which it was not asked.
+    /// If the closure panics. Then each entry stays.
     ///
     /// ```
-    /// # use rcu::{Engine, MapSizes};
-    /// # fn main() -> Result<(), Box<dyn std::error::Error>> {
-    /// # let sizes = MapSizes { buckets: 4, entries: 9, seed: 0 };
-    /// let (_, squares) = Engine::with_hash_map::<String, u32>(sizes)?;
-    /// for root in 1..=9 {
-    ///     squares.insert(root.to_string(), root * root)?;
-    /// }
+    /// # fn main() -> Result<(), rcu::Error> {
+    /// let engine = rcu::Engine::new()?;
+    /// let squares = rcu::HashMap::new(&engine);
+    /// (1..=9).for_each(|root| drop(squares.put(root, root * root)));
     /// squares.retain(|_, square| square % 2 == 1);
     /// assert_eq!(squares.len(), 5);
     /// # Ok(())
     /// # }
     /// ```
     pub fn retain(&self, mut keeps: impl FnMut(&K, &V) -> bool) {
-        let mut last = 0;
-        loop {
-            let updates = self.lock();
-            let Some((hash, _)) = self.inner.next_entry::<Places>(last) else {
-                return;
-            };
-            let pairs = self.pairs_of(hash).unwrap_or_default();
-            let (mut left, mut places) = (pairs.len(), None);
-            for pair in &pairs {
-                if !keeps(&pair.key, &pair.value) {
-                    places = self.take_out(hash, pair, left);
-                    left -= 1;
-                }
-            }
-            drop(updates);
-            self.defer(places);
-            last = hash.get();
-        }
+        let mut own = self.lock();
+        let view = own.view();
+        let unwanted = view.pairs().filter(|(_, it)| !keeps(&it.key, &it.value));
+        let places: Vec<usize> = unwanted.map(|(at, _)| at).collect();
+        let out = places.into_iter().map(|at| self.take_out(&mut own, at));
+        let out: Vec<_> = out.collect();
+        drop(own);
+        self.defer((!out.is_empty()).then(|| Arc::new(out)));
     }
 
+    /// Takes all entries out, by one store.
+    pub fn clear(&self) {
+        let table = Arc::new(Table::with_room(0));
+        let mut own = self.lock();
+        own.table = Arc::clone(&table);
+        own.used = 0;
+        self.len.store(0, Release);
+        // SAFETY: it was the map's, under the lock, and is deferred.
+        let old = unsafe { self.table.exchange(table).whole() };
+        drop(own);
+        self.defer(Some(Arc::new(old)));
+    }
+
+    /// Makes room for so many entries more: so many insertions need not make a larger table.
+    pub fn reserve(&self, additional: usize) {
+        let wanted = self.len().saturating_add(additional);
+        self.resize(|own| (own.table.room() < wanted).then(|| Table::with_room(wanted)));
+    }
+
+    /// Makes the table as small as its entries allow. It costs one pass over them, in which other
+    /// updates wait.
+    pub fn shrink_to_fit(&self) {
+        self.resize(|own| {
+            let table = Table::with_room(self.len());
+            (table.room() < own.table.room()).then_some(table)
+        });
+    }
+
+    /// Puts the table in the place of the map's that this makes, if it makes one.
+    fn resize(&self, table: impl FnOnce(&Own<K, V>) -> Option<Table<K, V>>) {
+        let mut own = self.lock();
+        let table = table(&own);
+        let old = table.map(|it| self.replace_table(&mut own, it));
+        drop(own);
+        self.defer(old);
+    }
+}
+
+impl<K, V, S> HashMap<K, V, S> {
     /// How many entries there are.
     #[must_use]
     pub fn len(&self) -> usize {
@@ -436,13 +520,10 @@ where
 /// No section reads what the map has any more: each borrows the map.
 impl<K, V, S> Drop for HashMap<K, V, S> {
     fn drop(&mut self) {
-        let mut last = 0;
-        while let Some((hash, places)) = self.inner.next_entry::<Places>(last) {
-            last = hash.get();
-            self.inner.lock().rcu.map_remove::<Places>(hash);
-            // SAFETY: the map had them, and it owned what they own.
-            drop(unsafe { owned::<K, V>(places) });
-        }
+        let own = self.updates.get_mut();
+        let own = own.unwrap_or_else(PoisonError::into_inner);
+        // SAFETY: it is the map's, and nobody reads it any more.
+        drop(unsafe { Arc::clone(&own.table).whole() });
     }
 }
 

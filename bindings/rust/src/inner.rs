@@ -3,10 +3,11 @@
 use crate::deferred::{is_performing, Deferred, Queue};
 use crate::error::Error;
 use crate::handles::{EngineHandle, SeatHandle};
+use crate::line::Line;
 use crate::map::MapSizes;
 use crate::marks::Mark;
 use std::sync::atomic::{AtomicU64, Ordering::Relaxed};
-use std::sync::{Arc, Condvar, Mutex, MutexGuard};
+use std::sync::{Arc, Condvar, MutexGuard};
 
 /// How often a driver looks at the processors before it sleeps.
 const LOOKS: u32 = 100;
@@ -24,7 +25,7 @@ const PANICKED: &str = "a thread panicked under the engine's lock";
 pub(crate) struct Locked {
     pub(crate) rcu: EngineHandle,
     /// The seat of processor 0, which is nobody's, and idle.
-    pub(crate) boot: SeatHandle,
+    _boot: SeatHandle,
     /// Seats that readers gave back, with their marks. Their processors are offline.
     free: Vec<(SeatHandle, Arc<Mark>)>,
     /// Those of all seats that were dealt.
@@ -48,7 +49,7 @@ pub(crate) struct Inner {
     pub(crate) id: u64,
     /// How many entries its map has room for.
     pub(crate) entries: usize,
-    locked: Mutex<Locked>,
+    locked: Line<Locked>,
     quiet: Condvar,
     pub(crate) ended: Condvar,
     pub(crate) queued: Condvar,
@@ -118,9 +119,9 @@ impl Inner {
         Ok(Inner {
             id: IDS.fetch_add(1, Relaxed),
             entries: map.map_or(0, |(sizes, _)| sizes.entries),
-            locked: Mutex::new(Locked {
+            locked: Line::new(Locked {
                 rcu,
-                boot,
+                _boot: boot,
                 free: Vec::new(),
                 marks: Vec::new(),
                 next: 1,
@@ -212,7 +213,9 @@ impl Inner {
         let mut locked = self.lock();
         let cookie = locked.rcu.take();
         locked.queue.push(cookie, what);
-        self.queued.notify_one();
+        if locked.drivers > 0 {
+            self.queued.notify_one(); // a call of the system
+        }
         let is_time = locked.queue.queued() % EACH == 0;
         if is_time && locked.drivers == 0 && !is_performing() {
             if !locked.making {

@@ -26,11 +26,26 @@
 //! ```
 //!
 //! Who replaces and defers does now and then what is due, and waits for nobody ([`Engine::defer`]).
-//! A program with much to defer has a thread for it ([`Engine::drive`]). An engine may have a table
-//! of words, which sections read by keys ([`Map`]), or one of any keys and values ([`HashMap`]).
+//! A program with much to defer has a thread for it ([`Engine::drive`]). A [`HashMap`] has any keys
+//! and values, and grows with its entries:
+//!
+//! ```
+//! use rcu::{Engine, HashMap};
+//!
+//! # fn main() -> Result<(), rcu::Error> {
+//! let engine = Engine::new()?;
+//! let ages = HashMap::new(&engine);
+//! ages.put("Ada".to_string(), 36);
+//! let mut reader = engine.reader()?;
+//! reader.read(|guard| assert_eq!(ages.get(guard, "Ada"), Some(&36))); // takes no lock
+//! # Ok(())
+//! # }
+//! ```
+//!
+//! An engine may have a table of words too, of a fixed size, whose lookups are proved ([`Map`]).
 //!
 //! **What is proved.** The engine: that a cookie is done only where each section that was open at
-//! its taking has ended. And its map. The page docs/C.md of its repository says what of it holds
+//! its taking has ended. And its [`Map`]. The page docs/C.md of its repository says what of it holds
 //! for a caller.
 //!
 //! **What is not.** The lines of this crate. They keep what the header asks of a caller: a seat is
@@ -56,6 +71,7 @@ mod error;
 pub mod handles;
 mod hash_map;
 mod inner;
+mod line;
 mod map;
 mod marks;
 mod pairs;

@@ -135,10 +135,15 @@ impl<T: Send + Sync + 'static> Shared<T> {
     /// Where the engine is another one.
     pub fn replace_by(&self, engine: &Engine, data: Arc<T>) {
         self.must_be_of(engine.inner.id, "slot");
+        engine.defer_drop(self.exchange(data));
+    }
+
+    /// Puts other data into the slot, and returns the slot's part of what was there: each caller
+    /// defers its drop, by the slot's engine.
+    pub(crate) fn exchange(&self, data: Arc<T>) -> Arc<T> {
         let new = Arc::into_raw(data).cast_mut();
-        // SAFETY: the slot's part, which goes over to the engine.
-        let old = unsafe { Arc::from_raw(self.at.swap(new, AcqRel)) };
-        engine.defer_drop(old);
+        // SAFETY: the slot's part.
+        unsafe { Arc::from_raw(self.at.swap(new, AcqRel)) }
     }
 
     /// As [`Shared::replace_by`], and returns what was there. The caller has a part of it; the
@@ -160,9 +165,7 @@ impl<T: Send + Sync + 'static> Shared<T> {
     #[must_use = "`replace_by` returns nothing"]
     pub fn swap(&self, engine: &Engine, data: Arc<T>) -> Arc<T> {
         self.must_be_of(engine.inner.id, "slot");
-        let new = Arc::into_raw(data).cast_mut();
-        // SAFETY: the slot's part, of which one more is made before it goes over to the engine.
-        let old = unsafe { Arc::from_raw(self.at.swap(new, AcqRel)) };
+        let old = self.exchange(data);
         engine.defer_drop(Arc::clone(&old));
         old
     }

@@ -108,15 +108,4 @@ impl Inner {
         self.put_under(&mut locked, how, (key, value))
             .map_err(|_| Full)
     }
-
-    /// The entry of the map behind a key, as a section of processor 0 finds it.
-    pub(crate) fn next_entry<W: Words>(&self, key: u64) -> Option<(NonZeroU64, W)> {
-        let locked = self.lock();
-        locked.boot.wake();
-        locked.boot.enter();
-        let next = locked.boot.map_next(key);
-        locked.boot.exit();
-        locked.boot.idle();
-        next
-    }
 }
