@@ -1,7 +1,10 @@
 //! Gets and updates of std's maps under std's locks, and (with the feature `epoch`) of sorted
-//! chains over crossbeam-epoch, for bench/map. Use: PEER KIND THREADS ROUNDS. It prints a line a
-//! round: the nanoseconds of an operation, and the processor's, the mean of all threads. The keys,
-//! their order and their number are those of bench/map_liburcu.c.
+//! chains over crossbeam-epoch, (with `rcu`) of this library's hash map of Rust, for bench/map. Use:
+//! PEER KIND THREADS ROUNDS. It prints a line a round: the nanoseconds of an operation, and the
+//! processor's, the mean of all threads. The keys, their order and their number are those of
+//! bench/map_liburcu.c. A map that grows from nothing to so many entries, or has room for them at
+//! first, is measured by PEER grow ENTRIES ROUNDS, and PEER room ENTRIES ROUNDS: the nanoseconds of
+//! an insertion, and of its longest one.
 use std::collections::{BTreeMap, HashMap};
 use std::hash::{BuildHasherDefault, Hasher};
 use std::sync::atomic::{AtomicBool, Ordering::Relaxed};
@@ -35,7 +38,11 @@ type Sorted = BTreeMap<u64, [u64; 2]>;
 
 /// A map that threads share.
 trait Shared: Sync + Default {
-    fn get(&self, key: u64) -> u64;
+    /// What each thread has for itself.
+    type Own;
+
+    fn own(&self) -> Self::Own;
+    fn get(&self, own: &mut Self::Own, key: u64) -> u64;
     fn insert(&self, key: u64);
     fn remove(&self, key: u64);
 }
@@ -43,7 +50,11 @@ trait Shared: Sync + Default {
 macro_rules! shared {
     ($map:ty, $lock:ident, $read:ident, $write:ident) => {
         impl Shared for $lock<$map> {
-            fn get(&self, key: u64) -> u64 {
+            type Own = ();
+
+            fn own(&self) {}
+
+            fn get(&self, (): &mut (), key: u64) -> u64 {
                 self.$read().unwrap().get(&key).map_or(0, |words| words[0].wrapping_add(words[1]))
             }
             fn insert(&self, key: u64) {
@@ -106,7 +117,11 @@ mod epochs {
     }
 
     impl super::Shared for Chains {
-        fn get(&self, key: u64) -> u64 {
+        type Own = ();
+
+        fn own(&self) {}
+
+        fn get(&self, (): &mut (), key: u64) -> u64 {
             let guard = epoch::pin();
             let (_, entry) = self.find(key, &guard);
             // SAFETY: as above.
@@ -133,6 +148,70 @@ mod epochs {
                 place.store(entry.deref().next.load(Relaxed, &guard), Release);
                 guard.defer_destroy(entry);
             }
+        }
+    }
+}
+
+/// The hash map of the crate rcu. A thread passes a quiescent state after each 16 gets.
+#[cfg(feature = "rcu")]
+mod ours {
+    use super::Product;
+    use rcu::{Engine, HashMap, Reader};
+    use std::hash::BuildHasherDefault;
+
+    const EACH: u32 = 16;
+
+    pub type Words = HashMap<u64, [u64; 2], BuildHasherDefault<Product>>;
+
+    pub struct Map {
+        engine: Engine,
+        words: Words,
+    }
+
+    pub struct Own {
+        reader: Reader,
+        gets: u32,
+    }
+
+    impl Map {
+        pub fn with_room(entries: usize) -> Map {
+            let engine = Engine::with_limit(8).unwrap();
+            let words = Words::with_capacity_and_hasher(&engine, entries, Default::default());
+            Map { engine, words }
+        }
+    }
+
+    impl Default for Map {
+        fn default() -> Map {
+            Map::with_room(0)
+        }
+    }
+
+    impl super::Shared for Map {
+        type Own = Own;
+
+        fn own(&self) -> Own {
+            Own { reader: self.engine.reader().unwrap(), gets: 0 }
+        }
+
+        fn get(&self, own: &mut Own, key: u64) -> u64 {
+            let guard = own.reader.enter();
+            let found = self.words.get(&guard, &key);
+            let found = found.map_or(0, |words| words[0].wrapping_add(words[1]));
+            drop(guard);
+            own.gets += 1;
+            if own.gets % EACH == 0 {
+                own.reader.quiesce();
+            }
+            found
+        }
+
+        fn insert(&self, key: u64) {
+            assert!(self.words.insert(key, [key, 2 * key]).is_none());
+        }
+
+        fn remove(&self, key: u64) {
+            assert!(self.words.remove(&key).is_some());
         }
     }
 }
@@ -199,6 +278,7 @@ fn measure<M: Shared>(map: &M, kind: Kind, threads: usize, keys: &[u64], draws: 
     let start = Barrier::new(threads);
     let work = |own: &[u64]| {
         start.wait();
+        let mut of_thread = map.own();
         let (begun, unused) = (Instant::now(), used());
         let mut sum = 0u64;
         for _ in 0..times {
@@ -206,7 +286,7 @@ fn measure<M: Shared>(map: &M, kind: Kind, threads: usize, keys: &[u64], draws: 
                 update(map, own);
             } else {
                 for &key in draws {
-                    sum = sum.wrapping_add(map.get(key));
+                    sum = sum.wrapping_add(map.get(&mut of_thread, key));
                 }
             }
         }
@@ -244,12 +324,42 @@ fn run<M: Shared>(kind: Kind, threads: usize, rounds: usize) {
     }
 }
 
+/// Prints the nanoseconds of an insertion, and those of the longest one, of a map that this makes.
+fn fill<M: Shared>(entries: u64, rounds: usize, new: impl Fn() -> M) {
+    for _ in 0..rounds {
+        let (map, begun, mut longest) = (new(), Instant::now(), 0);
+        for key in 0..entries {
+            let before = Instant::now();
+            map.insert(2 * key);
+            longest = longest.max(before.elapsed().as_nanos());
+        }
+        println!("{:.3} {longest}", begun.elapsed().as_nanos() as f64 / entries as f64);
+    }
+}
+
+/// Fills maps that grow, or that have room at first.
+fn run_filling(peer: &str, is_growing: bool, entries: u64, rounds: usize) {
+    let room = if is_growing { 0 } else { entries as usize };
+    match peer {
+        "rwlock" => fill(entries, rounds, || {
+            RwLock::new(Hashed::with_capacity_and_hasher(room, Default::default()))
+        }),
+        #[cfg(feature = "rcu")]
+        "rcu" => fill(entries, rounds, || ours::Map::with_room(room)),
+        _ => panic!("{peer} is not filled"),
+    }
+}
+
 fn main() {
     let words: Vec<String> = std::env::args().skip(1).collect();
     let [peer, kind, threads, rounds] = &words[..] else {
         panic!("use: PEER KIND THREADS ROUNDS");
     };
     let kind = match kind.as_str() {
+        "grow" | "room" => {
+            let (entries, rounds) = (threads.parse().unwrap(), rounds.parse().unwrap());
+            return run_filling(peer, kind == "grow", entries, rounds);
+        }
         "hit" => Kind::Hit,
         "miss" => Kind::Miss,
         "beside" => Kind::Beside,
@@ -264,6 +374,8 @@ fn main() {
         "sorted-rwlock" => run::<RwLock<Sorted>>(kind, threads, rounds),
         #[cfg(feature = "epoch")]
         "epoch" => run::<epochs::Chains>(kind, threads, rounds),
+        #[cfg(feature = "rcu")]
+        "rcu" => run::<ours::Map>(kind, threads, rounds),
         _ => panic!("no peer {peer}"),
     }
 }
