@@ -920,6 +920,13 @@ static inline rcu_link_t *rcu_defer_take(rcu_seat_t *seat) {
     return link;
 }
 
+/* ---- how long a driver looks before it sleeps */
+
+/* How many times a driver collects from the awaited processors before it prepares to wait
+ * (rcu_driver_prepare_wait), with a pause between: most sections have ended by then. The layer of
+ * bindings/urcu and the crate for Rust do so. */
+#define RCU_LOOKS_BEFORE_WAIT 20
+
 /* ---- opening, with an identity of its own making */
 
 /* An identity that no other engine of the process has. */

@@ -1,5 +1,5 @@
 // Helpers of the tests of the wording. No test depends on a clock: it waits until the gp_thread
-// asks to be woken at the end of an open region, which it does after 100 looks.
+// asks to be woken at the end of an open region, which it does after a few looks.
 #pragma once
 #include <rcu>
 

@@ -175,6 +175,10 @@ pub const RCU_ANSWER_STALE: u32 = 3;
 
 // <<<
 
+/// How many times a driver collects from the awaited processors before it prepares to wait, as the
+/// header has it.
+pub const RCU_LOOKS_BEFORE_WAIT: u32 = 20;
+
 /// An identity that no other engine of the process has.
 pub fn rcu_new_identity() -> rcu_identity_t {
     static OPENED: AtomicU64 = AtomicU64::new(0);

@@ -6,11 +6,10 @@ use crate::handles::{EngineHandle, SeatHandle};
 use crate::line::Line;
 use crate::map::MapSizes;
 use crate::marks::Mark;
+use crate::raw::RCU_LOOKS_BEFORE_WAIT;
+use std::hint::spin_loop;
 use std::sync::atomic::{AtomicU64, Ordering::Relaxed};
 use std::sync::{Arc, Condvar, MutexGuard};
-
-/// How often a driver looks at the processors before it sleeps.
-const LOOKS: u32 = 100;
 
 /// Where no thread drives, whoever defers makes a step of the engine at each so many, ends so many
 /// grace periods at most in it, and does so much of what is due.
@@ -190,8 +189,10 @@ impl Inner {
             }
             let mut looks = 1;
             while locked.collect() {
-                if looks % LOOKS == 0 {
+                if looks % RCU_LOOKS_BEFORE_WAIT == 0 {
                     locked = self.sleep_until_quiet(locked);
+                } else {
+                    spin_loop();
                 }
                 looks += 1;
             }

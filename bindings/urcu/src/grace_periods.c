@@ -1,8 +1,8 @@
 /* Grace periods of the layer: each is one of every engine that has a thread. Who waits for one
- * makes it, with the lock, or sleeps while another thread does. The gp_thread looks LOOKS times
- * whether each slot is quiet, the first few times without a pause. Then it stores a request at
- * each slot that is awaited still, looks once more, and sleeps; a thread that gets quiet there
- * wakes it.
+ * makes it, with the lock, or sleeps while another thread does. The gp_thread looks
+ * RCU_LOOKS_BEFORE_WAIT times whether each slot is quiet, the first few times without a pause. Then
+ * it stores a request at each slot that is awaited still, looks once more, and sleeps; a thread
+ * that gets quiet there wakes it.
  *
  * It rests on these sentences of include/rcu.h: of rcu_drive_for, "called until the cookie is done
  * it makes one grace period", and "it orders what rcu_begin, rcu_collect and rcu_end order"; and of
@@ -19,7 +19,7 @@
 #include "seats.h"
 #include <sched.h>
 
-enum { LOOKS = 20, LOOKS_AT_ONCE = 4 };
+enum { LOOKS_AT_ONCE = 4 };
 
 /* Sequentially consistent, as the reader's look in got_quiet: one of the two sees the other. */
 static void request_wake(struct slot *slot) {
@@ -68,7 +68,7 @@ static bool still_goes_on(struct engine *engine) {
 static void finish(struct engine *engine) {
     for (unsigned looks = 1; still_goes_on(engine); looks++) {
         if (looks > LOOKS_AT_ONCE) __builtin_ia32_pause(); /* it takes longer than most sections */
-        if (looks % LOOKS) continue;
+        if (looks % RCU_LOOKS_BEFORE_WAIT) continue;
         goes_on(engine, request_wake); /* the request comes before the last look, .. */
         if (BY_WORD) fence_readers();  /* .. also for a reader whose fence is this one */
         if (still_goes_on(engine)) sleep_or_report(engine);
