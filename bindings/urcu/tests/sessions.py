@@ -1,16 +1,17 @@
 #!/usr/bin/env python3
 """Sessions of lttng-tools under load: eight workers create, start, rotate, stop and destroy them,
-while traced programs come and go.
+while traced programs come and go, and a live viewer lists them.
 
 Use: bindings/urcu/tests/sessions.py INSTALLED FOLDER SECONDS [--delete]
 
 INSTALLED is where lttng-tools with its tracer of programs was installed. It runs as root of
-namespaces of its own, so that it meets no other lttng (`words`). In FOLDER it leaves what the
-daemons said, and their cores. The last line but one names the libraries of liburcu that they took;
-the last line says how many sessions were destroyed, and how each daemon ended. The status is 0 if
-each lived until it was asked to end, or ended by an assertion of OWN: these are lttng-tools' own
-faults, and end it over liburcu too. With --delete the folders of traces are deleted while sessions
-write there, so that they come soon."""
+namespaces of its own, so that it meets no other lttng (`words`). lttng-relayd is ended first, while
+sessions are sent to it. In FOLDER it leaves what the daemons said, and their cores. The last line
+but one names the libraries of liburcu that they took; the last line says how many sessions were
+destroyed, how many lists were made, and how each daemon ended. The status is 0 if each lived until
+it was asked to end, or ended by a line of OWN: these are lttng-tools' own faults, and end it over
+liburcu too. With --delete the folders of traces are deleted while sessions write there, so that
+they come soon."""
 import glob
 import os
 import random
@@ -18,12 +19,19 @@ import re
 import resource
 import shutil
 import signal
+import socket
+import struct
 import subprocess
 import sys
 import threading
 import time
 
 WORKERS, PROGRAMS = 8, 4
+# How long sessions go on once lttng-relayd has ended: lttng-consumerd then gives its connections
+# up, in sections of its own.
+SECONDS_ALONE = 2
+# Of the protocol of live viewers: its port, two commands, and the bytes of a session in a list.
+VIEWER_PORT, CONNECT, LIST_SESSIONS, SESSION_BYTES = 5344, 1, 2, 339
 PROGRAM = """#include <lttng/tracef.h>
 #include <unistd.h>
 int main(void) {
@@ -35,9 +43,13 @@ int main(void) {
 """
 # Assertions of lttng-tools 2.13.9: in a rotation whose folder could not be made; as it destroys a
 # session that rotates by size; as a rotation's folder is deleted; and behind a return in a section
-# (cmd_list_channels), if lttng-consumerd ends meanwhile.
+# (cmd_list_channels), if lttng-consumerd ends meanwhile. And functions that read after a free, as
+# the address sanitizer reports: a channel that the thread of rotations frees as a failed rotation
+# ends it; and, outside of any section, an index that is released.
+OWN_READS = ("send_condition_command", "stream_update_index")
 OWN = ("`channel->trace_chunk'", "`session->rotate_trigger'",
-       "`(trace_chunk->timestamp_close).is_set'", "`!rcu_read_ongoing()'")
+       "`(trace_chunk->timestamp_close).is_set'", "`!rcu_read_ongoing()'",
+       *(f" in {it}" for it in OWN_READS))
 # (lttng-tools links one of its libraries into its daemons and into its shared object, so globals of
 # it are there twice: the sanitizer does not look for that, or no daemon would start.)
 # The kinds of sessions: what creates one, and what is done with it while it runs.
@@ -73,8 +85,8 @@ class Trial:
         self.over = threading.Event()
         self.env = {**os.environ, "HOME": folder, "LTTNG_HOME": folder,
                     "ASAN_OPTIONS": "detect_leaks=0:abort_on_error=1:disable_coredump=0:"
-                                    "detect_odr_violation=0"}
-        self.daemons, self.destroyed = {}, 0
+                                    "detect_odr_violation=0:verify_asan_link_order=0"}
+        self.daemons, self.destroyed, self.listed = {}, 0, 0
 
     def start(self, name, *more):
         os.makedirs(f"{self.folder}/{name}")
@@ -138,6 +150,24 @@ class Trial:
         for it in programs:
             it.kill()
 
+    def list_often(self):
+        """Lists the sessions of lttng-relayd, as a live viewer does."""
+        while self.goes_on():
+            try:
+                with socket.create_connection(("127.0.0.1", VIEWER_PORT), 20) as viewer, \
+                        viewer.makefile("rb") as said:
+                    self.list_by(viewer, said)
+            except (OSError, struct.error):  # (it has no port yet, or has ended)
+                self.over.wait(0.2)
+
+    def list_by(self, viewer, said):
+        viewer.sendall(struct.pack(">Q2I", 20, CONNECT, 0) + struct.pack(">Q3I", 0, 2, 13, 1))
+        said.read(20)
+        while self.goes_on():
+            viewer.sendall(struct.pack(">Q2I", 0, LIST_SESSIONS, 0))
+            said.read(SESSION_BYTES * struct.unpack(">I", said.read(4))[0])
+            self.listed += 1
+
     def delete_folders(self):
         while self.goes_on():
             self.over.wait(0.5 + random.random())
@@ -156,7 +186,7 @@ class Trial:
             daemon.wait()
         with open(f"{self.folder}/{name}/said", encoding="utf-8", errors="replace") as file:
             found = [it for it in file.read().splitlines()
-                     if re.search("urcu over rcu|ERROR: AddressSanitizer|Assertion", it)]
+                     if re.search("urcu over rcu|SUMMARY: AddressSanitizer|Assertion", it)]
         own = found and all(any(it in line for it in OWN) for line in found)
         ends = (0, -signal.SIGKILL, *[-signal.SIGABRT] * bool(own))
         return daemon.returncode in ends and (own or not found), \
@@ -179,7 +209,7 @@ def main():
     trial.start("sessiond", "--no-kernel")
     time.sleep(3)
     threads = [threading.Thread(target=it) for it in (
-        trial.run_programs, *[trial.delete_folders] * ("--delete" in sys.argv))]
+        trial.run_programs, trial.list_often, *[trial.delete_folders] * ("--delete" in sys.argv))]
     threads += [threading.Thread(target=trial.work, args=(it,)) for it in range(WORKERS)]
     for it in threads:
         it.start()
@@ -187,13 +217,16 @@ def main():
     until = time.monotonic() + seconds
     while time.monotonic() < until and trial.goes_on():
         time.sleep(0.1)
+    ends = [trial.end("relayd")]
+    time.sleep(SECONDS_ALONE)
     trial.over.set()
     for it in threads:
         it.join()
-    ends = [trial.end(it) for it in ("sessiond", "relayd")]
+    ends.append(trial.end("sessiond"))
     shutil.rmtree(f"{folder}/traces")
     print("takes", *taken)
-    print(f"{trial.destroyed} sessions; {'; '.join(said for _, said in ends)}")
+    print(f"{trial.destroyed} sessions, {trial.listed} lists; "
+          f"{'; '.join(said for _, said in ends)}")
     return 0 if all(well for well, _ in ends) else 1
 
 
