@@ -26,8 +26,8 @@ use Rattle.rcu_core.specs.declared.event.Event.TheVariants.{BarTest, Tend}
 use Rattle.rcu_core.proofs.Clocks.{clock}
 use Rattle.rcu_core.proofs.Ending.{Surely, can_end, leads_on, some_left}
 use Rattle.rcu_core.proofs.Finishing.{begins_now, clock_then, done_by_ticks, done_is_full}
-use Rattle.rcu_core.proofs.Finishing.{earlier_accepted, ended_clock, leads_accepted, leads_both}
-use Rattle.rcu_core.proofs.Finishing.{runs_then}
+use Rattle.rcu_core.proofs.Finishing.{earlier_accepted, ended_clock, few_ends, leads_accepted}
+use Rattle.rcu_core.proofs.Finishing.{leads_both, runs_then}
 use Rattle.rcu_core.proofs.Idling.{idles}
 use Rattle.rcu_core.proofs.Maturing.{one_part, queued_later, then_handed_out}
 use Rattle.rcu_core.proofs.Once.{at_most_once, lies_below, queued_once}
@@ -405,9 +405,6 @@ drain_from_idle s h p r n =
   where
     by_four : (h : History) → running h ≡ false → snapshot (clock h) ≡ clock h + 4
     by_four h r = grind (arith, nat_tests)
-
-few_ends : (m n : ℕ) (a b : Bool) → b ≡ false → number_at n b ≤ number_at m a + 7 → n ≤ m + 2
-few_ends m n a b i l = grind (arith, nat_tests)
 
 -- both, one after the other
 pub record Drained (s : Size) (h : History) : Type 0 where

@@ -5,7 +5,7 @@ use Rattle.std.proofs.Common.{subst, arith, cond, eqb, ne_eqb}
 use Rattle.std.specs.Prelude.{is_none, sum_by}
 use Rattle.std.specs.List.{list_all, range_with_len}
 use Rattle.std.proofs.Math.Nat.{eq-or-lt_of_le}
-use Rattle.std.proofs.lemmas.Bool.{and_parts, cases_Bool, cases_eq, cases_lt, eqb-true}
+use Rattle.std.proofs.lemmas.Bool.{and_from, and_parts, cases_Bool, cases_eq, cases_lt, eqb-true}
 use Rattle.std.proofs.lemmas.Bool.Decides.{nat_tests}
 use Rattle.rcu_seq.specs.Histories.{latest}
 use Rattle.rcu_seq.specs.Tags.{same_tag}
@@ -38,15 +38,15 @@ use Rattle.rcu_core.proofs.Sections.{one_less}
 use Rattle.rcu_core.proofs.Shrinking.{shrinks_step, still_awaited}
 use Rattle.rcu_core.proofs.Writes.{eqb_self}
 
--- an awaited processor is online
-after_departure : (r o b heard on : Bool) → (r && (o && not (b || heard))) ≡ true → on ≡ true
+-- a processor that is still awaited after a departure is another one, and as it was
+pub after_departure : (r o b heard on : Bool) → (r && (o && not (b || heard))) ≡ true → on ≡ true
     → cond b false on ≡ true
 after_departure true true true heard on i j = absurd (cc)
 after_departure true true false heard on i j = j
 after_departure true false b heard on i j = absurd (cc)
 after_departure false o b heard on i j = absurd (cc)
 
-after_arrival : (b on : Bool) → on ≡ true → cond b true on ≡ true
+pub after_arrival : (b on : Bool) → on ≡ true → cond b true on ≡ true
 after_arrival true on j = refl
 after_arrival false on j = j
 
@@ -146,9 +146,6 @@ record Step (s : Size) (left : History → ℕ → ℕ) (kind : Event → Bool) 
   pub ends : ends_in_epoch (event ∷ h) ≡ ends_in_epoch h
   pub epoch : epoch (event ∷ h) ≡ epoch h
 
-both : (a b : Bool) → a ≡ true → b ≡ true → (a && b) ≡ true
-both a b i j = rw (i, j) refl
-
 -- a step, and then this number of events
 step_on : (s : Size) (left : History → ℕ → ℕ) (kind : Event → Bool) (h : History) (c n : ℕ)
     → (step : Step s left kind h c) → EndsBy kind s (step.event ∷ h) n → EndsBy kind s h (suc n)
@@ -157,7 +154,7 @@ step_on s left kind h c n step rest = record {
   reached = rest.reached;
   leads = leads_on s h step.event rest.events rest.reached step.surely rest.leads;
   many = ap (λ k. suc k) rest.many;
-  each = both (kind step.event) (list_all kind rest.events) step.is_kind rest.each;
+  each = and_from (kind step.event) (list_all kind rest.events) step.is_kind rest.each;
   ended = record {
     idle = rest.ended.idle;
     one_more = rest.ended.one_more ∙ ap (λ n. n + 1) step.ends;
@@ -172,7 +169,7 @@ end_on s kind h k p r a = record {
   reached = End ∷ h;
   leads = leads_on s h End [] (End ∷ h) (ends_now s h r a) refl;
   many = refl;
-  each = both (kind End) true k refl;
+  each = and_from (kind End) true k refl;
   ended = has_ended s h p r;
 }
 

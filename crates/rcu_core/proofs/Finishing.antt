@@ -308,6 +308,11 @@ pub room_now : (s : Size) (h : History) → running h ≡ false
 room_now s h r (inl l) n = absurd (let x : ⊥ = omega (arith, l, n) in x)
 room_now s h r (inr l) n = l
 
+-- if no grace period runs at the second number, and it is at most 7 above the first, at most two
+-- more grace periods have ended
+pub few_ends : (m n : ℕ) (a b : Bool) → b ≡ false → number_at n b ≤ number_at m a + 7 → n ≤ m + 2
+few_ends m n a b i l = grind (arith, nat_tests)
+
 done_at : (s : Size) (h : History) (n : ℕ) → AreAccepted s h → snapshot (clock h) ≤ n
     → n ≤ clock h + 7
     → Reaches s h n → CanFinishCookie s h
@@ -320,15 +325,12 @@ done_at s h n p l m o =
       leads = o.leads;
       done = done_by_ticks s h o.reached p q
           ∙ reached_is (snapshot (clock h)) (clock o.reached) n c l;
-      ends = few (count_by ends h) (count_by ends o.reached) (running h) (running o.reached) o.idle
-          (rw c m);
+      ends = few_ends (count_by ends h) (count_by ends o.reached) (running h) (running o.reached)
+          o.idle (rw c m);
     }
   where
     reached_is : (a b n : ℕ) → b ≡ n → a ≤ n → nat_le a b ≡ true
     reached_is a b n c l = grind (arith, nat_tests)
-
-    few : (m n : ℕ) (a b : Bool) → b ≡ false → number_at n b ≤ number_at m a + 7 → n ≤ m + 2
-    few m n a b i l = grind (arith, nat_tests)
 
 pub can_finish : (s : Size) (run : Run) → IsLegalRun s run → is_last s.last ≡ true
     → (snapshot (number (history run)) ≤ s.last) ⊎ (epoch (history run) < last_epoch)

@@ -2,7 +2,7 @@
 use Rattle.std.proofs.Common.{◌≡◌, ◌≢◌, ℕ, ◌<◌, Bool, true, false, not, ◌&&◌, []}
 use Rattle.std.proofs.Common.{◌∷◌, Option, Some, None, slice_get, refl, sym, ap, ◌∙◌, subst, arith}
 use Rattle.std.proofs.Common.{cond, eqb, inl, inr, ◌-◌}
-use Rattle.std.proofs.lemmas.Bool.{and_parts, eqb-true}
+use Rattle.std.proofs.lemmas.Bool.{and_from, and_parts, eqb-true}
 use Rattle.std.proofs.lemmas.Bool.Decides.{nat_tests}
 use Rattle.rcu_seq.specs.Histories.{latest}
 use Rattle.rcu_seq.specs.Tags.{same_tag}
@@ -130,7 +130,7 @@ delivered s h place None p is i = absurd (cc)
 delivered s h place (Some r) p is i =
     let last = last_report s h r i in
     let of_it : is_of r.cpu (tag_now h) (report_at place (reports_made h)) ≡ true =
-    ap (λ o. is_of r.cpu (tag_now h) o) is ∙ both (eqb r.cpu r.cpu) (eqb_self r.cpu) last.0 in
+    ap (λ o. is_of r.cpu (tag_now h) o) is ∙ and_from (eqb r.cpu r.cpu) _ (eqb_self r.cpu) last.0 in
     let l = made_in_range s h p (place - 1) r
     (some_of (eqb place 0) (slice_get (reports_made h) (place - 1)) r is) in
     record {
@@ -144,9 +144,6 @@ delivered s h place (Some r) p is i =
           (is_of d (tag_now h) (report_at place (reports_made h))) (is_heard d (tag_now h) h)
           (of_one r.cpu d (tag_now h) (report_at place (reports_made h)) of_it n));
     }
-  where
-    both : (a : Bool) {b : Bool} → a ≡ true → b ≡ true → (a && b) ≡ true
-    both a i j = rw (i, j) refl
 
 last_leaves : (s : Size) (h : History) (e : Event) → AreAccepted s h
     → IsLegalReply s (situation h) e (reply.Answer Last) → NobodyLeft s (e ∷ h)

@@ -3,7 +3,7 @@ use Rattle.std.proofs.Common.{◌≡◌, ◌≢◌, ℕ, zero, suc, ◌+◌, ◌
 use Rattle.std.proofs.Common.{◌||◌, inl, inr, List, [], ◌∷◌, ◌++◌, Option, Some, None, length, refl}
 use Rattle.std.proofs.Common.{sym, ap, ◌∙◌, subst, arith, cond, eqb, ne_eqb, slice_get}
 use Rattle.std.specs.List.{range_with_len, list_any}
-use Rattle.std.proofs.lemmas.Bool.{cases_Bool, eqb-true, or_parts}
+use Rattle.std.proofs.lemmas.Bool.{and_from, cases_Bool, eqb-true, or_parts}
 use Rattle.std.proofs.lemmas.Bool.Decides.{nat_tests}
 use Rattle.rcu_seq.specs.Histories.{latest}
 use Rattle.rcu_seq.specs.Tags.{same_tag}
@@ -20,7 +20,8 @@ use Rattle.rcu_core.specs.declared.event.Event.{Event}
 use Rattle.rcu_core.specs.declared.event.Event.TheVariants.{Enter, Exit, Note, Quiesce, Online}
 use Rattle.rcu_core.specs.declared.event.Event.TheVariants.{Offline, Begin, End, Renumber, Idle}
 use Rattle.rcu_core.specs.declared.event.Event.TheVariants.{Wake, Scan}
-use Rattle.rcu_core.proofs.Ending.{awaited_is_online, each_zero, ends_now, leads_on, no_part}
+use Rattle.rcu_core.proofs.Ending.{after_arrival, after_departure, awaited_is_online, each_zero}
+use Rattle.rcu_core.proofs.Ending.{ends_now, leads_on, no_part}
 use Rattle.rcu_core.proofs.StepCounts.{enter_counts_one, exit_counts_one, idle_counts_one}
 use Rattle.rcu_core.proofs.StepCounts.{scan_counts_one, wake_counts_one}
 use Rattle.rcu_core.proofs.Lost.{sums_are}
@@ -62,12 +63,9 @@ quiet_by_reporting h c e =
     let r : Report = record { cpu = c; tag = noted c h } in (
       length (reports_made h) + 1,
       ap (λ o. is_of c (tag_now h) o) (placed_there (reports_made h) r)
-          ∙ both_hold (eqb c c) (same_tag (noted c h) (tag_now h)) (eqb_self c)
+          ∙ and_from (eqb c c) (same_tag (noted c h) (tag_now h)) (eqb_self c)
           (same_tag_self (noted c h) (tag_now h) e),
     )
-  where
-    both_hold : (a b : Bool) → a ≡ true → b ≡ true → (a && b) ≡ true
-    both_hold a b i j = rw (i, j) refl
 
 -- a report that was made stays where it is
 stays_at : (xs : List Report) (r x : Report) (k : ℕ) → slice_get xs k ≡ Some x
@@ -117,15 +115,7 @@ no_longer true true true false m n f g k = let l = g refl in omega (arith, l)
 no_longer true true false true m n f g k = absurd (let x = k refl refl in cc)
 no_longer true true false false m n f g k = let l = g refl in omega (arith, l)
 
--- one that is not heard by a departure is another one
-departs_elsewhere : (r o b heard j : Bool) → (r && (o && not (b || heard))) ≡ true → j ≡ true
-    → cond b false j ≡ true
-departs_elsewhere true true true heard j i k = absurd (cc)
-departs_elsewhere true true false heard j i k = k
-departs_elsewhere true false b heard j i k = absurd (cc)
-departs_elsewhere false o b heard j i k = absurd (cc)
-
--- and so is one that arrives
+-- an idle processor is not the one that arrives
 arrives_elsewhere : (s : Size) (c d : ℕ) (h : History)
     → fault_in s (situation h) (Online d) ≡ None → online c h ≡ true → is_idle c h ≡ true
     → cond (eqb d c) false (is_idle c h) ≡ true
@@ -135,10 +125,6 @@ arrives_elsewhere s c d h p o i = elim (cases_Bool (eqb d c)) [
       let same = ap (λ k. online k h) (eqb-true d c e) in absurd (cc)
   | inr e ↦ rw e i
 ]
-
-idles_too : (b j : Bool) → j ≡ true → cond b true j ≡ true
-idles_too true j i = refl
-idles_too false j i = i
 
 exits_less : (c d : ℕ) (h : History) → depth c (Exit d ∷ h) ≤ depth c h
 exits_less c d h = let n = exit_counts c d h in omega (arith, n)
@@ -173,14 +159,14 @@ part_step s c (Exit d) h p t o n m w =
     (depth c h) (λ i. i) (λ i. exits_less c d h) (λ i j. j)
 part_step s c (Idle d) h p t o n m w =
     no_longer (awaits c h) (awaits c h) (is_idle c (Idle d ∷ h)) (is_idle c h) (depth c h)
-    (depth c h) (λ i. i) (λ i. omega arith) (λ i j. idles_too (eqb d c) (is_idle c h) j)
+    (depth c h) (λ i. i) (λ i. omega arith) (λ i j. after_arrival (eqb d c) (is_idle c h) j)
 part_step s c (Online d) h p t o n m w =
     no_longer (awaits c h) (awaits c h) (is_idle c (Online d ∷ h)) (is_idle c h) (depth c h)
     (depth c h) (λ i. i) (λ i. omega arith) (λ i j. arrives_elsewhere s c d h p (o i) j)
 part_step s c (Offline d) h p t o n m w =
     no_longer (awaits c (Offline d ∷ h)) (awaits c h) (is_idle c (Offline d ∷ h)) (is_idle c h)
     (depth c h) (depth c h) (shrinks_step s c (Offline d) h p t n) (λ i. omega arith)
-    (λ i j. departs_elsewhere (running h) (online c (latest begins h)) (eqb d c)
+    (λ i j. after_departure (running h) (online c (latest begins h)) (eqb d c)
     (is_heard c (tag_now h) h) (is_idle c h) i j)
 part_step s c End h p t o n m w =
     no_longer (awaits c (End ∷ h)) (awaits c h) (is_idle c h) (is_idle c h) (depth c h) (depth c h)

@@ -16,7 +16,8 @@ use Rattle.rcu_core.specs.declared.event.Event.TheVariants.{End, Exit, Idle, Sca
 use Rattle.rcu_core.specs.declared.reply.Reply.{Reply}
 use Rattle.rcu_core.specs.declared.reply.Reply.TheVariants as reply
 use Rattle.rcu_core.proofs.Covered.{sum_zero}
-use Rattle.rcu_core.proofs.Ending.{each_zero, exit_elsewhere, idle_elsewhere, scan_elsewhere}
+use Rattle.rcu_core.proofs.Ending.{each_zero, exit_elsewhere, idle_elsewhere, none_left}
+use Rattle.rcu_core.proofs.Ending.{scan_elsewhere}
 use Rattle.rcu_core.proofs.Lost.{sums_are}
 use Rattle.rcu_core.proofs.Once.{sum_below}
 use Rattle.rcu_core.proofs.Readers.{possible}
@@ -29,10 +30,6 @@ unrefused None x n = refl
 unrefused (Some f) x n = absurd (n f refl)
 
 -- the end is accepted only if one step is left
-none_awaited : (b : Bool) → cond {A = ℕ} b 1 0 ≡ 0 → b ≡ false
-none_awaited true e = absurd (omega (arith, e))
-none_awaited false e = refl
-
 pub one_left : (s : Size) (h : History) → fault_in s (situation h) End ≡ None → steps_left s h ≡ 1
 one_left s h p =
     let none : how_many s (λ c. awaits c h) ≡ 0 = grind (arith, nat_tests) in
@@ -42,7 +39,7 @@ one_left s h p =
     let parts : sum_below s.cpus (steps_of h) ≡ 0 =
     sum_zero s.cpus (steps_of h)
     (λ c l.
-    ap (λ b. cond b (depth c h + cond (is_idle c h) 1 2) 0) (none_awaited (awaits c h) (each c l)))
+    ap (λ b. cond b (depth c h + cond (is_idle c h) 1 2) 0) (none_left (awaits c h) (each c l)))
     in
     let sum = sums_are s.cpus (steps_of h) (steps_of h) (λ c. refl) in
     omega (arith, sum, parts)

@@ -8,6 +8,7 @@ use Rattle.std.proofs.Math.Nat.{eq-or-lt_of_le}
 use Rattle.std.proofs.lemmas.Bool.{cases_Bool, cases_eq}
 use Rattle.std.proofs.lemmas.Bool.Decides.{nat_tests}
 use Rattle.std.proofs.lemmas.List.Sums.{sum_by_push}
+use Rattle.std.proofs.lemmas.Option.{same_Some}
 use Rattle.rcu_seq.specs.declared.tag.Tag.{Tag}
 use Rattle.rcu_node.specs.CpuSet.{is_in}
 use Rattle.rcu_node.specs.Merging.{Standing, standing}
@@ -48,12 +49,9 @@ find_first p a (suc n) c l m here none = elim (eq-or-lt_of_le {n = a} {m = c} l)
       (λ d k. none d (omega (arith, k))))
 ]
 
-some_is : {x y : ℕ} → Some x ≡ Some y → x ≡ y
-some_is i = cc
-
 found_at : (b : Bool) (a c : ℕ) (o : Option ℕ) → cond b (Some a) o ≡ Some c
     → ((b ≡ true) × (a ≡ c)) ⊎ ((b ≡ false) × (o ≡ Some c))
-found_at true a c o e = inl (refl, some_is e)
+found_at true a c o e = inl (refl, same_Some _ _ e)
 found_at false a c o e = inr (refl, e)
 
 pub found : (p : ℕ → Bool) (a n c : ℕ) → find p (range_with_len a n) ≡ Some c
