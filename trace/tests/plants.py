@@ -125,23 +125,25 @@ def bring_batch_forward(lines, number, event):
 
 
 def callbacks_change_places(lines, number):
-    """A CPU's callback is invoked before one that it queued earlier."""
+    """In one batch a CPU's callback is invoked before one that it queued earlier."""
     _, end = period(lines, number)
     queued = {re.search(r"rhp=\w+", lines[at])[0]: cpu_of(lines[at])
               for at in find(lines, r"rcu_callback: ", 0, end)}
-    last = {}
-    for at in find(lines, r"rcu_invoke_callback: ", end):
-        address = re.search(r"rhp=\w+", lines[at])[0]
-        if address not in queued:
+    last = {}  # of a CPU's batch: where it invoked a callback, by the CPU that queued that
+    for at in find(lines, r"rcu_invoke_callback: |rcu_batch_start: ", end):
+        cpu = cpu_of(lines[at])
+        if "rcu_batch_start" in lines[at]:
+            last[cpu] = {}
             continue
-        before = last.get(queued[address])
-        if before is not None and cpu_of(lines[before]) == cpu_of(lines[at]):
+        by = queued.get(re.search(r"rhp=\w+", lines[at])[0])
+        before = last.get(cpu, {}).get(by)
+        if by is not None and before is not None:
             one, other = (lines[it].split("rcu_invoke_callback: ") for it in (before, at))
             lines[before] = "rcu_invoke_callback: ".join((one[0], other[1]))
             lines[at] = "rcu_invoke_callback: ".join((other[0], one[1]))
             return
-        last[queued[address]] = at
-    raise StopIteration  # (no two callbacks come one after another)
+        last.setdefault(cpu, {})[by] = at
+    raise StopIteration  # (no batch has two callbacks of a CPU)
 
 
 def report_is_late(lines, number):
