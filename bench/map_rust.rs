@@ -1,10 +1,10 @@
 //! Gets and updates of std's maps under std's locks, and (with the feature `epoch`) of sorted
-//! chains over crossbeam-epoch, (with `rcu`) of this library's hash map of Rust, for bench/map. Use:
-//! PEER KIND THREADS ROUNDS. It prints a line a round: the nanoseconds of an operation, and the
-//! processor's, the mean of all threads. The keys, their order and their number are those of
-//! bench/map_liburcu.c. A map that grows from nothing to so many entries, or has room for them at
-//! first, is measured by PEER grow ENTRIES ROUNDS, and PEER room ENTRIES ROUNDS: the nanoseconds of
-//! an insertion, and of its longest one.
+//! chains over crossbeam-epoch, for bench/map. With `rcu`, which bench/map does not build, it has
+//! this library's hash map of Rust too. Use: PEER KIND THREADS ROUNDS. It prints a line a round:
+//! the nanoseconds of an operation, and the processor's, the mean of all threads. The keys, their
+//! order and their number are those of bench/map_liburcu.c. A map that grows from nothing to so
+//! many entries, or has room for them at first, is measured by PEER grow ENTRIES ROUNDS, and PEER
+//! room ENTRIES ROUNDS: the nanoseconds of an insertion, and of its longest one.
 use std::collections::{BTreeMap, HashMap};
 use std::hash::{BuildHasherDefault, Hasher};
 use std::sync::atomic::{AtomicBool, Ordering::Relaxed};
