@@ -38,7 +38,7 @@ type Sorted = BTreeMap<u64, [u64; 2]>;
 
 /// A map that threads share.
 trait Shared: Sync + Default {
-    /// What each thread has for itself.
+    /// The state of one thread.
     type Own;
 
     fn own(&self) -> Self::Own;

@@ -87,7 +87,7 @@ pub struct HashMap<K, V, S = RandomState> {
     came: AtomicU64,
 }
 
-/// What an updater has under the lock.
+/// The data that the lock of the updates guards.
 struct Own<K, V> {
     /// The table of the map.
     table: Arc<Table<K, V>>,
@@ -95,8 +95,8 @@ struct Own<K, V> {
     used: usize,
 }
 
-/// What an update took out, which is deferred with the lock let go: what the engine does then may
-/// be an update of this map.
+/// The pair and the table that an update took out. They are deferred after the lock is released,
+/// since the engine may then run a callback that updates this map.
 #[must_use]
 struct Out<K, V> {
     pair: Option<Arc<Pair<K, V>>>,
@@ -107,7 +107,7 @@ struct Out<K, V> {
 type Put<K, V> = (Option<Arc<Pair<K, V>>>, Out<K, V>);
 
 impl<K, V> Own<K, V> {
-    /// The table, as who has the lock reads it.
+    /// The table, for a thread that holds the lock.
     fn view(&self) -> View<'_, K, V> {
         // SAFETY: this is under the lock of the map.
         unsafe { self.table.view() }
@@ -125,7 +125,7 @@ where
         HashMap::with_hasher(engine, RandomState::new())
     }
 
-    /// As [`HashMap::new`], with room for so many entries at first.
+    /// As [`HashMap::new`], with room for this many entries at first.
     ///
     /// ```
     /// # fn main() -> Result<(), rcu::Error> {
@@ -478,7 +478,7 @@ where
         self.defer(Some(Arc::new(old)));
     }
 
-    /// Makes room for so many entries more: so many insertions need not make a larger table.
+    /// Makes room for this many further entries, so that their insertions make no larger table.
     pub fn reserve(&self, additional: usize) {
         let wanted = self.len().saturating_add(additional);
         self.resize(|own| (own.table.room() < wanted).then(|| Table::with_room(wanted)));

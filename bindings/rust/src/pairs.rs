@@ -121,7 +121,7 @@ impl<K, V> Table<K, V> {
         Table { places }
     }
 
-    /// A table for so many pairs at least.
+    /// A table with room for this many pairs or more.
     pub(crate) fn with_room(pairs: usize) -> Table<K, V> {
         Table::with_length(pairs.saturating_mul(4).div_ceil(3).next_power_of_two())
     }
@@ -131,7 +131,7 @@ impl<K, V> Table<K, V> {
         self.places.len() / 4 * 3
     }
 
-    /// A table that is twice as large, or as large if half of the room is enough for so many pairs.
+    /// A table of twice the size, or of the same size if half of its room holds this many pairs.
     pub(crate) fn larger(&self, pairs: usize) -> Table<K, V> {
         let is_enough = pairs <= self.room() / 2;
         Table::with_length(self.places.len() << u8::from(!is_enough))
@@ -140,8 +140,8 @@ impl<K, V> Table<K, V> {
     /// The pairs that are in its places.
     ///
     /// # Safety
-    /// What the view returns is read no longer than the section that found the table in its map is
-    /// open, or than the caller has the lock of the map, whose table it is.
+    /// A reference from the view is used only while the section that loaded the table is open, or
+    /// while the caller holds the lock of the map whose table this is.
     #[inline]
     pub(crate) unsafe fn view<'a>(&'a self) -> View<'a, K, V> {
         View {

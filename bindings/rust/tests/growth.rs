@@ -11,8 +11,8 @@ use std::hash::{BuildHasherDefault, Hasher};
 use std::sync::atomic::{AtomicBool, AtomicU64, Ordering::SeqCst};
 use std::thread;
 
-/// Counts the bytes that this thread has allocated, and did not free. What is freed is overwritten:
-/// who reads it is found.
+/// Counts the bytes that this thread has allocated, and did not free. Freed memory is overwritten,
+/// so that a test finds a read of it.
 struct Counting;
 
 const FREED: u64 = 0xa5a5_a5a5_a5a5_a5a5;

@@ -228,7 +228,7 @@ fn an_entry_is_replaced_and_removed_where_it_is_the_current_one() {
     assert!(map.is_empty());
 }
 
-/// A key that panics where it is compared.
+/// A key whose comparison panics.
 #[derive(PartialEq, Eq, Debug)]
 struct Comes(u8);
 
@@ -268,7 +268,7 @@ fn who_panics_leaves_the_map_as_it_was() {
     assert!(map.put(Panics(Comes(5)), 5).is_none());
 }
 
-/// What is deferred may update the map that deferred it.
+/// A deferred drop may update the map that deferred it.
 #[test]
 fn what_is_dropped_updates_the_map() {
     struct Updates(Arc<HashMap<u64, u64>>);
